@@ -1,0 +1,33 @@
+-- Document 01, "Floor and root": the floor as a whole number, and what makes a number the floor. Definitions only.
+use mathlib.Core.Bool.{true, false}
+use Prim.Native.Nat.{ℕ, suc, _+_, _-_, _*_, _/_, _≤_}
+use lib.IntN.{ℤ, pos, negsuc, negℤ}
+use lib.Signed.{_≤ℤ_}
+use lib.Ieee.{Float, nan, inf, fin, up, down}
+
+-- n / d rounded up
+abbrev pub ceiling : ℕ → ℕ → ℕ
+ceiling n d = (n + (d - 1)) / d
+
+-- A finite x is ± n / d with n = m * up e and d = down e. Of what is not finite there is no floor: 0 stands there.
+unfoldable pub floor : Float → ℤ
+floor nan = pos 0
+floor (inf s) = pos 0
+floor (fin false m e) = pos (m * up e / down e)
+floor (fin true m e) = negℤ (pos (ceiling (m * up e) (down e)))
+
+-- ---- what it has to be
+
+-- the whole number w is at most x
+abbrev pub AtMost : ℤ → Float → Type 0
+AtMost w nan = ⊥
+AtMost w (inf s) = ⊥
+AtMost (pos a) (fin false m e) = a * down e ≤ m * up e
+AtMost (pos a) (fin true m e) = a * down e + m * up e ≤ 0
+AtMost (negsuc a) (fin false m e) = Unit {0}
+AtMost (negsuc a) (fin true m e) = m * up e ≤ suc a * down e
+
+-- the greatest whole number that is at most x
+pub record IsFloor (x : Float) (z : ℤ) : Type 0 where
+  pub at-most : AtMost z x
+  pub greatest : (w : ℤ) → AtMost w x → w ≤ℤ z
