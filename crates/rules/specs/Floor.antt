@@ -4,6 +4,9 @@ use Prim.Native.Nat.{ℕ, suc, _+_, _-_, _*_, _/_, _≤_}
 use lib.IntN.{ℤ, pos, negsuc, negℤ}
 use lib.Signed.{_≤ℤ_}
 use lib.Ieee.{Float, nan, inf, fin, up, down}
+use Rattle.rules.specs.declared.FloorAnswer.{FloorAnswer}
+use Rattle.rules.specs.Outcome.{Outcome, done, require, given, refusalOf, ifDone}
+use Rattle.rules.specs.Number.{within}
 
 -- n / d rounded up
 abbrev pub ceiling : ℕ → ℕ → ℕ
@@ -15,6 +18,14 @@ floor nan = pos 0
 floor (inf s) = pos 0
 floor (fin false m e) = pos (m * up e / down e)
 floor (fin true m e) = negℤ (pos (ceiling (m * up e) (down e)))
+
+-- ---- the call: what refusal 4 names is refused so
+
+unfoldable pub floorResult : Float → Outcome ℤ
+floorResult x = given (require (within x) 4 0) (λ _. done (floor x))
+
+unfoldable pub floorAnswer : Float → FloorAnswer
+floorAnswer x = let o = floorResult x in record { refusal = refusalOf o; value = ifDone o (λ z. z) (pos 0) }
 
 -- ---- what it has to be
 
