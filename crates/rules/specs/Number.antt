@@ -75,6 +75,13 @@ finite nan = false
 finite (inf s) = false
 finite (fin s m e) = true
 
+-- both coordinates, and both velocities, of one particle
+abbrev pub placeRange : Float → Float → Bool
+placeRange x y = within x && within y
+
+abbrev pub speedRange : Float → Float → Bool
+speedRange vx vy = finite vx && finite vy
+
 -- ---- small helpers
 
 unfoldable pub abs : Float → Float

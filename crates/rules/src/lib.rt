@@ -65,7 +65,7 @@ pub struct TickAnswer {
 pub struct StepAnswer {
     pub refusal: Refusal,
     pub ticks: u64,
-    pub finished: u64,
+    pub finished: bool,
     pub visits: u64,
     pub draws: u64,
     pub alpha: f64,
