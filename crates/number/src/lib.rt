@@ -1,0 +1,14 @@
+// Numbers after document 01: bits, ranges and small helpers. Each function answers what the definition of `rules` with its name says.
+mod bits;
+mod plain;
+mod range;
+
+pub use bits::bits_of;
+pub use bits::float_of;
+pub use plain::abs;
+pub use plain::clamp;
+pub use plain::plain_zero;
+pub use range::distance_range;
+pub use range::draw_range;
+pub use range::is_finite;
+pub use range::within;
