@@ -1,1 +1,5 @@
 mod Tests
+pub mod Order
+pub mod Integers
+pub mod Flooring
+pub mod Biased
