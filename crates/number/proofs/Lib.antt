@@ -3,3 +3,4 @@ pub mod Order
 pub mod Integers
 pub mod Flooring
 pub mod Biased
+mod Cut

@@ -1,7 +1,8 @@
-// Numbers after document 01: bits, ranges and small helpers. Each function answers what the definition of `rules` with its name says.
+// Numbers after document 01: floor, bits, ranges and small helpers. Each function answers what the definition of `rules` with its name says.
 mod bits;
 mod plain;
 mod range;
+mod whole;
 
 pub use bits::bits_of;
 pub use bits::float_of;
@@ -12,3 +13,5 @@ pub use range::distance_range;
 pub use range::draw_range;
 pub use range::is_finite;
 pub use range::within;
+pub use whole::floor;
+pub use whole::try_floor;
