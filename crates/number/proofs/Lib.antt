@@ -4,3 +4,6 @@ pub mod Integers
 pub mod Flooring
 pub mod Biased
 mod Cut
+mod Powers
+mod Rounding
+mod Patterns
