@@ -7,3 +7,4 @@ mod Cut
 mod Powers
 mod Rounding
 mod Patterns
+pub mod NoTie

@@ -80,7 +80,7 @@ take-off x rest y l e = sym (digits-div x l) ∙ ap (λ (z : ℕ). z / 2 ^ 54) e
 regroup : (a : ℕ) → a * 4 ^ 53 ≡ a * 2 ^ 52 * 2 ^ 54 + 0
 regroup a = omega arith
 
-at-least : (q rem a : ℕ) → q * q + rem ≡ a * 2 ^ 52 → rem ≤ 2 * q → 2 ^ 52 ≤ a → q < 2 ^ 52 → ⊥
+pub at-least : (q rem a : ℕ) → q * q + rem ≡ a * 2 ^ 52 → rem ≤ 2 * q → 2 ^ 52 ≤ a → q < 2 ^ 52 → ⊥
 at-least q rem a e l g h =
     let s : (q + 1) * (q + 1) ≤ 2 ^ 52 * 2 ^ 52 = square-le (q + 1) (2 ^ 52) (omega arith) in
     let t : 2 ^ 52 * 2 ^ 52 ≤ a * 2 ^ 52 = mul-le-mul-right (2 ^ 52) g in
