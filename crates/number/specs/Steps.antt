@@ -1,0 +1,37 @@
+-- What the steps to a root owe one another. Definitions only.
+use mathlib.Core.Path.{_≡_}
+use Prim.Native.Nat.{ℕ, _+_, _-_, _*_, _/_, _^_, _≤_, _<_}
+use Rattle.rules.specs.Root.{units}
+
+-- the square of the root, in square units, is m * 2 ^ k, with m of 53 digits
+pub record Unpacked (b m k : ℕ) : Type 0 where
+  pub lo : 2 ^ 52 ≤ m
+  pub hi : m < 2 ^ 53
+  pub least : 1022 ≤ k
+  pub most : k ≤ 3119
+  pub value : units b * 2 ^ 1074 ≡ m * 2 ^ k
+
+-- m * 2 ^ k is a * 2 ^ 52 times a square
+pub record Radicand (m k a : ℕ) : Type 0 where
+  pub lo : m ≤ a
+  pub hi : a ≤ 2 * m
+  pub value : m * 2 ^ k ≡ a * 2 ^ 52 * (2 ^ ((k - 52) / 2) * 2 ^ ((k - 52) / 2))
+
+-- between two steps: the root q of the digits taken, what is left of them, and the digits to come, at the top of 54
+pub record Ready (q rem rest : ℕ) : Type 0 where
+  pub rem-le : rem ≤ 2 * q
+  pub rest-lt : rest < 2 ^ 54
+
+abbrev pub whole : ℕ → ℕ → ℕ → ℕ
+whole q rem rest = (q * q + rem) * 2 ^ 54 + rest
+
+pub record Stepped (q rem rest q' rem' rest' : ℕ) : Type 0 where
+  pub ready : Ready q' rem' rest'
+  pub q-le : q' ≤ 2 * q + 1
+  pub same : whole q' rem' rest' ≡ 4 * whole q rem rest
+
+pub record Rooted (a q rem : ℕ) : Type 0 where
+  pub lo : 2 ^ 52 ≤ q
+  pub hi : q < 2 ^ 53
+  pub small : rem ≤ 2 * q
+  pub value : q * q + rem ≡ a * 2 ^ 52
