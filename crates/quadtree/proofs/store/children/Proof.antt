@@ -1,0 +1,36 @@
+use borrow.Author.Needs.{needs}
+use Rattle.quadtree.proofs.store.children.Statement.{statement}
+use Rattle.quadtree.proofs.store.children.Tie as tie
+
+word-at-requires : tie.Need-word-at-requires
+word-at-requires c κs = search needs
+
+word-at-requires-2 : tie.Need-word-at-requires-2
+word-at-requires-2 c κs = search needs
+
+low-half-requires : tie.Need-low-half-requires
+low-half-requires c κs = search needs
+
+high-half-requires : tie.Need-high-half-requires
+high-half-requires c κs = search needs
+
+low-half-requires-2 : tie.Need-low-half-requires-2
+low-half-requires-2 c κs = search needs
+
+high-half-requires-2 : tie.Need-high-half-requires-2
+high-half-requires-2 c κs = search needs
+
+returns : tie.Need-returns
+returns c = cc
+
+pub children-spec : {M : Type 1} → statement M
+children-spec =
+    tie.close
+    (tie.spec
+    word-at-requires
+    word-at-requires-2
+    low-half-requires
+    high-half-requires
+    low-half-requires-2
+    high-half-requires-2
+    returns)

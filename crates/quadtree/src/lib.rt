@@ -1,0 +1,20 @@
+// The quadtree in lent slots, after fjadra's src/quadtree and src/extent.rs.
+pub mod store;
+
+use rules::Extent;
+
+// A tree in lent slots: its extent, its root (0 for none, s + 1 for slot s), how many slots it takes from the first on, and its greatest level.
+pub struct Quadtree {
+    pub extent: Extent,
+    pub root: u32,
+    pub nodes: usize,
+    pub deepest: usize,
+}
+
+impl Quadtree {
+    pub const GREATEST_LEVEL: usize = 64;
+
+    pub const MOST_PARTICLES: usize = 4096;
+
+    pub const MOST_WAITING: usize = 193;
+}
