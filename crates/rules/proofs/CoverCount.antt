@@ -1,0 +1,146 @@
+-- Whole numbers counted from -2 ^ 45 up, so that order, sums and differences are those of natural numbers, which `omega` reads. Assumes nothing.
+use mathlib.Core.Path.{_≡_, refl, sym, ap, ap₂, _∙_, subst}
+use mathlib.Core.Logic.{_⊎_, inl, inr, ⊎-elim}
+use mathlib.Core.Bool.{Bool, true, false, not, cond, true≢false, false≢true}
+use Prim.Native.Nat.{ℕ, zero, suc, _+_, _-_, _^_, _≤_, _<_}
+use native.Mathlib.Omega.{arith}
+use lib.IntN.{ℤ, pos, negsuc, negℤ, natAbs, subℕ, _+ℤ_, _-ℤ_, +ℤ-comm, +ℤ-negℤ-cancel}
+use lib.Signed.{ltZ, leZ}
+use lib.Dec.{ltb, leb}
+use borrow.Author.Tests.{ltb-true, ltb-false, leb-true, leb-false, lt-ltb, le-ltb, le-leb, lt-leb}
+
+pub lt-or-le : (a b : ℕ) → (a < b) ⊎ (b ≤ a)
+lt-or-le a b = go (ltb a b) (ltb-true a b) (ltb-false a b)
+  where
+    go : (t : Bool) → (t ≡ true → a < b) → (t ≡ false → b ≤ a) → (a < b) ⊎ (b ≤ a)
+    go true f g = inl (f refl)
+    go false f g = inr (g refl)
+
+-- ---- a difference of two natural numbers
+
+subℕ-neg : (p q : ℕ) → p < q → subℕ p q ≡ negsuc (q - suc p)
+subℕ-neg p q h = ap (λ (t : Bool). cond t (negsuc (q - suc p)) (pos (p - q))) (lt-ltb p q h)
+
+subℕ-pos : (p q : ℕ) → q ≤ p → subℕ p q ≡ pos (p - q)
+subℕ-pos p q h = ap (λ (t : Bool). cond t (negsuc (q - suc p)) (pos (p - q))) (le-ltb p q h)
+
+subℕ-same : (p q r s : ℕ) → p + s ≡ r + q → subℕ p q ≡ subℕ r s
+subℕ-same p q r s e = ⊎-elim
+    (λ h. subℕ-neg p q h ∙ ap negsuc (neg p q r s e h) ∙ sym (subℕ-neg r s (omega arith)))
+    (λ h. subℕ-pos p q h ∙ ap pos (pls p q r s e h) ∙ sym (subℕ-pos r s (omega arith)))
+    (lt-or-le p q)
+  where
+    neg : (p q r s : ℕ) → p + s ≡ r + q → p < q → q - suc p ≡ s - suc r
+    neg p q r s e h = omega arith
+
+    pls : (p q r s : ℕ) → p + s ≡ r + q → q ≤ p → p - q ≡ r - s
+    pls p q r s e h = omega arith
+
+-- ---- the count
+
+-- where zero stands
+abbrev pub base : ℕ
+base = 2 ^ 45
+
+-- the whole number with the count a
+unfoldable pub at : ℕ → ℤ
+at a = subℕ a base
+
+pub at-is : (a : ℕ) → at a ≡ subℕ a base
+unfolding at
+at-is a = refl
+
+below : (a : ℕ) → a < base → at a ≡ negsuc (base - suc a)
+below a h = at-is a ∙ subℕ-neg a base h
+
+above : (a : ℕ) → base ≤ a → at a ≡ pos (a - base)
+above a h = at-is a ∙ subℕ-pos a base h
+
+-- the count of a whole number
+unfoldable pub count : ℤ → ℕ
+count (pos n) = n + base
+count (negsuc n) = base - suc n
+
+pub at-count : (z : ℤ) → natAbs z ≤ base → at (count z) ≡ z
+unfolding count
+at-count (pos n) h = above (n + base) (omega arith) ∙ ap pos (same n)
+  where
+    same : (n : ℕ) → n + base - base ≡ n
+    same n = omega arith
+at-count (negsuc n) h = below (base - suc n) (less n h) ∙ ap negsuc (same n h)
+  where
+    less : (n : ℕ) → suc n ≤ base → base - suc n < base
+    less n h = omega arith
+
+    same : (n : ℕ) → suc n ≤ base → base - suc (base - suc n) ≡ n
+    same n h = omega arith
+
+-- a number at most d from zero has a count at most d from zero's
+module _ (d : ℕ) (small : d ≤ base) where
+  pub count-near : (z : ℤ) → natAbs z ≤ d → (base - d ≤ count z) × (count z ≤ base + d)
+  unfolding count
+  count-near (pos n) h = omega arith
+  count-near (negsuc n) h = omega arith
+
+  pub near-at : (a : ℕ) → base - d ≤ a → a ≤ base + d → natAbs (at a) ≤ d
+  near-at a h k = ⊎-elim (λ l. subst (λ (z : ℤ). natAbs z ≤ d) (sym (below a l)) (low l)) (λ l. subst (λ (z : ℤ). natAbs z ≤ d) (sym (above a l)) (high l)) (lt-or-le a base)
+    where
+      low : a < base → suc (base - suc a) ≤ d
+      low l = omega arith
+
+      high : base ≤ a → a - base ≤ d
+      high l = omega arith
+
+-- ---- order
+
+module _ (a b : ℕ) where
+  lt-yes : a < b → ltZ (at a) (at b) ≡ true
+  lt-yes h = ⊎-elim
+      (λ k. ⊎-elim
+      (λ l. ap₂ ltZ (below a l) (below b k) ∙ lt-ltb (base - suc b) (base - suc a) (omega arith))
+      (λ l. absurd (omega arith))
+      (lt-or-le a base))
+      (λ k. ⊎-elim
+      (λ l. ap₂ ltZ (below a l) (above b k))
+      (λ l. ap₂ ltZ (above a l) (above b k) ∙ lt-ltb (a - base) (b - base) (omega arith))
+      (lt-or-le a base))
+      (lt-or-le b base)
+
+  lt-no : b ≤ a → ltZ (at a) (at b) ≡ false
+  lt-no h = ⊎-elim
+      (λ k. ⊎-elim
+      (λ l. ap₂ ltZ (below a k) (below b l) ∙ le-ltb (base - suc b) (base - suc a) (omega arith))
+      (λ l. absurd (omega arith))
+      (lt-or-le b base))
+      (λ k. ⊎-elim
+      (λ l. ap₂ ltZ (above a k) (below b l))
+      (λ l. ap₂ ltZ (above a k) (above b l) ∙ le-ltb (a - base) (b - base) (omega arith))
+      (lt-or-le b base))
+      (lt-or-le a base)
+
+  pub lt-at : ltZ (at a) (at b) ≡ ltb a b
+  lt-at = ⊎-elim (λ h. lt-yes h ∙ sym (lt-ltb a b h)) (λ h. lt-no h ∙ sym (le-ltb a b h)) (lt-or-le a b)
+
+-- at most is not above
+not-above : (z w : ℤ) → leZ z w ≡ not (ltZ w z)
+not-above (pos a) (pos b) = ⊎-elim (λ h. lt-leb a b h ∙ ap not (sym (lt-ltb b a h))) (λ h. le-leb a b h ∙ ap not (sym (le-ltb b a h))) (lt-or-le b a)
+not-above (pos a) (negsuc b) = refl
+not-above (negsuc a) (pos b) = refl
+not-above (negsuc a) (negsuc b) = ⊎-elim (λ h. lt-leb b a h ∙ ap not (sym (lt-ltb a b h))) (λ h. le-leb b a h ∙ ap not (sym (le-ltb a b h))) (lt-or-le a b)
+
+pub le-at : (a b : ℕ) → leZ (at a) (at b) ≡ leb a b
+le-at a b = not-above (at a) (at b) ∙ ap not (lt-at b a) ∙ ⊎-elim (λ h. ap not (lt-ltb b a h) ∙ sym (lt-leb a b h)) (λ h. ap not (le-ltb b a h) ∙ sym (le-leb a b h)) (lt-or-le b a)
+
+-- ---- sums and differences
+
+pub add-at : (a z : ℕ) → at a +ℤ pos z ≡ at (a + z)
+add-at a z = ⊎-elim
+    (λ h. ap (_+ℤ pos z) (below a h) ∙ subℕ-same z (suc (base - suc a)) (a + z) base (omega arith) ∙ sym (at-is (a + z)))
+    (λ h. ap (_+ℤ pos z) (above a h) ∙ ap pos (moved h) ∙ sym (above (a + z) (omega arith)))
+    (lt-or-le a base)
+  where
+    moved : base ≤ a → a - base + z ≡ a + z - base
+    moved h = omega arith
+
+pub sub-at : (a b z : ℕ) → b + z ≡ a → at a -ℤ pos z ≡ at b
+sub-at a b z e = ap (_-ℤ pos z) (ap at (sym e) ∙ sym (add-at b z)) ∙ +ℤ-negℤ-cancel (at b) (pos z)
