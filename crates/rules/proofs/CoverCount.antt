@@ -5,8 +5,9 @@ use mathlib.Core.Bool.{Bool, true, false, not, cond, true≢false, false≢true}
 use Prim.Native.Nat.{ℕ, zero, suc, _+_, _-_, _^_, _≤_, _<_}
 use native.Mathlib.Omega.{arith}
 use lib.IntN.{ℤ, pos, negsuc, negℤ, natAbs, subℕ, _+ℤ_, _-ℤ_, +ℤ-comm, +ℤ-negℤ-cancel}
-use lib.Signed.{ltZ, leZ}
-use lib.Dec.{ltb, leb}
+use lib.Signed.{ltZ, leZ, _≤ℤ_, _<ℤ_, leZ-yes, ltZ-yes, ≤ℤ-refl, <ℤ-≤ℤ-trans, clashℤ}
+use lib.Dec.{T, ltb, leb}
+use lib.Ieee.Bits.{is-true}
 use borrow.Author.Tests.{ltb-true, ltb-false, leb-true, leb-false, lt-ltb, le-ltb, le-leb, lt-leb}
 
 pub lt-or-le : (a b : ℕ) → (a < b) ⊎ (b ≤ a)
@@ -35,6 +36,41 @@ subℕ-same p q r s e = ⊎-elim
 
     pls : (p q r s : ℕ) → p + s ≡ r + q → q ≤ p → p - q ≡ r - s
     pls p q r s e h = omega arith
+
+-- ---- order of whole numbers
+
+-- at most is not above
+not-above : (z w : ℤ) → leZ z w ≡ not (ltZ w z)
+not-above (pos a) (pos b) = ⊎-elim (λ h. lt-leb a b h ∙ ap not (sym (lt-ltb b a h))) (λ h. le-leb a b h ∙ ap not (sym (le-ltb b a h))) (lt-or-le b a)
+not-above (pos a) (negsuc b) = refl
+not-above (negsuc a) (pos b) = refl
+not-above (negsuc a) (negsuc b) = ⊎-elim (λ h. lt-leb b a h ∙ ap not (sym (lt-ltb a b h))) (λ h. le-leb b a h ∙ ap not (sym (le-ltb a b h))) (lt-or-le a b)
+
+as-le : {z w : ℤ} → leZ z w ≡ true → z ≤ℤ w
+as-le e = leZ-yes (subst T (sym e) tt)
+
+as-lt : {z w : ℤ} → ltZ z w ≡ true → z <ℤ w
+as-lt e = ltZ-yes (subst T (sym e) tt)
+
+pub le-same : (x : ℤ) → leZ x x ≡ true
+le-same x = is-true (leZ x x) (≤ℤ-refl x .le)
+
+pub lt-le : (x y z : ℤ) → ltZ x y ≡ true → leZ y z ≡ true → ltZ x z ≡ true
+lt-le x y z h k = is-true (ltZ x z) (<ℤ-≤ℤ-trans (as-lt {z = x} {w = y} h) (as-le {z = y} {w = z} k) .lt)
+
+pub le-le : (x y z : ℤ) → leZ x y ≡ true → leZ y z ≡ true → leZ x z ≡ true
+le-le x y z h k = go (ltZ z x) refl
+  where
+    go : (t : Bool) → ltZ z x ≡ t → leZ x z ≡ true
+    go true e = clashℤ (<ℤ-≤ℤ-trans (as-lt {z = z} {w = x} e) (as-le {z = x} {w = y} h)) (as-le {z = y} {w = z} k)
+    go false e = not-above x z ∙ ap not e
+
+pub le-more : (x : ℤ) (n : ℕ) → leZ x (x +ℤ pos n) ≡ true
+le-more (pos a) n = le-leb a (a + n) (omega arith)
+le-more (negsuc a) n = ⊎-elim
+    (λ h. ap (leZ (negsuc a)) (subℕ-neg n (suc a) h) ∙ le-leb (suc a - suc n) a (omega arith))
+    (λ h. ap (leZ (negsuc a)) (subℕ-pos n (suc a) h))
+    (lt-or-le n (suc a))
 
 -- ---- the count
 
@@ -91,8 +127,7 @@ module _ (d : ℕ) (small : d ≤ base) where
       high : base ≤ a → a - base ≤ d
       high l = omega arith
 
--- ---- order
-
+-- its order
 module _ (a b : ℕ) where
   lt-yes : a < b → ltZ (at a) (at b) ≡ true
   lt-yes h = ⊎-elim
@@ -121,18 +156,10 @@ module _ (a b : ℕ) where
   pub lt-at : ltZ (at a) (at b) ≡ ltb a b
   lt-at = ⊎-elim (λ h. lt-yes h ∙ sym (lt-ltb a b h)) (λ h. lt-no h ∙ sym (le-ltb a b h)) (lt-or-le a b)
 
--- at most is not above
-not-above : (z w : ℤ) → leZ z w ≡ not (ltZ w z)
-not-above (pos a) (pos b) = ⊎-elim (λ h. lt-leb a b h ∙ ap not (sym (lt-ltb b a h))) (λ h. le-leb a b h ∙ ap not (sym (le-ltb b a h))) (lt-or-le b a)
-not-above (pos a) (negsuc b) = refl
-not-above (negsuc a) (pos b) = refl
-not-above (negsuc a) (negsuc b) = ⊎-elim (λ h. lt-leb b a h ∙ ap not (sym (lt-ltb a b h))) (λ h. le-leb b a h ∙ ap not (sym (le-ltb a b h))) (lt-or-le a b)
-
 pub le-at : (a b : ℕ) → leZ (at a) (at b) ≡ leb a b
 le-at a b = not-above (at a) (at b) ∙ ap not (lt-at b a) ∙ ⊎-elim (λ h. ap not (lt-ltb b a h) ∙ sym (lt-leb a b h)) (λ h. ap not (le-ltb b a h) ∙ sym (le-leb a b h)) (lt-or-le b a)
 
--- ---- sums and differences
-
+-- its sums and differences
 pub add-at : (a z : ℕ) → at a +ℤ pos z ≡ at (a + z)
 add-at a z = ⊎-elim
     (λ h. ap (_+ℤ pos z) (below a h) ∙ subℕ-same z (suc (base - suc a)) (a + z) base (omega arith) ∙ sym (at-is (a + z)))

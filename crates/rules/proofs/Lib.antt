@@ -1,1 +1,2 @@
 pub mod CoverCount
+pub mod Cover
