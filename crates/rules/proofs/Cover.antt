@@ -82,3 +82,243 @@ grown-quarter zero z s h = same-square refl refl (sym (h .wide)) (sym (h .tall))
 grown-quarter (suc zero) z s h = same-square (lower (s .x0) (s .x1) z (h .wide)) refl refl (sym (h .tall))
 grown-quarter (suc (suc zero)) z s h = same-square refl (lower (s .y0) (s .y1) z (h .tall)) (sym (h .wide)) refl
 grown-quarter (suc (suc (suc n))) z s h = same-square (lower (s .x0) (s .x1) z (h .wide)) (lower (s .y0) (s .y1) z (h .tall)) refl refl
+
+contains-same : (s : Square) → Contains s s
+contains-same s = record { left = le-same (s .x0); low = le-same (s .y0); right = le-same (s .x1); high = le-same (s .y1) }
+
+contains-both : {u t s : Square} → Contains u t → Contains t s → Contains u s
+contains-both {u} {t} {s} h k = record { left = le-le (u .x0) (t .x0) (s .x0) (h .left) (k .left); low = le-le (u .y0) (t .y0) (s .y0) (h .low) (k .low); right = le-le (s .x1) (t .x1) (u .x1) (k .right) (h .right); high = le-le (s .y1) (t .y1) (u .y1) (k .high) (h .high) }
+
+-- four tests at once
+record Four (p q r t : Bool) : Type 0 where
+  fst : p ≡ true
+  snd : q ≡ true
+  trd : r ≡ true
+  fth : t ≡ true
+
+four : (p q r t : Bool) → p && q && r && t ≡ true → Four p q r t
+four true true true true e = record { fst = refl; snd = refl; trd = refl; fth = refl }
+four true true true false e = absurd (false≢true e)
+four true true false t e = absurd (false≢true e)
+four true false r t e = absurd (false≢true e)
+four false q r t e = absurd (false≢true e)
+
+four-true : {p q r t : Bool} → p ≡ true → q ≡ true → r ≡ true → t ≡ true → p && q && r && t ≡ true
+four-true a b c d = cc
+
+-- what lies in the square lies in one that contains it
+inside-more : {t s : Square} (x y : ℤ) → Contains t s → inside s x y ≡ true → inside t x y ≡ true
+inside-more {t} {s} x y h e =
+    let f = four (leZ (s .x0) x) (ltZ x (s .x1)) (leZ (s .y0) y) (ltZ y (s .y1)) e in
+    four-true (le-le (t .x0) (s .x0) x (h .left) (f .fst)) (lt-le x (s .x1) (t .x1) (f .snd) (h .right)) (le-le (t .y0) (s .y0) y (h .low) (f .trd)) (lt-le y (s .y1) (t .y1) (f .fth) (h .high))
+
+-- ---- doublings one after the other
+
+abbrev pub side : Square → ℤ
+side s = s .x1 -ℤ s .x0
+
+-- the square after one doubling towards the point
+abbrev pub next : Square → ℤ → ℤ → Square
+next s x y = grown (oldQuadrant s x y) (side s +ℤ side s) s
+
+-- t is reached from s by n doublings, each with the point still outside
+pub data Grows (x y : ℤ) : ℕ → Square → Square → Type 0 where
+  done : {s : Square} → inside s x y ≡ true → Grows x y zero s s
+  more : {n : ℕ} {s t : Square} → inside s x y ≡ false → Grows x y n (next s x y) t → Grows x y (suc n) s t
+
+-- whichever end has moved, the two are z apart
+apart-up : (lo z : ℤ) → lo +ℤ z -ℤ lo ≡ z
+apart-up lo z = ap (_-ℤ lo) (+ℤ-comm lo z) ∙ +ℤ-negℤ-cancel z lo
+
+apart-down : (hi z : ℤ) → hi -ℤ (hi -ℤ z) ≡ z
+apart-down hi z = ap (_-ℤ (hi -ℤ z)) (sym (-ℤ-+ℤ-cancel hi z)) ∙ apart-up (hi -ℤ z) z
+
+grown-side : (q : ℕ) (z : ℤ) (s : Square) → side (grown q z s) ≡ z
+grown-side zero z s = apart-up (s .x0) z
+grown-side (suc zero) z s = apart-down (s .x1) z
+grown-side (suc (suc zero)) z s = apart-up (s .x0) z
+grown-side (suc (suc (suc n))) z s = apart-down (s .x1) z
+
+sided-side : {z : ℕ} {s : Square} → Sided z s → side s ≡ pos z
+sided-side {z} {s} h = ap (_-ℤ s .x0) (h .wide) ∙ apart-up (s .x0) (pos z)
+
+module _ (x y : ℤ) where
+  doubled-done : (k : ℕ) (z : ℤ) (s : Square) → inside s x y ≡ true → doubled k x y z s ≡ s
+  unfolding doubled
+  doubled-done zero z s e = refl
+  doubled-done (suc k) z s e = ap (λ (t : Bool). branch t (λ _. s) (λ _. doubled k x y (z +ℤ z) (grown (oldQuadrant s x y) (z +ℤ z) s))) e
+
+  doubled-step : (k : ℕ) (z : ℤ) (s : Square) → inside s x y ≡ false → doubled (suc k) x y z s ≡ doubled k x y (z +ℤ z) (grown (oldQuadrant s x y) (z +ℤ z) s)
+  unfolding doubled
+  doubled-step k z s e = ap (λ (t : Bool). branch t (λ _. s) (λ _. doubled k x y (z +ℤ z) (grown (oldQuadrant s x y) (z +ℤ z) s))) e
+
+  grows-doubled : {n : ℕ} {s t : Square} → Grows x y n s t → (k : ℕ) → n ≤ k → doubled k x y (side s) s ≡ t
+  grows-doubled {s} (done e) k h = doubled-done k (side s) s e
+  grows-doubled (more e g) zero h = absurd (omega arith)
+  grows-doubled {s} (more e g) (suc k) h =
+      doubled-step k (side s) s e
+      ∙ ap (λ (z : ℤ). doubled k x y z (next s x y)) (sym (grown-side (oldQuadrant s x y) (side s +ℤ side s) s))
+      ∙ grows-doubled g k (omega arith)
+
+  grows-inside : {n : ℕ} {s t : Square} → Grows x y n s t → inside t x y ≡ true
+  grows-inside (done e) = e
+  grows-inside (more e g) = grows-inside g
+
+  -- a chain from a square with the point outside has a first doubling
+  grows-rest : {n : ℕ} {s t : Square} → Grows x y n s t → inside s x y ≡ false → (m : ℕ) × (n ≡ suc m) × Grows x y m (next s x y) t
+  grows-rest (done e) f = absurd (true≢false (sym e ∙ f))
+  grows-rest (more {n} e g) f = (n, refl, g)
+
+-- ---- squares by counts
+
+-- the square of side z whose lower ends have the counts a and b
+abbrev pub box : ℕ → ℕ → ℕ → Square
+box a b z = square (at a) (at b) (at (a + z)) (at (b + z))
+
+box-sided : (a b z : ℕ) → Sided z (box a b z)
+box-sided a b z = record { wide = sym (add-at a z); tall = sym (add-at b z) }
+
+inside-box : (a b z p q : ℕ) → inside (box a b z) (at p) (at q) ≡ (leb a p && ltb p (a + z) && leb b q && ltb q (b + z))
+inside-box a b z p q = cc (le-at a p, lt-at p (a + z), le-at b q, lt-at q (b + z))
+
+-- on one axis: p lies within, or not
+abbrev In : ℕ → ℕ → ℕ → Type 0
+In a z p = (a ≤ p) × (p < a + z)
+
+abbrev Out : ℕ → ℕ → ℕ → Type 0
+Out a z p = (p < a) ⊎ (a + z ≤ p)
+
+in-or-out : (a z p : ℕ) → In a z p ⊎ Out a z p
+in-or-out a z p = ⊎-elim (λ h. inr (inl h)) (λ h. ⊎-elim (λ k. inl (h, k)) (λ k. inr (inr k)) (lt-or-le p (a + z))) (lt-or-le p a)
+
+-- a point that is outside is outside on an axis
+out-box : (a b z p q : ℕ) → inside (box a b z) (at p) (at q) ≡ false → Out a z p ⊎ Out b z q
+out-box a b z p q e = ⊎-elim (λ h. ⊎-elim (λ k. absurd (true≢false (sym (both h k) ∙ sym (inside-box a b z p q) ∙ e))) inr (in-or-out b z q)) inl (in-or-out a z p)
+  where
+    both : In a z p → In b z q → leb a p && ltb p (a + z) && leb b q && ltb q (b + z) ≡ true
+    both h k = four-true (le-leb a p (h .0)) (lt-ltb p (a + z) (h .1)) (le-leb b q (k .0)) (lt-ltb q (b + z) (k .1))
+
+-- a' is the lower end after a doubling towards p, a before it
+abbrev Moves : ℕ → ℕ → ℕ → ℕ → Type 0
+Moves a z p a' = ((p < a) × (a' + z ≡ a)) ⊎ ((a ≤ p) × (a' ≡ a))
+
+moves : (a z p : ℕ) → z ≤ a → (a' : ℕ) × Moves a z p a'
+moves a z p h = ⊎-elim (λ k. (a - z, inl (k, back a z h))) (λ k. (a, inr (k, refl))) (lt-or-le p a)
+  where
+    back : (a z : ℕ) → z ≤ a → a - z + z ≡ a
+    back a z h = omega arith
+
+module _ (a z a' : ℕ) where
+  down-lo : a' + z ≡ a → at (a + z) -ℤ pos (z + z) ≡ at a'
+  down-lo e = sub-at (a + z) a' (z + z) (omega arith)
+
+  down-hi : a' + z ≡ a → at (a + z) ≡ at (a' + (z + z))
+  down-hi e = ap at (same a z a' e)
+    where
+      same : (a z a' : ℕ) → a' + z ≡ a → a + z ≡ a' + (z + z)
+      same a z a' e = omega arith
+
+  up-lo : a' ≡ a → at a ≡ at a'
+  up-lo e = ap at (sym e)
+
+  up-hi : a' ≡ a → at a +ℤ pos (z + z) ≡ at (a' + (z + z))
+  up-hi e = add-at a (z + z) ∙ ap (λ (n : ℕ). at (n + (z + z))) (sym e)
+
+module _ (a b z p q a' b' : ℕ) where
+  by-tests : (t u : Bool) → ltZ (at q) (at b) ≡ t → ltZ (at p) (at a) ≡ u → next (box a b z) (at p) (at q) ≡ grown (cond t 2 0 + cond u 1 0) (pos (z + z)) (box a b z)
+  by-tests t u e f = ap₂ (λ (n : ℕ) (v : ℤ). grown n (v +ℤ v) (box a b z)) (ap₂ (λ (t u : Bool). cond t 2 0 + cond u 1 0) e f) (sided-side (box-sided a b z))
+
+  below : {m n : ℕ} → m < n → ltZ (at m) (at n) ≡ true
+  below {m} {n} h = lt-at m n ∙ lt-ltb m n h
+
+  above : {m n : ℕ} → n ≤ m → ltZ (at m) (at n) ≡ false
+  above {m} {n} h = lt-at m n ∙ le-ltb m n h
+
+  box-next : Moves a z p a' → Moves b z q b' → next (box a b z) (at p) (at q) ≡ box a' b' (z + z)
+  box-next (inr h) (inr k) = by-tests false false (above (k .0)) (above (h .0)) ∙ same-square (up-lo a z a' (h .1)) (up-lo b z b' (k .1)) (up-hi a z a' (h .1)) (up-hi b z b' (k .1))
+  box-next (inl h) (inr k) = by-tests false true (above (k .0)) (below (h .0)) ∙ same-square (down-lo a z a' (h .1)) (up-lo b z b' (k .1)) (down-hi a z a' (h .1)) (up-hi b z b' (k .1))
+  box-next (inr h) (inl k) = by-tests true false (below (k .0)) (above (h .0)) ∙ same-square (up-lo a z a' (h .1)) (down-lo b z b' (k .1)) (up-hi a z a' (h .1)) (down-hi b z b' (k .1))
+  box-next (inl h) (inl k) = by-tests true true (below (k .0)) (below (h .0)) ∙ same-square (down-lo a z a' (h .1)) (down-lo b z b' (k .1)) (down-hi a z a' (h .1)) (down-hi b z b' (k .1))
+
+-- ---- how far it goes within 2 ^ 40
+
+-- within 2 ^ 40 of zero
+abbrev pub Near : ℤ → Type 0
+Near z = natAbs z ≤ 2 ^ 40
+
+-- the same of a count
+abbrev pub NearCount : ℕ → Type 0
+NearCount p = (base - 2 ^ 40 ≤ p) × (p ≤ base + 2 ^ 40)
+
+-- an axis that starts at a and is z long covers all that is near
+abbrev pub Whole : ℕ → ℕ → Type 0
+Whole a z = (a ≤ base - 2 ^ 40) × (base + 2 ^ 40 < a + z)
+
+-- it holds f, which is near
+abbrev pub Anchored : ℕ → ℕ → ℕ → Type 0
+Anchored f a z = NearCount f × ((a ≤ f) × (f < a + z))
+
+module _ (f a z p a' w : ℕ) (double : w ≡ z + z) where
+  anchored : Moves a z p a' → Anchored f a z → Anchored f a' w
+  anchored (inl m) h = omega arith
+  anchored (inr m) h = omega arith
+
+  stays-whole : Moves a z p a' → Whole a z → Whole a' w
+  stays-whole (inl m) h = omega arith
+  stays-whole (inr m) h = omega arith
+
+  -- a doubling that this axis forces, of a side of 2 ^ 41 or more, makes it cover all that is near
+  becomes-whole : Moves a z p a' → Out a z p → Anchored f a z → NearCount p → 2 ^ 41 ≤ z → Whole a' w
+  becomes-whole (inl m) (inl o) h n l = omega arith
+  becomes-whole (inl m) (inr o) h n l = omega arith
+  becomes-whole (inr m) (inl o) h n l = omega arith
+  becomes-whole (inr m) (inr o) h n l = omega arith
+
+not-out : (a z p : ℕ) → Whole a z → NearCount p → Out a z p → ⊥
+not-out a z p h n (inl o) = omega arith
+not-out a z p h n (inr o) = omega arith
+
+-- The side is 2 ^ k. From 2 ^ 42 on one axis covers all that is near, from 2 ^ 43 on both do.
+pub record Fit (f g a b k : ℕ) : Type 0 where
+  pub across : Anchored f a (2 ^ k)
+  pub along : Anchored g b (2 ^ k)
+  pub most : k ≤ 43
+  pub one : 42 ≤ k → Whole a (2 ^ k) ⊎ Whole b (2 ^ k)
+  pub both : 43 ≤ k → Whole a (2 ^ k) × Whole b (2 ^ k)
+
+twice : (k : ℕ) → 2 ^ suc k ≡ 2 ^ k + 2 ^ k
+twice k = omega arith
+
+module _ (f g a b k p q a' b' : ℕ) (h : Fit f g a b k) (n : NearCount p) (m : NearCount q) where
+  -- so at 2 ^ 43 no point is outside
+  less : Out a (2 ^ k) p ⊎ Out b (2 ^ k) q → k < 43
+  less o = ⊎-elim (λ l. l) (λ l. absurd (⊎-elim (not-out a (2 ^ k) p (h .both l .0) n) (not-out b (2 ^ k) q (h .both l .1) m) o)) (lt-or-le k 43)
+
+  fit-next : Moves a (2 ^ k) p a' → Moves b (2 ^ k) q b' → Out a (2 ^ k) p ⊎ Out b (2 ^ k) q → Fit f g a' b' (suc k)
+  fit-next u v o = record {
+    across = anchored f a (2 ^ k) p a' (2 ^ suc k) (twice k) u (h .across);
+    along = anchored g b (2 ^ k) q b' (2 ^ suc k) (twice k) v (h .along);
+    most = less o;
+    one = λ l. ⊎-elim (λ w. inl (new-x w (omega arith))) (λ w. inr (new-y w (omega arith))) o;
+    both = λ l. ⊎-elim (λ w. (old-x w, other-y (not-out a (2 ^ k) p w n) o (omega arith))) (λ w. (other-x (not-out b (2 ^ k) q w m) o (omega arith), old-y w)) (h .one (omega arith));
+  }
+    where
+      old-x : Whole a (2 ^ k) → Whole a' (2 ^ suc k)
+      old-x w = stays-whole f a (2 ^ k) p a' (2 ^ suc k) (twice k) u w
+
+      old-y : Whole b (2 ^ k) → Whole b' (2 ^ suc k)
+      old-y w = stays-whole g b (2 ^ k) q b' (2 ^ suc k) (twice k) v w
+
+      new-x : Out a (2 ^ k) p → 41 ≤ k → Whole a' (2 ^ suc k)
+      new-x w l = becomes-whole f a (2 ^ k) p a' (2 ^ suc k) (twice k) u w (h .across) n (pow-mono l)
+
+      new-y : Out b (2 ^ k) q → 41 ≤ k → Whole b' (2 ^ suc k)
+      new-y w l = becomes-whole g b (2 ^ k) q b' (2 ^ suc k) (twice k) v w (h .along) m (pow-mono l)
+
+      other-y : (Out a (2 ^ k) p → ⊥) → Out a (2 ^ k) p ⊎ Out b (2 ^ k) q → 41 ≤ k → Whole b' (2 ^ suc k)
+      other-y w (inl x) l = absurd (w x)
+      other-y w (inr y) l = new-y y l
+
+      other-x : (Out b (2 ^ k) q → ⊥) → Out a (2 ^ k) p ⊎ Out b (2 ^ k) q → 41 ≤ k → Whole a' (2 ^ suc k)
+      other-x w (inl x) l = new-x x l
+      other-x w (inr y) l = absurd (w y)
