@@ -1,10 +1,10 @@
 -- Covering: what one doubling does, how far doublings go within 2 ^ 40, and what the squares reached hold. The theorems stand at the end. Assumes nothing.
-use mathlib.Core.Path.{_≡_, refl, sym, ap, ap₂, _∙_, subst}
+use mathlib.Core.Path.{_≡_, refl, sym, ap, ap₂, _∙_, subst, subst₂}
 use mathlib.Core.Logic.{_⊎_, inl, inr, ⊎-elim}
 use mathlib.Core.Bool.{Bool, true, false, cond, _&&_, true≢false, false≢true}
-use mathlib.Core.List.{List, [], _∷_, _++_, map, append-nil, append-assoc, List·Memᴰ, List·Memᴰ·head, List·Memᴰ·tail, List·Memᴰ·append-cases, List·Memᴰ·eq-of-singleton}
-use Prim.Native.Nat.{ℕ, zero, suc, _+_, _-_, _^_, _≤_, _<_}
-use native.Mathlib.Nat.{le-refl}
+use mathlib.Core.List.{List, [], _∷_, _++_, map, append-nil, append-assoc, List·Memᴰ, List·Memᴰ·head, List·Memᴰ·tail, List·Memᴰ·append-cases, List·Memᴰ·eq-of-singleton, List·Memᴰ·not-nil}
+use Prim.Native.Nat.{ℕ, zero, suc, _+_, _-_, _^_, _≤_, _<_, zero-le, suc-le-suc}
+use native.Mathlib.Nat.{le-of-suc-le-suc}
 use native.Mathlib.Omega.{arith}
 use lib.Dec.{T, ltb, leb, lit≤}
 use lib.Pow.{pow-mono, pow-pos}
@@ -17,7 +17,7 @@ use Rattle.rules.specs.Plain.{branch, foldl}
 use Rattle.rules.specs.Number.{xAt, yAt}
 use Rattle.rules.specs.Floor.{floor}
 use Rattle.rules.specs.Cover.{Square, square, inside, oldQuadrant, grown, doubled, mostDoublings, Covered, nothing, holds, coverPoint, coverAll}
-use Rattle.rules.proofs.CoverCount.{lt-or-le, base, at, count, at-count, count-near, near-at, lt-at, le-at, add-at, sub-at, le-same, lt-le, le-le, le-more}
+use Rattle.rules.proofs.CoverCount.{lt-or-le, base, counted, count, counted-count, count-near, counted-near, counted-lt, counted-le, counted-add, counted-sub, le-same, lt-le, le-le, le-more}
 
 -- ---- squares
 
@@ -173,13 +173,13 @@ module _ (x y : ℤ) where
 
 -- the square of side z whose lower ends have the counts a and b
 abbrev pub box : ℕ → ℕ → ℕ → Square
-box a b z = square (at a) (at b) (at (a + z)) (at (b + z))
+box a b z = square (counted a) (counted b) (counted (a + z)) (counted (b + z))
 
 box-sided : (a b z : ℕ) → Sided z (box a b z)
-box-sided a b z = record { wide = sym (add-at a z); tall = sym (add-at b z) }
+box-sided a b z = record { wide = sym (counted-add a z); tall = sym (counted-add b z) }
 
-inside-box : (a b z p q : ℕ) → inside (box a b z) (at p) (at q) ≡ (leb a p && ltb p (a + z) && leb b q && ltb q (b + z))
-inside-box a b z p q = cc (le-at a p, lt-at p (a + z), le-at b q, lt-at q (b + z))
+inside-box : (a b z p q : ℕ) → inside (box a b z) (counted p) (counted q) ≡ (leb a p && ltb p (a + z) && leb b q && ltb q (b + z))
+inside-box a b z p q = cc (counted-le a p, counted-lt p (a + z), counted-le b q, counted-lt q (b + z))
 
 -- on one axis: p lies within, or not
 abbrev In : ℕ → ℕ → ℕ → Type 0
@@ -192,7 +192,7 @@ in-or-out : (a z p : ℕ) → In a z p ⊎ Out a z p
 in-or-out a z p = ⊎-elim (λ h. inr (inl h)) (λ h. ⊎-elim (λ k. inl (h, k)) (λ k. inr (inr k)) (lt-or-le p (a + z))) (lt-or-le p a)
 
 -- a point that is outside is outside on an axis
-out-box : (a b z p q : ℕ) → inside (box a b z) (at p) (at q) ≡ false → Out a z p ⊎ Out b z q
+out-box : (a b z p q : ℕ) → inside (box a b z) (counted p) (counted q) ≡ false → Out a z p ⊎ Out b z q
 out-box a b z p q e = ⊎-elim (λ h. ⊎-elim (λ k. absurd (true≢false (sym (both h k) ∙ sym (inside-box a b z p q) ∙ e))) inr (in-or-out b z q)) inl (in-or-out a z p)
   where
     both : In a z p → In b z q → leb a p && ltb p (a + z) && leb b q && ltb q (b + z) ≡ true
@@ -209,32 +209,32 @@ moves a z p h = ⊎-elim (λ k. (a - z, inl (k, back a z h))) (λ k. (a, inr (k,
     back a z h = omega arith
 
 module _ (a z a' : ℕ) where
-  down-lo : a' + z ≡ a → at (a + z) -ℤ pos (z + z) ≡ at a'
-  down-lo e = sub-at (a + z) a' (z + z) (omega arith)
+  down-lo : a' + z ≡ a → counted (a + z) -ℤ pos (z + z) ≡ counted a'
+  down-lo e = counted-sub (a + z) a' (z + z) (omega arith)
 
-  down-hi : a' + z ≡ a → at (a + z) ≡ at (a' + (z + z))
-  down-hi e = ap at (same a z a' e)
+  down-hi : a' + z ≡ a → counted (a + z) ≡ counted (a' + (z + z))
+  down-hi e = ap counted (same a z a' e)
     where
       same : (a z a' : ℕ) → a' + z ≡ a → a + z ≡ a' + (z + z)
       same a z a' e = omega arith
 
-  up-lo : a' ≡ a → at a ≡ at a'
-  up-lo e = ap at (sym e)
+  up-lo : a' ≡ a → counted a ≡ counted a'
+  up-lo e = ap counted (sym e)
 
-  up-hi : a' ≡ a → at a +ℤ pos (z + z) ≡ at (a' + (z + z))
-  up-hi e = add-at a (z + z) ∙ ap (λ (n : ℕ). at (n + (z + z))) (sym e)
+  up-hi : a' ≡ a → counted a +ℤ pos (z + z) ≡ counted (a' + (z + z))
+  up-hi e = counted-add a (z + z) ∙ ap (λ (n : ℕ). counted (n + (z + z))) (sym e)
 
 module _ (a b z p q a' b' : ℕ) where
-  by-tests : (t u : Bool) → ltZ (at q) (at b) ≡ t → ltZ (at p) (at a) ≡ u → next (box a b z) (at p) (at q) ≡ grown (cond t 2 0 + cond u 1 0) (pos (z + z)) (box a b z)
+  by-tests : (t u : Bool) → ltZ (counted q) (counted b) ≡ t → ltZ (counted p) (counted a) ≡ u → next (box a b z) (counted p) (counted q) ≡ grown (cond t 2 0 + cond u 1 0) (pos (z + z)) (box a b z)
   by-tests t u e f = ap₂ (λ (n : ℕ) (v : ℤ). grown n (v +ℤ v) (box a b z)) (ap₂ (λ (t u : Bool). cond t 2 0 + cond u 1 0) e f) (sided-side (box-sided a b z))
 
-  below : {m n : ℕ} → m < n → ltZ (at m) (at n) ≡ true
-  below {m} {n} h = lt-at m n ∙ lt-ltb m n h
+  below : {m n : ℕ} → m < n → ltZ (counted m) (counted n) ≡ true
+  below {m} {n} h = counted-lt m n ∙ lt-ltb m n h
 
-  above : {m n : ℕ} → n ≤ m → ltZ (at m) (at n) ≡ false
-  above {m} {n} h = lt-at m n ∙ le-ltb m n h
+  above : {m n : ℕ} → n ≤ m → ltZ (counted m) (counted n) ≡ false
+  above {m} {n} h = counted-lt m n ∙ le-ltb m n h
 
-  box-next : Moves a z p a' → Moves b z q b' → next (box a b z) (at p) (at q) ≡ box a' b' (z + z)
+  box-next : Moves a z p a' → Moves b z q b' → next (box a b z) (counted p) (counted q) ≡ box a' b' (z + z)
   box-next (inr h) (inr k) = by-tests false false (above (k .0)) (above (h .0)) ∙ same-square (up-lo a z a' (h .1)) (up-lo b z b' (k .1)) (up-hi a z a' (h .1)) (up-hi b z b' (k .1))
   box-next (inl h) (inr k) = by-tests false true (above (k .0)) (below (h .0)) ∙ same-square (down-lo a z a' (h .1)) (up-lo b z b' (k .1)) (down-hi a z a' (h .1)) (up-hi b z b' (k .1))
   box-next (inr h) (inl k) = by-tests true false (below (k .0)) (above (h .0)) ∙ same-square (up-lo a z a' (h .1)) (down-lo b z b' (k .1)) (up-hi a z a' (h .1)) (down-hi b z b' (k .1))
@@ -289,16 +289,24 @@ pub record Fit (f g a b k : ℕ) : Type 0 where
 twice : (k : ℕ) → 2 ^ suc k ≡ 2 ^ k + 2 ^ k
 twice k = omega arith
 
-module _ (f g a b k p q a' b' : ℕ) (h : Fit f g a b k) (n : NearCount p) (m : NearCount q) where
+module _ (f g a b k p q : ℕ) (h : Fit f g a b k) (n : NearCount p) (m : NearCount q) where
   -- so at 2 ^ 43 no point is outside
   less : Out a (2 ^ k) p ⊎ Out b (2 ^ k) q → k < 43
-  less o = ⊎-elim (λ l. l) (λ l. absurd (⊎-elim (not-out a (2 ^ k) p (h .both l .0) n) (not-out b (2 ^ k) q (h .both l .1) m) o)) (lt-or-le k 43)
+  less o = ⊎-elim
+      (λ l. l)
+      (λ l. absurd (⊎-elim (not-out a (2 ^ k) p (h .both l .0) n) (not-out b (2 ^ k) q (h .both l .1) m) o))
+      (lt-or-le k 43)
 
+  -- and a doubling never takes a count below 0
+  enough : Out a (2 ^ k) p ⊎ Out b (2 ^ k) q → (2 ^ k ≤ a) × (2 ^ k ≤ b)
+  enough o = let l : 2 ^ k ≤ 2 ^ 42 = pow-mono (le-of-suc-le-suc (less o)) in (omega arith, omega arith)
+
+module _ (f g a b k p q a' b' : ℕ) (h : Fit f g a b k) (n : NearCount p) (m : NearCount q) where
   fit-next : Moves a (2 ^ k) p a' → Moves b (2 ^ k) q b' → Out a (2 ^ k) p ⊎ Out b (2 ^ k) q → Fit f g a' b' (suc k)
   fit-next u v o = record {
     across = anchored f a (2 ^ k) p a' (2 ^ suc k) (twice k) u (h .across);
     along = anchored g b (2 ^ k) q b' (2 ^ suc k) (twice k) v (h .along);
-    most = less o;
+    most = less f g a b k p q h n m o;
     one = λ l. ⊎-elim (λ w. inl (new-x w (omega arith))) (λ w. inr (new-y w (omega arith))) o;
     both = λ l. ⊎-elim (λ w. (old-x w, other-y (not-out a (2 ^ k) p w n) o (omega arith))) (λ w. (other-x (not-out b (2 ^ k) q w m) o (omega arith), old-y w)) (h .one (omega arith));
   }
@@ -322,3 +330,222 @@ module _ (f g a b k p q a' b' : ℕ) (h : Fit f g a b k) (n : NearCount p) (m : 
       other-x : (Out b (2 ^ k) q → ⊥) → Out a (2 ^ k) p ⊎ Out b (2 ^ k) q → 41 ≤ k → Whole a' (2 ^ suc k)
       other-x w (inl x) l = new-x x l
       other-x w (inr y) l = absurd (w y)
+
+-- the square s has covered the floors fs, the first of which has the counts first-x and first-y
+pub record Held (s : Square) (fs : List (ℤ × ℤ)) : Type 0 where
+  pub a : ℕ
+  pub b : ℕ
+  pub log : ℕ
+  pub first-x : ℕ
+  pub first-y : ℕ
+  pub is : s ≡ box a b (2 ^ log)
+  pub fit : Fit first-x first-y a b log
+  pub all : (x y : ℤ) → List·Memᴰ (x, y) fs → inside s x y ≡ true
+
+held-sided : {s : Square} {fs : List (ℤ × ℤ)} (h : Held s fs) → Sided (2 ^ (h .log)) s
+held-sided h = subst (Sided (2 ^ (h .log))) (sym (h .is)) (box-sided (h .a) (h .b) (2 ^ (h .log)))
+
+near-count : (z : ℤ) → Near z → counted (count z) ≡ z
+near-count z n = counted-count z (omega arith)
+
+module _ {s : Square} {fs : List (ℤ × ℤ)} (h : Held s fs) (x y : ℤ) where
+  next-contains : Contains (next s x y) s
+  next-contains = subst (λ (v : ℤ). Contains (grown (oldQuadrant s x y) (v +ℤ v) s) s) (sym (sided-side (held-sided h))) (grown-contains (oldQuadrant s x y) (2 ^ (h .log)) s (held-sided h))
+
+module _ {s : Square} {fs : List (ℤ × ℤ)} (h : Held s fs) (x y : ℤ) (n : Near x) (m : Near y) (e : inside s x y ≡ false) where
+  out : Out (h .a) (2 ^ (h .log)) (count x) ⊎ Out (h .b) (2 ^ (h .log)) (count y)
+  out = out-box (h .a) (h .b) (2 ^ (h .log)) (count x) (count y) (cc (h .is, near-count x n, near-count y m, e))
+
+  near-x : NearCount (count x)
+  near-x = count-near (2 ^ 40) (lit≤ tt) x n
+
+  near-y : NearCount (count y)
+  near-y = count-near (2 ^ 40) (lit≤ tt) y m
+
+  log-less : h .log < 43
+  log-less = less (h .first-x) (h .first-y) (h .a) (h .b) (h .log) (count x) (count y) (h .fit) near-x near-y out
+
+  next-held : (h' : Held (next s x y) fs) × (h' .log ≡ suc (h .log))
+  next-held =
+      let r : (2 ^ (h .log) ≤ h .a) × (2 ^ (h .log) ≤ h .b) = enough (h .first-x) (h .first-y) (h .a) (h .b) (h .log) (count x) (count y) (h .fit) near-x near-y out in
+      to (moves (h .a) (2 ^ (h .log)) (count x) (r .0)) (moves (h .b) (2 ^ (h .log)) (count y) (r .1))
+    where
+      to : (a' : ℕ) × Moves (h .a) (2 ^ (h .log)) (count x) a' → (b' : ℕ) × Moves (h .b) (2 ^ (h .log)) (count y) b' → (h' : Held (next s x y) fs) × (h' .log ≡ suc (h .log))
+      to u v = (
+        record {
+          a = u .0;
+          b = v .0;
+          log = suc (h .log);
+          first-x = h .first-x;
+          first-y = h .first-y;
+          is =
+              cc (h .is, near-count x n, near-count y m, box-next (h .a) (h .b) (2 ^ (h .log)) (count x) (count y) (u .0) (v .0) (u .1) (v .1), twice (h .log));
+          fit = fit-next (h .first-x) (h .first-y) (h .a) (h .b) (h .log) (count x) (count y) (u .0) (v .0) (h .fit) near-x near-y (u .1) (v .1) out;
+          all = λ x' y' i. inside-more x' y' (next-contains h x y) (h .all x' y' i);
+        },
+        refl,
+      )
+
+-- a square `to` that holds the point, reached from s by at most j doublings
+pub record Reaches (x y : ℤ) (j : ℕ) (s : Square) (fs : List (ℤ × ℤ)) : Type 0 where
+  pub n : ℕ
+  pub to : Square
+  pub few : n ≤ j
+  pub grows : Grows x y n s to
+  pub held : Held to fs
+  pub contains : Contains to s
+
+by-test : {X : Type 0} (t : Bool) → (t ≡ true → X) → (t ≡ false → X) → X
+by-test true f g = f refl
+by-test false f g = g refl
+
+module _ (x y : ℤ) (n : Near x) (m : Near y) where
+  reaches : (j : ℕ) {s : Square} {fs : List (ℤ × ℤ)} (h : Held s fs) → 43 ≤ h .log + j → Reaches x y j s fs
+  reaches zero {s} {fs} h l = by-test
+      (inside s x y)
+      (λ e. record { n = zero; to = s; few = zero-le; grows = done e; held = h; contains = contains-same s })
+      (λ e. absurd (none (h .log) l (log-less h x y n m e)))
+    where
+      none : (k : ℕ) → 43 ≤ k + 0 → k < 43 → ⊥
+      none k l u = omega arith
+  reaches (suc j) {s} {fs} h l = by-test
+      (inside s x y)
+      (λ e. record { n = zero; to = s; few = zero-le; grows = done e; held = h; contains = contains-same s })
+      (λ e.
+      let r = next-held h x y n m e in
+      one-more e (reaches j (r .0) (left (h .log) (r .0 .log) j l (r .1))))
+    where
+      left : (k k' j : ℕ) → 43 ≤ k + suc j → k' ≡ suc k → 43 ≤ k' + j
+      left k k' j l u = omega arith
+
+      one-more : inside s x y ≡ false → Reaches x y j (next s x y) fs → Reaches x y (suc j) s fs
+      one-more e r = record { n = suc (r .n); to = r .to; few = suc-le-suc (r .few); grows = more e (r .grows); held = r .held; contains = contains-both (r .contains) (next-contains h x y) }
+
+-- ---- the floors that are held
+
+all-and : (t : Square) (fs : List (ℤ × ℤ)) (x y : ℤ) → ((x' y' : ℤ) → List·Memᴰ (x', y') fs → inside t x' y' ≡ true) → inside t x y ≡ true → (x' y' : ℤ) → List·Memᴰ (x', y') (fs ++ (x, y) ∷ []) → inside t x' y' ≡ true
+all-and t fs x y f e x' y' i = ⊎-elim (f x' y') (λ k. subst (λ (p : ℤ × ℤ). inside t (p .0) (p .1) ≡ true) (sym (List·Memᴰ·eq-of-singleton k)) e) (List·Memᴰ·append-cases fs i)
+
+held-and : {s : Square} {fs : List (ℤ × ℤ)} → Held s fs → (x y : ℤ) → inside s x y ≡ true → Held s (fs ++ (x, y) ∷ [])
+held-and {s} {fs} h x y e = record { a = h .a; b = h .b; log = h .log; first-x = h .first-x; first-y = h .first-y; is = h .is; fit = h .fit; all = all-and s fs x y (h .all) e }
+
+first-held : (x y : ℤ) → Near x → Near y → Held (square x y (x +ℤ pos 1) (y +ℤ pos 1)) ((x, y) ∷ [])
+first-held x y n m = record {
+  a = count x;
+  b = count y;
+  log = 0;
+  first-x = count x;
+  first-y = count y;
+  is = same;
+  fit = start (count x) (count y) (count-near (2 ^ 40) (lit≤ tt) x n) (count-near (2 ^ 40) (lit≤ tt) y m);
+  all = all-and (square x y (x +ℤ pos 1) (y +ℤ pos 1)) [] x y (λ x' y' i. absurd (List·Memᴰ·not-nil i)) (cc (same, near-count x n, near-count y m, inside-box (count x) (count y) 1 (count x) (count y), own (count x) (count y)));
+}
+  where
+    end : (z : ℤ) → Near z → z +ℤ pos 1 ≡ counted (count z + 1)
+    end z n = ap (_+ℤ pos 1) (sym (near-count z n)) ∙ counted-add (count z) 1
+
+    same : square x y (x +ℤ pos 1) (y +ℤ pos 1) ≡ box (count x) (count y) 1
+    same = same-square (sym (near-count x n)) (sym (near-count y m)) (end x n) (end y m)
+
+    start : (p q : ℕ) → NearCount p → NearCount q → Fit p q p q 0
+    start p q h k = record { across = omega arith; along = omega arith; most = omega arith; one = λ l. absurd (omega arith); both = λ l. absurd (omega arith) }
+
+    own : (p q : ℕ) → leb p p && ltb p (p + 1) && leb q q && ltb q (q + 1) ≡ true
+    own p q = four-true (le-leb p p (omega arith)) (lt-ltb p (p + 1) (omega arith)) (le-leb q q (omega arith)) (lt-ltb q (q + 1) (omega arith))
+
+-- ---- theorems
+
+-- One doubling of a square of side 2 ^ k gives one of side 2 ^ (k + 1), which contains the old one as its quarter with the number q.
+pub record Doubling (q k : ℕ) (t s : Square) : Type 0 where
+  pub sided : Sided (2 ^ suc k) t
+  pub contains : Contains t s
+  pub quarter : quarterOf q (2 ^ k) t ≡ s
+
+pub doubling : (q k : ℕ) (s : Square) → Sided (2 ^ k) s → Doubling q k (grown q (pos (2 ^ k) +ℤ pos (2 ^ k)) s) s
+doubling q k s h = record {
+  sided = subst (λ (z : ℕ). Sided z (grown q (pos (2 ^ k + 2 ^ k)) s)) (sym (twice k)) (grown-sided q (2 ^ k) s h);
+  contains = grown-contains q (2 ^ k) s h;
+  quarter = grown-quarter q (2 ^ k) s h;
+}
+
+-- What is held: a square of side 2 ^ k, k at most 43, whose ends lie within 2 ^ 44 of zero.
+pub record Ends (s : Square) : Type 0 where
+  pub x0 : natAbs (s .x0) ≤ 2 ^ 44
+  pub y0 : natAbs (s .y0) ≤ 2 ^ 44
+  pub x1 : natAbs (s .x1) ≤ 2 ^ 44
+  pub y1 : natAbs (s .y1) ≤ 2 ^ 44
+
+module _ {s : Square} {fs : List (ℤ × ℤ)} (h : Held s fs) where
+  pub held-side : Sided (2 ^ (h .log)) s
+  held-side = held-sided h
+
+  pub held-most : h .log ≤ 43
+  held-most = h .fit .most
+
+  pub held-inside : (x y : ℤ) → List·Memᴰ (x, y) fs → inside s x y ≡ true
+  held-inside = h .all
+
+  pub held-ends : Ends s
+  held-ends = subst Ends (sym (h .is)) (ends (h .fit))
+    where
+      ends : {f g a b k : ℕ} → Fit f g a b k → Ends (box a b (2 ^ k))
+      ends {f} {g} {a} {b} {k} t =
+          let l : 2 ^ k ≤ 2 ^ 43 = pow-mono (t .most) in
+          record { x0 = counted-near (2 ^ 44) (lit≤ tt) a (omega arith) (omega arith); y0 = counted-near (2 ^ 44) (lit≤ tt) b (omega arith) (omega arith); x1 = counted-near (2 ^ 44) (lit≤ tt) (a + 2 ^ k) (omega arith) (omega arith); y1 = counted-near (2 ^ 44) (lit≤ tt) (b + 2 ^ k) (omega arith) (omega arith) }
+
+-- Covering a near point: at most 43 doublings, each with the point still outside, lead to a square that holds it, all floors held before and the whole old square.
+pub record Covering (x y : ℤ) (s : Square) (fs : List (ℤ × ℤ)) : Type 0 where
+  pub n : ℕ
+  pub to : Square
+  pub few : n ≤ mostDoublings
+  pub grows : Grows x y n s to
+  pub is : coverPoint (holds s) x y ≡ holds to
+  pub held : Held to (fs ++ (x, y) ∷ [])
+  pub contains : Contains to s
+
+-- A point that is already inside changes nothing.
+pub covered-already : (s : Square) (x y : ℤ) → inside s x y ≡ true → coverPoint (holds s) x y ≡ holds s
+unfolding coverPoint
+covered-already s x y e = ap holds (doubled-done x y mostDoublings (side s) s e)
+
+grows-covers : {x y : ℤ} {n : ℕ} {s t : Square} → Grows x y n s t → n ≤ mostDoublings → coverPoint (holds s) x y ≡ holds t
+unfolding coverPoint
+grows-covers {x} {y} g h = ap holds (grows-doubled x y g mostDoublings h)
+
+module _ {s : Square} {fs : List (ℤ × ℤ)} (h : Held s fs) (x y : ℤ) (n : Near x) (m : Near y) where
+  chain : Reaches x y (43 - h .log) s fs
+  chain = reaches x y n m (43 - h .log) h (omega arith)
+
+  pub covering : Covering x y s fs
+  covering = let r = chain in record { n = r .n; to = r .to; few = omega (arith, r .few); grows = r .grows; is = grows-covers (r .grows) (omega (arith, r .few)); held = held-and (r .held) x y (grows-inside x y (r .grows)); contains = r .contains }
+
+  -- How many doublings are allowed makes no difference once they suffice, as 43 - k do at the side 2 ^ k.
+  pub fuel : (i j : ℕ) → 43 - h .log ≤ i → 43 - h .log ≤ j → doubled i x y (side s) s ≡ doubled j x y (side s) s
+  fuel i j u v = let r = chain in grows-doubled x y (r .grows) i (omega (arith, r .few)) ∙ sym (grows-doubled x y (r .grows) j (omega (arith, r .few)))
+
+-- what is left to the greatest side
+abbrev pub room : Square → ℕ
+room s = 2 ^ 43 - natAbs (side s)
+
+module _ {s : Square} {fs : List (ℤ × ℤ)} (h : Held s fs) (x y : ℤ) (n : Near x) (m : Near y) (e : inside s x y ≡ false) where
+  -- While the point is outside, covering it from here is covering it from the doubled square.
+  pub cover-next : coverPoint (holds s) x y ≡ coverPoint (holds (next s x y)) x y
+  cover-next = let r = chain h x y n m in from (r .few) (r .grows) (grows-rest x y (r .grows) e)
+    where
+      from : {k : ℕ} {t : Square} → k ≤ 43 - h .log → Grows x y k s t → (i : ℕ) × (k ≡ suc i) × Grows x y i (next s x y) t → coverPoint (holds s) x y ≡ coverPoint (holds (next s x y)) x y
+      from l g (i, u, g') = grows-covers g (omega arith) ∙ sym (grows-covers g' (omega arith))
+
+  -- Each doubling leaves less room.
+  pub room-falls : room (next s x y) < room s
+  room-falls = subst₂ (λ (v w : ℕ). 2 ^ 43 - v < 2 ^ 43 - w) (sym (ap natAbs (grown-side (oldQuadrant s x y) (side s +ℤ side s) s ∙ ap (λ (v : ℤ). v +ℤ v) (sided-side (held-sided h))))) (sym (ap natAbs (sided-side (held-sided h)))) (falls (2 ^ (h .log)) (pow-pos (h .log)) (subst (λ (v : ℕ). v ≤ 2 ^ 43) (twice (h .log)) (pow-mono (log-less h x y n m e))))
+    where
+      falls : (z : ℕ) → 0 < z → z + z ≤ 2 ^ 43 → 2 ^ 43 - (z + z) < 2 ^ 43 - z
+      falls z u v = omega arith
+
+  -- The doubled square holds what was held, with twice the side ...
+  pub held-next : (h' : Held (next s x y) fs) × (h' .log ≡ suc (h .log))
+  held-next = next-held h x y n m e
+
+  -- ... and the old one is its quarter with the number that `oldQuadrant` gives.
+  pub doubling-next : Doubling (oldQuadrant s x y) (h .log) (next s x y) s
+  doubling-next = subst (λ (v : ℤ). Doubling (oldQuadrant s x y) (h .log) (grown (oldQuadrant s x y) (v +ℤ v) s) s) (sym (sided-side (held-sided h))) (doubling (oldQuadrant s x y) (h .log) s (held-sided h))

@@ -79,31 +79,31 @@ abbrev pub base : ℕ
 base = 2 ^ 45
 
 -- the whole number with the count a
-unfoldable pub at : ℕ → ℤ
-at a = subℕ a base
+unfoldable pub counted : ℕ → ℤ
+counted a = subℕ a base
 
-pub at-is : (a : ℕ) → at a ≡ subℕ a base
-unfolding at
-at-is a = refl
+pub counted-is : (a : ℕ) → counted a ≡ subℕ a base
+unfolding counted
+counted-is a = refl
 
-below : (a : ℕ) → a < base → at a ≡ negsuc (base - suc a)
-below a h = at-is a ∙ subℕ-neg a base h
+below : (a : ℕ) → a < base → counted a ≡ negsuc (base - suc a)
+below a h = counted-is a ∙ subℕ-neg a base h
 
-above : (a : ℕ) → base ≤ a → at a ≡ pos (a - base)
-above a h = at-is a ∙ subℕ-pos a base h
+above : (a : ℕ) → base ≤ a → counted a ≡ pos (a - base)
+above a h = counted-is a ∙ subℕ-pos a base h
 
 -- the count of a whole number
 unfoldable pub count : ℤ → ℕ
 count (pos n) = n + base
 count (negsuc n) = base - suc n
 
-pub at-count : (z : ℤ) → natAbs z ≤ base → at (count z) ≡ z
+pub counted-count : (z : ℤ) → natAbs z ≤ base → counted (count z) ≡ z
 unfolding count
-at-count (pos n) h = above (n + base) (omega arith) ∙ ap pos (same n)
+counted-count (pos n) h = above (n + base) (omega arith) ∙ ap pos (same n)
   where
     same : (n : ℕ) → n + base - base ≡ n
     same n = omega arith
-at-count (negsuc n) h = below (base - suc n) (less n h) ∙ ap negsuc (same n h)
+counted-count (negsuc n) h = below (base - suc n) (less n h) ∙ ap negsuc (same n h)
   where
     less : (n : ℕ) → suc n ≤ base → base - suc n < base
     less n h = omega arith
@@ -118,8 +118,8 @@ module _ (d : ℕ) (small : d ≤ base) where
   count-near (pos n) h = omega arith
   count-near (negsuc n) h = omega arith
 
-  pub near-at : (a : ℕ) → base - d ≤ a → a ≤ base + d → natAbs (at a) ≤ d
-  near-at a h k = ⊎-elim (λ l. subst (λ (z : ℤ). natAbs z ≤ d) (sym (below a l)) (low l)) (λ l. subst (λ (z : ℤ). natAbs z ≤ d) (sym (above a l)) (high l)) (lt-or-le a base)
+  pub counted-near : (a : ℕ) → base - d ≤ a → a ≤ base + d → natAbs (counted a) ≤ d
+  counted-near a h k = ⊎-elim (λ l. subst (λ (z : ℤ). natAbs z ≤ d) (sym (below a l)) (low l)) (λ l. subst (λ (z : ℤ). natAbs z ≤ d) (sym (above a l)) (high l)) (lt-or-le a base)
     where
       low : a < base → suc (base - suc a) ≤ d
       low l = omega arith
@@ -129,7 +129,7 @@ module _ (d : ℕ) (small : d ≤ base) where
 
 -- its order
 module _ (a b : ℕ) where
-  lt-yes : a < b → ltZ (at a) (at b) ≡ true
+  lt-yes : a < b → ltZ (counted a) (counted b) ≡ true
   lt-yes h = ⊎-elim
       (λ k. ⊎-elim
       (λ l. ap₂ ltZ (below a l) (below b k) ∙ lt-ltb (base - suc b) (base - suc a) (omega arith))
@@ -141,7 +141,7 @@ module _ (a b : ℕ) where
       (lt-or-le a base))
       (lt-or-le b base)
 
-  lt-no : b ≤ a → ltZ (at a) (at b) ≡ false
+  lt-no : b ≤ a → ltZ (counted a) (counted b) ≡ false
   lt-no h = ⊎-elim
       (λ k. ⊎-elim
       (λ l. ap₂ ltZ (below a k) (below b l) ∙ le-ltb (base - suc b) (base - suc a) (omega arith))
@@ -153,21 +153,21 @@ module _ (a b : ℕ) where
       (lt-or-le b base))
       (lt-or-le a base)
 
-  pub lt-at : ltZ (at a) (at b) ≡ ltb a b
-  lt-at = ⊎-elim (λ h. lt-yes h ∙ sym (lt-ltb a b h)) (λ h. lt-no h ∙ sym (le-ltb a b h)) (lt-or-le a b)
+  pub counted-lt : ltZ (counted a) (counted b) ≡ ltb a b
+  counted-lt = ⊎-elim (λ h. lt-yes h ∙ sym (lt-ltb a b h)) (λ h. lt-no h ∙ sym (le-ltb a b h)) (lt-or-le a b)
 
-pub le-at : (a b : ℕ) → leZ (at a) (at b) ≡ leb a b
-le-at a b = not-above (at a) (at b) ∙ ap not (lt-at b a) ∙ ⊎-elim (λ h. ap not (lt-ltb b a h) ∙ sym (lt-leb a b h)) (λ h. ap not (le-ltb b a h) ∙ sym (le-leb a b h)) (lt-or-le b a)
+pub counted-le : (a b : ℕ) → leZ (counted a) (counted b) ≡ leb a b
+counted-le a b = not-above (counted a) (counted b) ∙ ap not (counted-lt b a) ∙ ⊎-elim (λ h. ap not (lt-ltb b a h) ∙ sym (lt-leb a b h)) (λ h. ap not (le-ltb b a h) ∙ sym (le-leb a b h)) (lt-or-le b a)
 
 -- its sums and differences
-pub add-at : (a z : ℕ) → at a +ℤ pos z ≡ at (a + z)
-add-at a z = ⊎-elim
-    (λ h. ap (_+ℤ pos z) (below a h) ∙ subℕ-same z (suc (base - suc a)) (a + z) base (omega arith) ∙ sym (at-is (a + z)))
+pub counted-add : (a z : ℕ) → counted a +ℤ pos z ≡ counted (a + z)
+counted-add a z = ⊎-elim
+    (λ h. ap (_+ℤ pos z) (below a h) ∙ subℕ-same z (suc (base - suc a)) (a + z) base (omega arith) ∙ sym (counted-is (a + z)))
     (λ h. ap (_+ℤ pos z) (above a h) ∙ ap pos (moved h) ∙ sym (above (a + z) (omega arith)))
     (lt-or-le a base)
   where
     moved : base ≤ a → a - base + z ≡ a + z - base
     moved h = omega arith
 
-pub sub-at : (a b z : ℕ) → b + z ≡ a → at a -ℤ pos z ≡ at b
-sub-at a b z e = ap (_-ℤ pos z) (ap at (sym e) ∙ sym (add-at b z)) ∙ +ℤ-negℤ-cancel (at b) (pos z)
+pub counted-sub : (a b z : ℕ) → b + z ≡ a → counted a -ℤ pos z ≡ counted b
+counted-sub a b z e = ap (_-ℤ pos z) (ap counted (sym e) ∙ sym (counted-add b z)) ∙ +ℤ-negℤ-cancel (counted b) (pos z)
