@@ -2,7 +2,7 @@
 use mathlib.Core.Path.{_≡_, refl, sym, ap, ap₂, _∙_, subst, subst₂}
 use mathlib.Core.Logic.{_⊎_, inl, inr, ⊎-elim}
 use mathlib.Core.Bool.{Bool, true, false, cond, _&&_, true≢false, false≢true}
-use mathlib.Core.List.{List, [], _∷_, _++_, map, append-nil, append-assoc, List·Memᴰ, List·Memᴰ·head, List·Memᴰ·tail, List·Memᴰ·append-cases, List·Memᴰ·eq-of-singleton, List·Memᴰ·not-nil}
+use mathlib.Core.List.{List, [], _∷_, _++_, map, append-nil, append-assoc, List·Memᴰ, List·Memᴰ·head, List·Memᴰ·tail, List·Memᴰ·append-cases, List·Memᴰ·eq-of-singleton, List·Memᴰ·not-nil, Memᴰ·map}
 use Prim.Native.Nat.{ℕ, zero, suc, _+_, _-_, _^_, _≤_, _<_, zero-le, suc-le-suc}
 use native.Mathlib.Nat.{le-of-suc-le-suc}
 use native.Mathlib.Omega.{arith}
@@ -549,3 +549,79 @@ module _ {s : Square} {fs : List (ℤ × ℤ)} (h : Held s fs) (x y : ℤ) (n : 
   -- ... and the old one is its quarter with the number that `oldQuadrant` gives.
   pub doubling-next : Doubling (oldQuadrant s x y) (h .log) (next s x y) s
   doubling-next = subst (λ (v : ℤ). Doubling (oldQuadrant s x y) (h .log) (grown (oldQuadrant s x y) (v +ℤ v) s) s) (sym (sided-side (held-sided h))) (doubling (oldQuadrant s x y) (h .log) s (held-sided h))
+
+-- The floors fs have been covered, in order: nothing of none, else a square that holds them.
+abbrev pub Reached : Covered → List (ℤ × ℤ) → Type 0
+Reached nothing fs = fs ≡ []
+Reached (holds s) fs = Held s fs
+
+pub reached-first : (x y : ℤ) → Near x → Near y → Reached (coverPoint nothing x y) ((x, y) ∷ [])
+unfolding coverPoint
+reached-first x y n m = first-held x y n m
+
+pub reached-next : (c : Covered) (fs : List (ℤ × ℤ)) → Reached c fs → (x y : ℤ) → Near x → Near y → Reached (coverPoint c x y) (fs ++ (x, y) ∷ [])
+reached-next nothing fs h x y n m = subst (λ (gs : List (ℤ × ℤ)). Reached (coverPoint nothing x y) (gs ++ (x, y) ∷ [])) (sym h) (reached-first x y n m)
+reached-next (holds s) fs h x y n m = let r = covering h x y n m in subst (λ (c : Covered). Reached c (fs ++ (x, y) ∷ [])) (sym (r .is)) (r .held)
+
+-- where some floor has been covered there is a square
+pub reached-some : (c : Covered) (f : ℤ × ℤ) (fs : List (ℤ × ℤ)) → Reached c (f ∷ fs) → (s : Square) × (c ≡ holds s) × Held s (f ∷ fs)
+reached-some nothing f fs h = absurd (true≢false (ap some? h))
+  where
+    some? : List (ℤ × ℤ) → Bool
+    some? [] = false
+    some? (f ∷ fs) = true
+reached-some (holds s) f fs h = (s, refl, h)
+
+-- the floors of a point
+abbrev pub floors : List Float → ℕ → ℤ × ℤ
+floors at i = (floor (xAt at i), floor (yAt at i))
+
+-- every point of these numbers has floors within 2 ^ 40 of zero
+abbrev pub AllNear : List Float → List ℕ → Type 0
+AllNear at is = (i : ℕ) → List·Memᴰ i is → Near (floor (xAt at i)) × Near (floor (yAt at i))
+
+abbrev with-point : List Float → Covered → ℕ → Covered
+with-point at c i = coverPoint c (floor (xAt at i)) (floor (yAt at i))
+
+reached-on : (at : List Float) (is : List ℕ) → AllNear at is → (c : Covered) (fs : List (ℤ × ℤ)) → Reached c fs → Reached (foldl (with-point at) c is) (fs ++ map (floors at) is)
+reached-on at [] n c fs h = subst (Reached c) (sym (append-nil fs)) h
+reached-on at (i ∷ is) n c fs h =
+    let near = n i (List·Memᴰ·head refl) in
+    subst
+    (Reached (foldl (with-point at) (with-point at c i) is))
+    (append-assoc fs (floors at i ∷ []) (map (floors at) is))
+    (reached-on at is (λ j m. n j (List·Memᴰ·tail m)) (with-point at c i) (fs ++ floors at i ∷ []) (reached-next c fs h (floor (xAt at i)) (floor (yAt at i)) (near .0) (near .1)))
+
+-- Covering points that are near reaches a square that holds all their floors.
+pub cover-all : (at : List Float) (is : List ℕ) → AllNear at is → Reached (coverAll at is) (map (floors at) is)
+unfolding coverAll
+cover-all at is n = reached-on at is n nothing [] refl
+
+-- Covering more points goes on from the square of the first ones.
+pub cover-append : (at : List Float) (is js : List ℕ) → coverAll at (is ++ js) ≡ foldl (λ c i. coverPoint c (floor (xAt at i)) (floor (yAt at i))) (coverAll at is) js
+unfolding coverAll
+cover-append at is js = go nothing is
+  where
+    go : (c : Covered) (is : List ℕ) → foldl (with-point at) c (is ++ js) ≡ foldl (with-point at) (foldl (with-point at) c is) js
+    go c [] = refl
+    go c (i ∷ is) = go (with-point at c i) is
+
+contains-on : (at : List Float) (js : List ℕ) → AllNear at js → {s : Square} {fs : List (ℤ × ℤ)} → Held s fs → (t : Square) × (foldl (with-point at) (holds s) js ≡ holds t) × Contains t s
+contains-on at [] n {s} h = (s, refl, contains-same s)
+contains-on at (j ∷ js) n {s} h =
+    let near = n j (List·Memᴰ·head refl) in
+    let r = covering h (floor (xAt at j)) (floor (yAt at j)) (near .0) (near .1) in
+    let (t, e, c) = contains-on at js (λ i m. n i (List·Memᴰ·tail m)) (r .held) in
+    (t, ap (λ (d : Covered). foldl (with-point at) d js) (r .is) ∙ e, contains-both c (r .contains))
+
+-- The square of more points contains the square of the first ones.
+pub cover-contains : (at : List Float) (is js : List ℕ) (s t : Square) → AllNear at is → AllNear at js → coverAll at is ≡ holds s → coverAll at (is ++ js) ≡ holds t → Contains t s
+cover-contains at is js s t n m e f =
+    let h : Held s (map (floors at) is) = subst (λ (c : Covered). Reached c (map (floors at) is)) e (cover-all at is n) in
+    let (u, k, c) = contains-on at js m h in
+    let same : u ≡ t = cc (cover-append at is js) in
+    subst (λ (v : Square). Contains v s) same c
+
+-- Every one of the points is inside.
+pub cover-inside : (at : List Float) (is : List ℕ) (s : Square) → AllNear at is → coverAll at is ≡ holds s → (i : ℕ) → List·Memᴰ i is → inside s (floor (xAt at i)) (floor (yAt at i)) ≡ true
+cover-inside at is s n e i m = held-inside (subst (λ (c : Covered). Reached c (map (floors at) is)) e (cover-all at is n)) (floor (xAt at i)) (floor (yAt at i)) (Memᴰ·map (floors at) m)
