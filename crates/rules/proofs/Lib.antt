@@ -1,2 +1,4 @@
 pub mod CoverCount
+pub mod CoverSquare
+pub mod CoverReach
 pub mod Cover
