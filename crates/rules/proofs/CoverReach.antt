@@ -1,25 +1,22 @@
--- How far doublings go while all points lie within 2 ^ 40 of zero, over counts. Assumes nothing.
-use mathlib.Core.Path.{_≡_, refl, sym, ap, ap₂, _∙_, subst}
+-- How far doublings go while all points lie within 2 ^ 40 of zero: over counts, of which `omega` does the sums. Assumes nothing.
+use mathlib.Core.Path.{_≡_, refl, sym, ap, _∙_, ap₂, subst, subst₂}
+use mathlib.Core.Bool.{Bool, true, false, _&&_, true≢false, cond}
 use mathlib.Core.Logic.{_⊎_, inl, inr, ⊎-elim}
-use mathlib.Core.Bool.{Bool, true, false, cond, _&&_, true≢false}
 use mathlib.Core.List.{List, [], _∷_, _++_, List·Memᴰ, List·Memᴰ·append-cases, List·Memᴰ·eq-of-singleton, List·Memᴰ·not-nil}
-use Prim.Native.Nat.{ℕ, zero, suc, _+_, _-_, _^_, _≤_, _<_, zero-le, suc-le-suc}
-use native.Mathlib.Nat.{le-of-suc-le-suc}
+use Prim.Native.Nat.{ℕ, zero, suc, _+_, _-_, _≤_, _^_, _<_, zero-le, suc-le-suc}
 use native.Mathlib.Omega.{arith}
+use native.Mathlib.Nat.{le-of-suc-le-suc}
 use lib.Dec.{ltb, leb, lit≤}
-use lib.Pow.{pow-mono}
-use lib.IntN.{ℤ, pos, natAbs, _+ℤ_, _-ℤ_}
+use lib.Pow.{pow-mono, pow-pos}
+use lib.IntN.{ℤ, pos, _+ℤ_, _-ℤ_, natAbs}
 use lib.Signed.{ltZ}
 use borrow.Author.Tests.{lt-ltb, le-ltb, le-leb}
-use Rattle.rules.specs.Cover.{Square, square, inside, oldQuadrant, grown}
-use Rattle.rules.proofs.CoverCount.{lt-or-le, base, counted, count, counted-count, count-near, counted-lt, counted-le, counted-add, counted-sub}
-use Rattle.rules.proofs.CoverSquare.{Sided, Contains, same-square, grown-contains, contains-same, contains-both, four-true, inside-more, next, Grows, done, more, sided-side}
+use Rattle.rules.specs.Cover.{Square, square, inside, oldQuadrant, grown, doubled, mostDoublings, Covered, nothing, holds, coverPoint}
+use Rattle.rules.proofs.CoverCount.{lt-or-le, base, counted, count, counted-count, count-near, counted-near, counted-lt, counted-le, counted-add, counted-sub}
+use Rattle.rules.proofs.CoverTerms.{Sided, Contains, Doubling, side, next, Grows, done, more, room, box, In, Near, NearCount, Whole, Anchored, Fit, Held, Ends, Covering, Reached}
+use Rattle.rules.proofs.CoverSquare.{same-square, twice, grown-contains, contains-same, contains-both, four-true, contains-inside, grown-side, sided-side, doubled-done, grows-doubled, grows-inside, grows-rest, doubling}
 
 -- ---- squares by counts
-
--- the square of side z whose lower ends have the counts a and b
-abbrev pub box : ℕ → ℕ → ℕ → Square
-box a b z = square (counted a) (counted b) (counted (a + z)) (counted (b + z))
 
 box-sided : (a b z : ℕ) → Sided z (box a b z)
 box-sided a b z = record { wide = sym (counted-add a z); tall = sym (counted-add b z) }
@@ -27,11 +24,8 @@ box-sided a b z = record { wide = sym (counted-add a z); tall = sym (counted-add
 pub inside-box : (a b z p q : ℕ) → inside (box a b z) (counted p) (counted q) ≡ (leb a p && ltb p (a + z) && leb b q && ltb q (b + z))
 inside-box a b z p q = cc (counted-le a p, counted-lt p (a + z), counted-le b q, counted-lt q (b + z))
 
--- on one axis: p lies within, or not
-abbrev pub In : ℕ → ℕ → ℕ → Type 0
-In a z p = (a ≤ p) × (p < a + z)
-
-abbrev pub Out : ℕ → ℕ → ℕ → Type 0
+-- on one axis, p lies outside
+abbrev Out : ℕ → ℕ → ℕ → Type 0
 Out a z p = (p < a) ⊎ (a + z ≤ p)
 
 in-or-out : (a z p : ℕ) → In a z p ⊎ Out a z p
@@ -51,7 +45,7 @@ above : {m n : ℕ} → n ≤ m → ltZ (counted m) (counted n) ≡ false
 above {m} {n} h = counted-lt m n ∙ le-ltb m n h
 
 -- a' is the lower end after a doubling towards p, a before it
-abbrev pub Moves : ℕ → ℕ → ℕ → ℕ → Type 0
+abbrev Moves : ℕ → ℕ → ℕ → ℕ → Type 0
 Moves a z p a' = ((p < a) × (a' + z ≡ a)) ⊎ ((a ≤ p) × (a' ≡ a))
 
 moves : (a z p : ℕ) → z ≤ a → (a' : ℕ) × Moves a z p a'
@@ -88,22 +82,6 @@ module _ (a b z p q : ℕ) where
 
 -- ---- how far it goes within 2 ^ 40
 
--- within 2 ^ 40 of zero
-abbrev pub Near : ℤ → Type 0
-Near z = natAbs z ≤ 2 ^ 40
-
--- the same of a count
-abbrev pub NearCount : ℕ → Type 0
-NearCount p = (base - 2 ^ 40 ≤ p) × (p ≤ base + 2 ^ 40)
-
--- an axis that starts at a and is z long covers all that is near
-abbrev pub Whole : ℕ → ℕ → Type 0
-Whole a z = (a ≤ base - 2 ^ 40) × (base + 2 ^ 40 < a + z)
-
--- it holds f, which is near
-abbrev pub Anchored : ℕ → ℕ → ℕ → Type 0
-Anchored f a z = NearCount f × In a z f
-
 module _ (f a z p a' w : ℕ) (double : w ≡ z + z) where
   anchored : Moves a z p a' → Anchored f a z → Anchored f a' w
   anchored (inl m) h = omega arith
@@ -123,17 +101,6 @@ module _ (f a z p a' w : ℕ) (double : w ≡ z + z) where
 not-out : (a z p : ℕ) → Whole a z → NearCount p → Out a z p → ⊥
 not-out a z p h n (inl o) = omega arith
 not-out a z p h n (inr o) = omega arith
-
--- The side is 2 ^ k. From 2 ^ 42 on one axis covers all that is near, from 2 ^ 43 on both do.
-pub record Fit (f g a b k : ℕ) : Type 0 where
-  pub across : Anchored f a (2 ^ k)
-  pub along : Anchored g b (2 ^ k)
-  pub most : k ≤ 43
-  pub one : 42 ≤ k → Whole a (2 ^ k) ⊎ Whole b (2 ^ k)
-  pub both : 43 ≤ k → Whole a (2 ^ k) × Whole b (2 ^ k)
-
-pub twice : (k : ℕ) → 2 ^ suc k ≡ 2 ^ k + 2 ^ k
-twice k = omega arith
 
 module _ (f g a b k p q : ℕ) (h : Fit f g a b k) (n : NearCount p) (m : NearCount q) where
   -- so at 2 ^ 43 no point is outside
@@ -177,17 +144,6 @@ module _ (f g a b k p q a' b' : ℕ) (h : Fit f g a b k) (n : NearCount p) (m : 
       other-x w (inl x) l = new-x x l
       other-x w (inr y) l = absurd (w y)
 
--- the square s has covered the floors fs, the first of which has the counts first-x and first-y
-pub record Held (s : Square) (fs : List (ℤ × ℤ)) : Type 0 where
-  pub a : ℕ
-  pub b : ℕ
-  pub log : ℕ
-  pub first-x : ℕ
-  pub first-y : ℕ
-  pub is : s ≡ box a b (2 ^ log)
-  pub fit : Fit first-x first-y a b log
-  pub all : (x y : ℤ) → List·Memᴰ (x, y) fs → inside s x y ≡ true
-
 pub held-sided : {s : Square} {fs : List (ℤ × ℤ)} (h : Held s fs) → Sided (2 ^ (h .log)) s
 held-sided h = subst (Sided (2 ^ (h .log))) (sym (h .is)) (box-sided (h .a) (h .b) (2 ^ (h .log)))
 
@@ -227,7 +183,7 @@ module _ {s : Square} {fs : List (ℤ × ℤ)} (h : Held s fs) (x y : ℤ) (n : 
           is =
               cc (h .is, near-count x n, near-count y m, box-next (h .a) (h .b) (2 ^ (h .log)) (count x) (count y) (u .0) (v .0) (u .1) (v .1), twice (h .log));
           fit = fit-next (h .first-x) (h .first-y) (h .a) (h .b) (h .log) (count x) (count y) (u .0) (v .0) (h .fit) near-x near-y (u .1) (v .1) out;
-          all = λ x' y' i. inside-more x' y' (next-contains h x y) (h .all x' y' i);
+          all = λ x' y' i. contains-inside x' y' (next-contains h x y) (h .all x' y' i);
         },
         refl,
       )
@@ -298,3 +254,68 @@ first-held x y n m = record {
 
     own : (p q : ℕ) → leb p p && ltb p (p + 1) && leb q q && ltb q (q + 1) ≡ true
     own p q = four-true (le-leb p p (omega arith)) (lt-ltb p (p + 1) (omega arith)) (le-leb q q (omega arith)) (lt-ltb q (q + 1) (omega arith))
+
+-- ---- covering a point
+
+module _ {s : Square} {fs : List (ℤ × ℤ)} (h : Held s fs) where
+  pub held-counts : (2 ^ 44 ≤ h .a) × (h .a + 2 ^ (h .log) ≤ base + 2 ^ 44) × (2 ^ 44 ≤ h .b) × (h .b + 2 ^ (h .log) ≤ base + 2 ^ 44)
+  held-counts = let l : 2 ^ (h .log) ≤ 2 ^ 43 = pow-mono (h .fit .most) in (omega arith, omega arith, omega arith, omega arith)
+
+  pub held-ends : Ends s
+  held-ends = subst Ends (sym (h .is)) (ends (h .a) (h .b) (2 ^ (h .log)) (held-counts .0) (held-counts .1) (held-counts .2) (held-counts .3))
+    where
+      near : (p : ℕ) → 2 ^ 44 ≤ p → p ≤ base + 2 ^ 44 → natAbs (counted p) ≤ 2 ^ 44
+      near p l u = counted-near (2 ^ 44) (lit≤ tt) p l u
+
+      ends : (a b z : ℕ) → 2 ^ 44 ≤ a → a + z ≤ base + 2 ^ 44 → 2 ^ 44 ≤ b → b + z ≤ base + 2 ^ 44 → Ends (box a b z)
+      ends a b z l u m v = record { x0 = near a l (omega arith); y0 = near b m (omega arith); x1 = near (a + z) (omega arith) u; y1 = near (b + z) (omega arith) v }
+
+pub covered-already : (s : Square) (x y : ℤ) → inside s x y ≡ true → coverPoint (holds s) x y ≡ holds s
+unfolding coverPoint
+covered-already s x y e = ap holds (doubled-done x y mostDoublings (side s) s e)
+
+grows-covers : {x y : ℤ} {n : ℕ} {s t : Square} → Grows x y n s t → n ≤ mostDoublings → coverPoint (holds s) x y ≡ holds t
+unfolding coverPoint
+grows-covers {x} {y} g h = ap holds (grows-doubled x y g mostDoublings h)
+
+module _ {s : Square} {fs : List (ℤ × ℤ)} (h : Held s fs) (x y : ℤ) (n : Near x) (m : Near y) where
+  chain : Reaches x y (43 - h .log) s fs
+  chain = reaches x y n m (43 - h .log) h (omega arith)
+
+  pub covering : Covering x y s fs
+  covering = let r = chain in record { n = r .n; to = r .to; few = omega (arith, r .few); grows = r .grows; is = grows-covers (r .grows) (omega (arith, r .few)); held = held-and (r .held) x y (grows-inside x y (r .grows)); contains = r .contains }
+
+  pub fuel : (i j : ℕ) → 43 - h .log ≤ i → 43 - h .log ≤ j → doubled i x y (side s) s ≡ doubled j x y (side s) s
+  fuel i j u v = let r = chain in grows-doubled x y (r .grows) i (omega (arith, r .few)) ∙ sym (grows-doubled x y (r .grows) j (omega (arith, r .few)))
+
+module _ {s : Square} {fs : List (ℤ × ℤ)} (h : Held s fs) (x y : ℤ) (n : Near x) (m : Near y) (e : inside s x y ≡ false) where
+  pub cover-next : coverPoint (holds s) x y ≡ coverPoint (holds (next s x y)) x y
+  cover-next = let r = chain h x y n m in from (r .few) (r .grows) (grows-rest x y (r .grows) e)
+    where
+      from : {k : ℕ} {t : Square} → k ≤ 43 - h .log → Grows x y k s t → (i : ℕ) × (k ≡ suc i) × Grows x y i (next s x y) t → coverPoint (holds s) x y ≡ coverPoint (holds (next s x y)) x y
+      from l g (i, u, g') = grows-covers g (omega arith) ∙ sym (grows-covers g' (omega arith))
+
+  pub room-falls : room (next s x y) < room s
+  room-falls = subst₂ (λ (v w : ℕ). 2 ^ 43 - v < 2 ^ 43 - w) (sym (ap natAbs (grown-side (oldQuadrant s x y) (side s +ℤ side s) s ∙ ap (λ (v : ℤ). v +ℤ v) (sided-side (held-sided h))))) (sym (ap natAbs (sided-side (held-sided h)))) (falls (2 ^ (h .log)) (pow-pos (h .log)) (subst (λ (v : ℕ). v ≤ 2 ^ 43) (twice (h .log)) (pow-mono (log-less h x y n m e))))
+    where
+      falls : (z : ℕ) → 0 < z → z + z ≤ 2 ^ 43 → 2 ^ 43 - (z + z) < 2 ^ 43 - z
+      falls z u v = omega arith
+
+  pub next-doubling : Doubling (oldQuadrant s x y) (h .log) (next s x y) s
+  next-doubling = subst (λ (v : ℤ). Doubling (oldQuadrant s x y) (h .log) (grown (oldQuadrant s x y) (v +ℤ v) s) s) (sym (sided-side (held-sided h))) (doubling (oldQuadrant s x y) (h .log) s (held-sided h))
+
+pub reached-first : (x y : ℤ) → Near x → Near y → Reached (coverPoint nothing x y) ((x, y) ∷ [])
+unfolding coverPoint
+reached-first x y n m = first-held x y n m
+
+pub reached-next : (c : Covered) (fs : List (ℤ × ℤ)) → Reached c fs → (x y : ℤ) → Near x → Near y → Reached (coverPoint c x y) (fs ++ (x, y) ∷ [])
+reached-next nothing fs h x y n m = subst (λ (gs : List (ℤ × ℤ)). Reached (coverPoint nothing x y) (gs ++ (x, y) ∷ [])) (sym h) (reached-first x y n m)
+reached-next (holds s) fs h x y n m = let r = covering h x y n m in subst (λ (c : Covered). Reached c (fs ++ (x, y) ∷ [])) (sym (r .is)) (r .held)
+
+pub reached-some : (c : Covered) (f : ℤ × ℤ) (fs : List (ℤ × ℤ)) → Reached c (f ∷ fs) → (s : Square) × (c ≡ holds s) × Held s (f ∷ fs)
+reached-some nothing f fs h = absurd (true≢false (ap some? h))
+  where
+    some? : List (ℤ × ℤ) → Bool
+    some? [] = false
+    some? (f ∷ fs) = true
+reached-some (holds s) f fs h = (s, refl, h)
