@@ -4,3 +4,9 @@ pub mod Units
 pub mod Patterns
 pub mod Nearest
 pub mod Root
+pub mod CoverCount
+pub mod CoverTerms
+pub mod CoverSquare
+pub mod CoverReach
+pub mod CoverAll
+pub mod Cover
