@@ -8,7 +8,7 @@ use native.Mathlib.Omega.{arith}
 use lib.Count.{leadingZeros}
 use lib.Dec.{T, ltb, eqb, ltb→lt, nltb→le, eqb→eq}
 use lib.Ieee.Fits.{eq→eqb}
-use Rattle.rules.specs.Root.{infinity, units, four, square, Nearest}
+use Rattle.rules.specs.Root.{infinity, units, fourfold, squared, Nearest}
 use Rattle.rules.proofs.Nearest.{Nearer, nearest, square-le}
 use Rattle.rules.proofs.Nearest as Near
 use Rattle.number.specs.Steps.{Unpacked, Radicand, Rooted}
@@ -100,7 +100,7 @@ found b p h = go (ltb b (2 ^ 52)) (ltb→lt b (2 ^ 52)) (nltb→le b (2 ^ 52))
     go false l g = from-parts b (b % 2 ^ 52 + 2 ^ 52) (b / 2 ^ 52 + 1073) (normal b (g tt) h)
 
 -- Of a finite value above zero, the root is never as near to another value as to its nearest one.
-pub no-tie : (b r y : ℕ) → 0 < b → b < infinity → Nearest b r → y ≢ r → square (units r + units y) ≢ four b
+pub no-tie : (b r y : ℕ) → 0 < b → b < infinity → Nearest b r → y ≢ r → squared (units r + units y) ≢ fourfold b
 no-tie b r y p h N ne =
     let F = found b p h in
     let e : F .r ≡ r = Near.unique b (F .r) r (nearest b (F .r) (F .nearer)) N in

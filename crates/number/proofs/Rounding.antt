@@ -7,7 +7,7 @@ use native.Mathlib.Nat.{le-refl, le-trans, le-of-eq, le-of-lt, lt-of-lt-of-le, l
 use native.Mathlib.Omega.{arith}
 use lib.Dec.{T, ltb, ltb→lt, nltb→le}
 use lib.Pow.{pow-pos}
-use Rattle.rules.specs.Root.{infinity, units, four}
+use Rattle.rules.specs.Root.{infinity, units, fourfold}
 use Rattle.rules.proofs.Units.{units-at, units-lt, units-le}
 use Rattle.rules.proofs.Nearest.{Nearer, square-le, square-lt}
 use Rattle.number.specs.Steps.{Unpacked, Radicand, Rooted}
@@ -31,16 +31,16 @@ module _ (b h q rem : ℕ) (val : units b * 2 ^ 1074 ≡ (q * q + rem) * (2 ^ h 
   abbrev n : ℕ
   n = q * q + rem
 
-  four-is : four b ≡ 4 * n * (p * p)
+  four-is : fourfold b ≡ 4 * n * (p * p)
   four-is = ap (λ (x : ℕ). 4 * x) val ∙ sym (mul-assoc 4 n (p * p))
 
-  over : (c s : ℕ) → 4 * n < c * c → c * p ≤ s → four b < s * s
+  over : (c s : ℕ) → 4 * n < c * c → c * p ≤ s → fourfold b < s * s
   over c s l g = lt-of-le-of-lt (le-of-eq four-is) (lt-of-lt-of-le (mul-lt-mul-of-pos-right l (mul-pos (pow-pos h) (pow-pos h))) (squared c p s g))
 
-  under : (c s : ℕ) → c * c < 4 * n → s ≤ c * p → s * s < four b
+  under : (c s : ℕ) → c * c < 4 * n → s ≤ c * p → s * s < fourfold b
   under c s l g = lt-of-le-of-lt (squared-to c p s g) (lt-of-lt-of-le (mul-lt-mul-of-pos-right l (mul-pos (pow-pos h) (pow-pos h))) (le-of-eq (sym four-is)))
 
-  under-lt : (c s : ℕ) → c * c ≤ 4 * n → s < c * p → s * s < four b
+  under-lt : (c s : ℕ) → c * c ≤ 4 * n → s < c * p → s * s < fourfold b
   under-lt c s l g = lt-of-lt-of-le (squared-to-lt c p s g) (le-trans (mul-le-mul-right (p * p) l) (le-of-eq (sym four-is)))
 
   at-q : units (h * 2 ^ 52 + q) ≡ q * p

@@ -6,7 +6,7 @@ use native.Mathlib.Nat.{le-trans, le-of-eq, le-antisymm, lt-of-lt-of-le, lt-of-l
 use mathlib.Core.Bool.{Bool, true, false, not}
 use lib.Dec.{T, ltb, ltb→lt, nltb→le}
 use native.Mathlib.Omega.{arith}
-use Rattle.rules.specs.Root.{infinity, units, four, square, Nearest}
+use Rattle.rules.specs.Root.{infinity, units, fourfold, squared, Nearest}
 use Rattle.rules.proofs.Units.{units-lt}
 
 pub square-le : (a b : ℕ) → a ≤ b → a * a ≤ b * b
@@ -37,14 +37,14 @@ sum-lt a b c h = omega arith
 not-both : (b r s : ℕ) → Nearest b r → Nearest b s → r < s → ⊥
 not-both b r s R S l =
     let u = units r + units s in
-    let up : four b ≤ square u = R .above s l (S .finite) in
-    let back : square (units s + units r) ≤ four b = S .below r l in
-    let turn : square (units s + units r) ≡ square u = ap square (add-comm (units s) (units r)) in
-    let tie : square u ≡ four b = le-antisymm (le-trans (le-of-eq (sym turn)) back) up in
+    let up : fourfold b ≤ squared u = R .above s l (S .finite) in
+    let back : squared (units s + units r) ≤ fourfold b = S .below r l in
+    let turn : squared (units s + units r) ≡ squared u = ap squared (add-comm (units s) (units r)) in
+    let tie : squared u ≡ fourfold b = le-antisymm (le-trans (le-of-eq (sym turn)) back) up in
     elim (eq-or-lt-of-le l) [
       | inl e ↦ both-even r s e (R .even s (S .finite) (differ r s l) tie) (S .even r (R .finite) (differ' r s l) (turn ∙ tie))
       | inr m ↦
-          lt-irrefl (four b)
+          lt-irrefl (fourfold b)
           (lt-of-le-of-lt (R .above (suc r) (lt-suc-self r) (lt-of-lt-of-le m (le-of-lt (S .finite))))
           (lt-of-lt-of-le (square-lt (units r + units (suc r)) u (sum-lt (units r) (units (suc r)) (units s) (units-lt (suc r) s m))) (le-of-eq tie)))
     ]
@@ -60,15 +60,15 @@ unique b r s R S = go (ltb r s) (ltb→lt r s) (nltb→le r s)
 
 pub record Nearer (b r : ℕ) : Type 0 where
   pub finite : r < infinity
-  pub above : (y : ℕ) → r < y → four b < square (units r + units y)
-  pub below : (y : ℕ) → y < r → square (units r + units y) < four b
+  pub above : (y : ℕ) → r < y → fourfold b < squared (units r + units y)
+  pub below : (y : ℕ) → y < r → squared (units r + units y) < fourfold b
 
-pub no-tie : (b r : ℕ) → Nearer b r → (y : ℕ) → y ≢ r → square (units r + units y) ≢ four b
+pub no-tie : (b r : ℕ) → Nearer b r → (y : ℕ) → y ≢ r → squared (units r + units y) ≢ fourfold b
 no-tie b r N y ne e = go (ltb r y) (ltb→lt r y) (nltb→le r y)
   where
     go : (t : Bool) → (T t → r < y) → (T (not t) → y ≤ r) → ⊥
-    go true l g = lt-irrefl (four b) (lt-of-lt-of-le (N .above y (l tt)) (le-of-eq e))
-    go false l g = elim (eq-or-lt-of-le (g tt)) [ inl p ↦ ne p | inr m ↦ lt-irrefl (four b) (lt-of-le-of-lt (le-of-eq (sym e)) (N .below y m)) ]
+    go true l g = lt-irrefl (fourfold b) (lt-of-lt-of-le (N .above y (l tt)) (le-of-eq e))
+    go false l g = elim (eq-or-lt-of-le (g tt)) [ inl p ↦ ne p | inr m ↦ lt-irrefl (fourfold b) (lt-of-le-of-lt (le-of-eq (sym e)) (N .below y m)) ]
 
 pub nearest : (b r : ℕ) → Nearer b r → Nearest b r
 nearest b r N = record {

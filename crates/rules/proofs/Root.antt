@@ -9,7 +9,7 @@ use lib.Dec.{T, lit<, ltb, eqb, ltb→lt, nltb→le, eqb→eq, lt→ltb}
 use lib.Ieee.{Float, nan, inf, fin}
 use lib.Ieee.Fits.{and-l, and-r, and-i, eq→eqb}
 use Rattle.rules.specs.Number.{floatOf, bitsOf}
-use Rattle.rules.specs.Root.{infinity, units, four, square, middleBelow, reached, greatest, rootPattern, root, Nearest, IsRoot}
+use Rattle.rules.specs.Root.{infinity, units, fourfold, squared, middleBelow, reached, greatest, rootPattern, root, Nearest, IsRoot}
 use Rattle.rules.proofs.Units.{units-le}
 use Rattle.rules.proofs.Nearest.{square-le}
 use Rattle.rules.proofs.Nearest as Near
@@ -60,16 +60,16 @@ less-by-one : (q : ℕ) → q + 1 - 1 ≡ q
 less-by-one q = omega arith
 
 -- two sums of values, by their greater patterns
-sum-le : (a x y : ℕ) → x ≤ y → square (units a + units x) ≤ square (units a + units y)
+sum-le : (a x y : ℕ) → x ≤ y → squared (units a + units x) ≤ squared (units a + units y)
 sum-le a x y h = square-le (units a + units x) (units a + units y) (more (units a) (units x) (units y) (units-le x y h))
   where
     more : (a x y : ℕ) → x ≤ y → a + x ≤ a + y
     more a x y h = omega arith
 
 -- at a pattern that is reached
-at-reached : (b q : ℕ) → T (reached b q) → (square (units q + units (q - 1)) ≤ four b) × (square (units q + units (q - 1)) ≡ four b → q % 2 ≡ 0)
+at-reached : (b q : ℕ) → T (reached b q) → (squared (units q + units (q - 1)) ≤ fourfold b) × (squared (units q + units (q - 1)) ≡ fourfold b → q % 2 ≡ 0)
 unfolding reached
-at-reached b q t = below-is (square (units q + units (q - 1))) (four b) (q % 2) (and-r (ltb q infinity) (middleBelow b q) t)
+at-reached b q t = below-is (squared (units q + units (q - 1))) (fourfold b) (q % 2) (and-r (ltb q infinity) (middleBelow b q) t)
 
 reached-finite : (b q : ℕ) → T (reached b q) → q < infinity
 unfolding reached
@@ -77,12 +77,12 @@ reached-finite b q t = ltb→lt q infinity (and-l (ltb q infinity) (middleBelow 
 
 -- at the first finite one that is not
 at-past : (b q : ℕ) → T (not (reached b (q + 1))) → q + 1 < infinity
-    → (four b ≤ square (units q + units (q + 1))) × (square (units q + units (q + 1)) ≡ four b → (q + 1) % 2 ≢ 0)
+    → (fourfold b ≤ squared (units q + units (q + 1))) × (squared (units q + units (q + 1)) ≡ fourfold b → (q + 1) % 2 ≢ 0)
 unfolding reached
 at-past b q t h =
-    let u = above-is (square (units (q + 1) + units (q + 1 - 1))) (four b) ((q + 1) % 2) (open-it (ltb (q + 1) infinity) (middleBelow b (q + 1)) (lt→ltb (q + 1) infinity h) t) in
-    let e : square (units (q + 1) + units (q + 1 - 1)) ≡ square (units q + units (q + 1)) =
-    ap (λ (n : ℕ). square (units (q + 1) + units n)) (less-by-one q) ∙ ap square (add-comm (units (q + 1)) (units q)) in
+    let u = above-is (squared (units (q + 1) + units (q + 1 - 1))) (fourfold b) ((q + 1) % 2) (open-it (ltb (q + 1) infinity) (middleBelow b (q + 1)) (lt→ltb (q + 1) infinity h) t) in
+    let e : squared (units (q + 1) + units (q + 1 - 1)) ≡ squared (units q + units (q + 1)) =
+    ap (λ (n : ℕ). squared (units (q + 1) + units n)) (less-by-one q) ∙ ap squared (add-comm (units (q + 1)) (units q)) in
     (le-trans (u .0) (le-of-eq e), λ p. u .1 (e ∙ p))
   where
     open-it : (a b : Bool) → T a → T (not (a && b)) → T (not b)
@@ -91,30 +91,30 @@ at-past b q t h =
 
 module _ (b q : ℕ) (F : Found b q (q + 1)) where
   -- the pattern above is no nearer
-  after : (y : ℕ) → q < y → y < infinity → (four b ≤ square (units q + units (q + 1))) × (square (units q + units (q + 1)) ≡ four b → (q + 1) % 2 ≢ 0)
+  after : (y : ℕ) → q < y → y < infinity → (fourfold b ≤ squared (units q + units (q + 1))) × (squared (units q + units (q + 1)) ≡ fourfold b → (q + 1) % 2 ≢ 0)
   after y h k = at-past b q (F .past) (omega arith)
 
-  above : (y : ℕ) → q < y → y < infinity → four b ≤ square (units q + units y)
+  above : (y : ℕ) → q < y → y < infinity → fourfold b ≤ squared (units q + units y)
   above y h k = le-trans (after y h k .0) (sum-le q (q + 1) y (omega arith))
 
   -- nor is the pattern below
-  before : (y : ℕ) → y < q → (square (units q + units (q - 1)) ≤ four b) × (square (units q + units (q - 1)) ≡ four b → q % 2 ≡ 0)
+  before : (y : ℕ) → y < q → (squared (units q + units (q - 1)) ≤ fourfold b) × (squared (units q + units (q - 1)) ≡ fourfold b → q % 2 ≡ 0)
   before y h = at-reached b q (F .here (λ e. omega arith))
 
-  below : (y : ℕ) → y < q → square (units q + units y) ≤ four b
+  below : (y : ℕ) → y < q → squared (units q + units y) ≤ fourfold b
   below y h = le-trans (sum-le q y (q - 1) (omega arith)) (before y h .0)
 
   -- a tie with a pattern above, and with one below
-  tie-above : (y : ℕ) → q < y → y < infinity → square (units q + units y) ≡ four b → q % 2 ≡ 0
+  tie-above : (y : ℕ) → q < y → y < infinity → squared (units q + units y) ≡ fourfold b → q % 2 ≡ 0
   tie-above y h k e = odd-next q (after y h k .1 (le-antisymm (le-trans (sum-le q (q + 1) y (omega arith)) (le-of-eq e)) (after y h k .0)))
     where
       odd-next : (q : ℕ) → (q + 1) % 2 ≢ 0 → q % 2 ≡ 0
       odd-next q h = omega arith
 
-  tie-below : (y : ℕ) → y < q → square (units q + units y) ≡ four b → q % 2 ≡ 0
+  tie-below : (y : ℕ) → y < q → squared (units q + units y) ≡ fourfold b → q % 2 ≡ 0
   tie-below y h e = before y h .1 (le-antisymm (before y h .0) (le-trans (le-of-eq (sym e)) (sum-le q y (q - 1) (omega arith))))
 
-  even : (y : ℕ) → y < infinity → y ≢ q → square (units q + units y) ≡ four b → q % 2 ≡ 0
+  even : (y : ℕ) → y < infinity → y ≢ q → squared (units q + units y) ≡ fourfold b → q % 2 ≡ 0
   even y k ne e = go (ltb q y) (ltb→lt q y) (nltb→le q y)
     where
       go : (t : Bool) → (T t → q < y) → (T (not t) → y ≤ q) → q % 2 ≡ 0

@@ -9,12 +9,12 @@ use Rattle.rules.specs.declared.Extent.{Extent}
 use Rattle.rules.specs.declared.Visit.{Visit}
 use Rattle.rules.specs.declared.Visit.the-variants.{Continue}
 use Rattle.rules.specs.Plain.{branch, foldl, upTo}
-use Rattle.rules.specs.Outcome.{Outcome, done, _>>=_, given, foldStages}
+use Rattle.rules.specs.Outcome.{Outcome, done, _>>=_, foldStages}
 use Rattle.rules.specs.Number.{_⊕_, _⊖_, _⊗_, _⊘_, 0·, 1·, plainZero, xAt, yAt}
 use Rattle.rules.specs.Root.{root}
 use Rattle.rules.specs.Tree.{Tree, treeOf, treeCheck}
-use Rattle.rules.specs.Walk.{Entry, internal, tip, Counted, Step, after, stopIf, walk, valued}
-use Rattle.rules.specs.Flow.{Flow, flow, push, Gap, gap, length², shaken, lengthened}
+use Rattle.rules.specs.Walk.{Entry, internal, tip, Counted, After, after, stopIf, walk, valued}
+use Rattle.rules.specs.Flow.{Flow, flow, pushed, Gap, gap, length², shaken, lengthened}
 
 -- ---- radii
 
@@ -22,21 +22,20 @@ use Rattle.rules.specs.Flow.{Flow, flow, push, Gap, gap, length², shake
 abbrev pub greater : Float → Float → Float
 greater a b = cond (lt a b) b a
 
-module _ (at radii : List Float) where
-  abbrev pub radiusOf : ℕ → Float
-  radiusOf j = plainZero (getD radii j nan)
+abbrev pub radiusOf : List Float → ℕ → Float
+radiusOf radii j = plainZero (getD radii j nan)
 
-  -- the first chain member's
-  abbrev pub leafRadius : List ℕ → Float
-  leafRadius [] = nan
-  leafRadius (j ∷ js) = radiusOf j
+-- the first chain member's
+abbrev pub leafRadius : List Float → List ℕ → Float
+leafRadius radii [] = nan
+leafRadius radii (j ∷ js) = radiusOf radii j
 
-  -- its greatest child's
-  abbrev pub nodeRadius : List Float → Float
-  nodeRadius rs = foldl greater 0· rs
+-- its greatest child's
+abbrev pub nodeRadius : List Float → Float
+nodeRadius rs = foldl greater 0· rs
 
-  unfoldable pub radiusTree : Tree (Extent × Float)
-  radiusTree = valued (λ c is. leafRadius is) (λ c rs. nodeRadius rs) (treeOf at (length radii))
+unfoldable pub radiusTree : List Float → List Float → Tree (Extent × Float)
+radiusTree at radii = valued (λ c is. leafRadius radii is) (λ c rs. nodeRadius rs) (treeOf at (length radii))
 
 -- ---- particle i and one node
 
@@ -52,24 +51,25 @@ away at i c reach = beyond (c .x0) (c .x1) (xAt at i) reach || beyond (c .y0) (c
 abbrev pub gapFrom : List Float → List Float → ℕ → ℕ → Gap
 gapFrom at vs i j = gap (xAt at i ⊖ xAt at j ⊖ xAt vs j) (yAt at i ⊖ yAt at j ⊖ yAt vs j)
 
-module _ (at radii : List Float) (strength : Float) (i : ℕ) where
-  -- both are pushed apart, each by the other's share; g is the gap, l its square length
-  unfoldable pub parted : Float → ℕ → Gap → Float → List Float → List Float
-  parted rj j g l vs =
-      let ri = radiusOf at radii i in
-      let f = (ri ⊕ rj ⊖ root l) ⊘ root l ⊗ strength in
-      let x = g .x ⊗ f in
-      let y = g .y ⊗ f in
-      let share = rj ⊗ rj ⊘ (ri ⊗ ri ⊕ rj ⊗ rj) in
-      push _⊖_ (push _⊕_ vs i (x ⊗ share) (y ⊗ share)) j (x ⊗ (1· ⊖ share)) (y ⊗ (1· ⊖ share))
+-- Particles i and j, of radii ri and rj, are pushed apart, each by the other's share; r is the sum of the radii, g the gap, l its square length.
+unfoldable pub parted : Float → ℕ → ℕ → Float → Float → Float → Gap → Float → List Float → List Float
+parted strength i j ri rj r g l vs =
+    let f = (r ⊖ root l) ⊘ root l ⊗ strength in
+    let x = g .x ⊗ f in
+    let y = g .y ⊗ f in
+    let share = rj ⊗ rj ⊘ (ri ⊗ ri ⊕ rj ⊗ rj) in
+    pushed _⊖_ (pushed _⊕_ vs i (x ⊗ share) (y ⊗ share)) j (x ⊗ (1· ⊖ share)) (y ⊗ (1· ⊖ share))
 
+module _ (at radii : List Float) (strength : Float) (i : ℕ) where
   -- the particle against the first member j of a leaf, whose radius is rj
   unfoldable pub meet : Float → ℕ → Flow → Outcome Flow
   meet rj j σ =
-      let r = radiusOf at radii i ⊕ rj in
+      let ri = radiusOf radii i in
+      let r = ri ⊕ rj in
       let g = gapFrom at (σ .speeds) i j in
-      branch (lt (length² g) (r ⊗ r))
-      (λ _. shaken g (σ .draws) >>= λ s. done (flow (parted rj j (s .gap) (lengthened (length² g) g (s .gap)) (σ .speeds)) (s .left)))
+      let l = length² g in
+      branch (lt l (r ⊗ r))
+      (λ _. shaken g (σ .draws) >>= λ s. done (flow (parted strength i j ri rj r (s .gap) (lengthened l g (s .gap)) (σ .speeds)) (s .left)))
       (λ _. done σ)
 
   -- only the first member acts, and only if its index is greater
@@ -77,8 +77,8 @@ module _ (at radii : List Float) (strength : Float) (i : ℕ) where
   meetFirst rj [] σ = done σ
   meetFirst rj (j ∷ js) σ = branch (ltb i j) (λ _. meet rj j σ) (λ _. done σ)
 
-  unfoldable pub collideStep : Entry (Extent × Float) → Flow → Outcome (Step Flow)
-  collideStep (internal n) σ = done (after σ (stopIf (away at i (n .0) (radiusOf at radii i ⊕ n .1))))
+  unfoldable pub collideStep : Entry (Extent × Float) → Flow → Outcome (After Flow)
+  collideStep (internal n) σ = done (after σ (stopIf (away at i (n .0) (radiusOf radii i ⊕ n .1))))
   collideStep (tip n is) σ = meetFirst (n .1) is σ >>= λ σ. done (after σ Continue)
 
 -- ---- the force
@@ -87,10 +87,10 @@ module _ (at radii : List Float) (strength : Float) (i : ℕ) where
 unfoldable pub collideOnce : List Float → List Float → Float → ℕ → Counted Flow → Outcome (Counted Flow)
 collideOnce at radii strength slots m =
     let n = length radii in
-    given (treeCheck at n slots) (λ _.
+    treeCheck at n slots >>= λ _.
     let t = radiusTree at radii in
-    foldStages (λ m i. walk (collideStep at radii strength i) t m) m (upTo n))
+    foldStages (λ m i. walk (collideStep at radii strength i) t m) m (upTo n)
 
 -- where there is no iteration no tree is built
-unfoldable pub collide : List Float → List Float → Float → ℕ → ℕ → Counted Flow → Outcome (Counted Flow)
-collide at radii strength iterations slots m = foldStages (λ m _. collideOnce at radii strength slots m) m (upTo iterations)
+unfoldable pub runCollide : List Float → List Float → Float → ℕ → ℕ → Counted Flow → Outcome (Counted Flow)
+runCollide at radii strength iterations slots m = foldStages (λ m _. collideOnce at radii strength slots m) m (upTo iterations)

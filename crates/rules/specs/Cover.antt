@@ -5,7 +5,7 @@ use Prim.Native.Nat.{ℕ, zero, suc, _+_}
 use lib.IntN.{ℤ, pos, _+ℤ_, _-ℤ_}
 use lib.Signed.{ltZ, leZ}
 use lib.Ieee.{Float, binary64, ofInt}
-use Rattle.rules.specs.Plain.{branch, foldl}
+use Rattle.rules.specs.Plain.{branch, foldl, upTo}
 use Rattle.rules.specs.Number.{xAt, yAt}
 use Rattle.rules.specs.Floor.{floor}
 use Rattle.rules.specs.declared.Extent.{Extent}
@@ -57,6 +57,10 @@ coverPoint (holds s) x y = holds (doubled mostDoublings x y (s .x1 -ℤ s .x0) s
 -- the points of these numbers, in order
 unfoldable pub coverAll : List Float → List ℕ → Covered
 coverAll at is = foldl (λ c i. coverPoint c (floor (xAt at i)) (floor (yAt at i))) nothing is
+
+-- the first n points
+abbrev pub coverFirst : List Float → ℕ → Covered
+coverFirst at n = coverAll at (upTo n)
 
 -- a whole number held as f64
 abbrev pub whole : ℤ → Float

@@ -5,7 +5,7 @@ use lib.IntN.{ℤ, pos, negsuc, negℤ}
 use lib.Signed.{_≤ℤ_}
 use lib.Ieee.{Float, nan, inf, fin, up, down}
 use Rattle.rules.specs.declared.FloorAnswer.{FloorAnswer}
-use Rattle.rules.specs.Outcome.{Outcome, done, require, given, refusalOf, ifDone}
+use Rattle.rules.specs.Outcome.{Outcome, done, require, _>>=_, refusalOf, ifDone}
 use Rattle.rules.specs.Number.{within}
 
 -- n / d rounded up
@@ -22,7 +22,7 @@ floor (fin true m e) = negℤ (pos (ceiling (m * up e) (down e)))
 -- ---- the call: what refusal 4 names is refused so
 
 unfoldable pub floorResult : Float → Outcome ℤ
-floorResult x = given (require (within x) 4 0) (λ _. done (floor x))
+floorResult x = require (within x) 4 0 >>= λ _. done (floor x)
 
 unfoldable pub floorAnswer : Float → FloorAnswer
 floorAnswer x = let o = floorResult x in record { refusal = refusalOf o; value = ifDone o (λ z. z) (pos 0) }

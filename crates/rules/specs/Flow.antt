@@ -16,8 +16,8 @@ abbrev pub flow : List Float → List Float → Flow
 flow vs ds = record { speeds = vs; draws = ds }
 
 -- a particle's velocity, changed by `op` on both axes
-unfoldable pub push : (Float → Float → Float) → List Float → ℕ → Float → Float → List Float
-push op vs i dx dy = setPair vs i (op (xAt vs i) dx) (op (yAt vs i) dy)
+unfoldable pub pushed : (Float → Float → Float) → List Float → ℕ → Float → Float → List Float
+pushed op vs i dx dy = setPair vs i (op (xAt vs i) dx) (op (yAt vs i) dy)
 
 -- ---- draws, used in order
 

@@ -68,7 +68,7 @@ pushRanges (link links strengths distances iterations) = strengthsCheck strength
 
 -- no node is handed out by Link
 unfoldable pub run : Push → List Float → Float → ℕ → Counted Flow → Outcome (Counted Flow)
-run (manyBody strengths) at alpha slots m = M.manyBody M.standard at strengths alpha slots m
-run (collide radii strength iterations) at alpha slots m = C.collide at radii strength iterations slots m
+run (manyBody strengths) at alpha slots m = M.runManyBody M.standard at strengths alpha slots m
+run (collide radii strength iterations) at alpha slots m = C.runCollide at radii strength iterations slots m
 run (link links strengths distances iterations) at alpha slots m =
-    L.link at links strengths distances iterations alpha (m .state) >>= λ σ. done (counted σ (m .visits))
+    L.runLink at links strengths distances iterations alpha (m .state) >>= λ σ. done (counted σ (m .visits))

@@ -9,7 +9,7 @@ use Rattle.rules.specs.Plain.{branch, upTo}
 use Rattle.rules.specs.Outcome.{Outcome, done, _>>=_, foldStages}
 use Rattle.rules.specs.Number.{_⊕_, _⊖_, _⊗_, _⊘_, 1·, float, xAt, yAt}
 use Rattle.rules.specs.Root.{root}
-use Rattle.rules.specs.Flow.{Flow, flow, push, Gap, gap, length², shaken}
+use Rattle.rules.specs.Flow.{Flow, flow, pushed, Gap, gap, length², shaken}
 
 pub record Ends : Type 0 where
   pub source : ℕ
@@ -54,7 +54,7 @@ module _ (at : List Float) (links : List Ends) (strengths distances : List Float
       let d = root (length² g) in
       let l = (d ⊖ getD distances k nan) ⊘ d ⊗ alpha ⊗ strengthAt links strengths k e in
       let b = bias links e in
-      push _⊕_ (push _⊖_ vs (e .target) (g .x ⊗ l ⊗ b) (g .y ⊗ l ⊗ b)) (e .source) (g .x ⊗ l ⊗ (1· ⊖ b)) (g .y ⊗ l ⊗ (1· ⊖ b))
+      pushed _⊕_ (pushed _⊖_ vs (e .target) (g .x ⊗ l ⊗ b) (g .y ⊗ l ⊗ b)) (e .source) (g .x ⊗ l ⊗ (1· ⊖ b)) (g .y ⊗ l ⊗ (1· ⊖ b))
 
   -- self-links are skipped
   unfoldable pub pull : ℕ → Ends → Flow → Outcome Flow
@@ -70,6 +70,6 @@ module _ (at : List Float) (links : List Ends) (strengths distances : List Float
 
 -- ---- the force
 
-unfoldable pub link : List Float → List Ends → List Float → List Float → ℕ → Float → Flow → Outcome Flow
-link at links strengths distances iterations alpha σ =
+unfoldable pub runLink : List Float → List Ends → List Float → List Float → ℕ → Float → Flow → Outcome Flow
+runLink at links strengths distances iterations alpha σ =
     foldStages (λ σ _. pullFrom at links strengths distances alpha 0 links σ) σ (upTo iterations)

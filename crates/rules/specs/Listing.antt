@@ -1,5 +1,4 @@
 -- The lister: what it writes, as bytes. Definitions only.
-use mathlib.Core.Bool.{true}
 use mathlib.Core.List.{List, [], _∷_, _++_, map}
 use Prim.Native.String.{String, [] as []ˢ, _∷_ as _∷ˢ_}
 use Prim.Native.Char.{code}
@@ -9,12 +8,11 @@ use lib.IntN.{ℤ, pos, negsuc}
 use lib.ListN.{take, drop}
 use Rattle.rules.specs.declared.Extent.{Extent}
 use Rattle.rules.specs.declared.Refusal.{Refusal}
-use Rattle.rules.specs.Plain.{branch, upTo}
-use Rattle.rules.specs.Outcome.{Outcome, done, refused}
-use Rattle.rules.specs.Sheet.{countOf, particlesOf, placesOf}
-use Rattle.rules.specs.Cover.{Square, Covered, nothing, holds, coverAll}
+use Rattle.rules.specs.Plain.{branch}
+use Rattle.rules.specs.Outcome.{Outcome, done, refused, fine}
+use Rattle.rules.specs.Cover.{Square, Covered, nothing, holds}
 use Rattle.rules.specs.Tree.{Tree, Row, rowsOf, chainsOf}
-use Rattle.rules.specs.Calls.{treeOfSheet}
+use Rattle.rules.specs.Calls.{treeOfSheet, coverSheet}
 
 -- ---- text
 
@@ -72,8 +70,8 @@ abbrev pub listerSlots : ℕ
 listerSlots = 1024
 
 abbrev pub listing : List ℕ → Outcome (Tree Extent) → List ℕ
-listing sheet (done t) = extentLine (coverAll (placesOf (particlesOf sheet)) (upTo (countOf sheet))) ++ rowLines (rowsOf t) (chainsOf t)
+listing sheet (done t) = extentLine (coverSheet sheet) ++ rowLines (rowsOf t) (chainsOf t)
 listing sheet (refused r) = line (ascii "refused" ∷ decimal (r .number) ∷ [])
 
 unfoldable pub lister : List ℕ → List ℕ
-lister sheet = listing sheet (treeOfSheet mostListed true sheet listerSlots)
+lister sheet = listing sheet (treeOfSheet mostListed listerSlots fine sheet)

@@ -10,12 +10,12 @@ use Rattle.rules.specs.declared.Tuning.{Tuning}
 use Rattle.rules.specs.declared.Visit.{Visit}
 use Rattle.rules.specs.declared.Visit.the-variants.{Continue, Skip}
 use Rattle.rules.specs.Plain.{branch, foldl, keep, upTo}
-use Rattle.rules.specs.Outcome.{Outcome, done, _>>=_, given, foldStages}
+use Rattle.rules.specs.Outcome.{Outcome, done, _>>=_, foldStages}
 use Rattle.rules.specs.Number.{_⊕_, _⊖_, _⊗_, _⊘_, 0·, 1·, floatOf, infinite, abs, plainZero, xAt, yAt}
 use Rattle.rules.specs.Root.{root}
 use Rattle.rules.specs.Tree.{Tree, treeOf, treeCheck}
-use Rattle.rules.specs.Walk.{Entry, internal, tip, Counted, Step, after, walk, valued}
-use Rattle.rules.specs.Flow.{Flow, flow, push, Gap, gap, length², shaken, lengthened}
+use Rattle.rules.specs.Walk.{Entry, internal, tip, Counted, After, after, walk, valued}
+use Rattle.rules.specs.Flow.{Flow, flow, pushed, Gap, gap, length², shaken, lengthened}
 
 -- ---- settings
 
@@ -56,24 +56,22 @@ nodeCharge qs =
     let s = foldl withChild (record { x = 0·; y = 0·; strength = 0·; weight = 0· }) qs in
     charge (s .x ⊘ s .weight) (s .y ⊘ s .weight) (s .strength)
 
-module _ (at strengths : List Float) where
-  abbrev pub strengthOf : ℕ → Float
-  strengthOf j = plainZero (getD strengths j nan)
+abbrev pub strengthOf : List Float → ℕ → Float
+strengthOf strengths j = plainZero (getD strengths j nan)
 
-  -- the first particle's place; its strength plus the sum of the rest from 0.0
-  unfoldable pub leafCharge : List ℕ → Charge
-  leafCharge [] = charge nan nan nan
-  leafCharge (i ∷ is) = charge (xAt at i) (yAt at i) (strengthOf i ⊕ foldl _⊕_ 0· (map strengthOf is))
+-- the first particle's place; its strength plus the sum of the rest from 0.0
+unfoldable pub leafCharge : List Float → List Float → List ℕ → Charge
+leafCharge at strengths [] = charge nan nan nan
+leafCharge at strengths (i ∷ is) = charge (xAt at i) (yAt at i) (strengthOf strengths i ⊕ foldl _⊕_ 0· (map (strengthOf strengths) is))
 
-  unfoldable pub chargedTree : Tree (Extent × Charge)
-  chargedTree = valued (λ c is. leafCharge is) (λ c qs. nodeCharge qs) (treeOf at (length strengths))
+unfoldable pub chargedTree : List Float → List Float → Tree (Extent × Charge)
+chargedTree at strengths = valued (λ c is. leafCharge at strengths is) (λ c qs. nodeCharge qs) (treeOf at (length strengths))
 
 -- ---- particle i and one node
 
-module _ (at : List Float) (i : ℕ) where
-  -- from the particle to a node's centre
-  abbrev pub gapTo : Charge → Gap
-  gapTo q = gap (q .x ⊖ xAt at i) (q .y ⊖ yAt at i)
+-- from the particle to a node's centre
+abbrev pub gapTo : List Float → ℕ → Charge → Gap
+gapTo at i q = gap (q .x ⊖ xAt at i) (q .y ⊖ yAt at i)
 
 -- w * w / theta_2 < l; false where l is a NaN
 unfoldable pub far : Tuning → Extent → Float → Bool
@@ -93,47 +91,46 @@ alone i [] = true
 alone i (j ∷ []) = eqb j i
 alone i (j ∷ k ∷ ks) = false
 
-module _ (t : Tuning) (at strengths : List Float) (alpha : Float) (i : ℕ) where
-  -- With the draws that are needed, what the gap g and its length l do to the velocities.
-  abbrev pub acted : Gap → (Gap → Float → List Float → List Float) → Flow → Outcome Flow
-  acted g act σ = shaken g (σ .draws) >>= λ s. done (flow (act (s .gap) (softened t (lengthened (length² g) g (s .gap))) (σ .speeds)) (s .left))
-
-  -- a far cell acts whole
+module _ (t : Tuning) (strengths : List Float) (alpha : Float) (i : ℕ) where
+  -- what a gap g of length l does to the velocities: a far cell acts whole
   unfoldable pub pullWhole : Float → Gap → Float → List Float → List Float
-  pullWhole strength g l vs = push _⊕_ vs i (g .x ⊗ strength ⊗ alpha ⊘ l) (g .y ⊗ strength ⊗ alpha ⊘ l)
+  pullWhole strength g l vs = pushed _⊕_ vs i (g .x ⊗ strength ⊗ alpha ⊘ l) (g .y ⊗ strength ⊗ alpha ⊘ l)
 
-  -- in a near leaf one member acts
+  -- one member of a near leaf
   unfoldable pub pullMember : Gap → Float → List Float → ℕ → List Float
-  pullMember g l vs j = let w = strengthOf at strengths j ⊗ alpha ⊘ l in push _⊕_ vs i (g .x ⊗ w) (g .y ⊗ w)
+  pullMember g l vs j = let w = strengthOf strengths j ⊗ alpha ⊘ l in pushed _⊕_ vs i (g .x ⊗ w) (g .y ⊗ w)
 
-  -- all members but the particle itself act, with the same x, y and l
+  -- all members but the particle itself, with the same x, y and l
   abbrev pub pullMembers : List ℕ → Gap → Float → List Float → List Float
   pullMembers is g l vs = foldl (pullMember g l) vs (others i is)
 
-  unfoldable pub actFar : Charge → Flow → Outcome Flow
-  actFar q σ = let g = gapTo at i q in branch (lt (length² g) (t .greatest2)) (λ _. acted g (pullWhole (q .strength)) σ) (λ _. done σ)
+  -- the draws that are needed, then the pull
+  abbrev pub acted : (Gap → Float → List Float → List Float) → Gap → Float → Flow → Outcome Flow
+  acted pull g l σ = shaken g (σ .draws) >>= λ s. done (flow (pull (s .gap) (softened t (lengthened l g (s .gap))) (σ .speeds)) (s .left))
+
+  unfoldable pub actFar : Charge → Gap → Float → Flow → Outcome Flow
+  actFar q g l σ = branch (lt l (t .greatest2)) (λ _. acted (pullWhole (q .strength)) g l σ) (λ _. done σ)
 
   -- a particle alone in its own leaf draws none
-  unfoldable pub actNear : Charge → List ℕ → Flow → Outcome Flow
-  actNear q is σ =
-      let g = gapTo at i q in
-      branch (alone i is || le (t .greatest2) (length² g)) (λ _. done σ) (λ _. acted g (pullMembers is) σ)
+  unfoldable pub actNear : List ℕ → Gap → Float → Flow → Outcome Flow
+  actNear is g l σ = branch (alone i is || le (t .greatest2) l) (λ _. done σ) (λ _. acted (pullMembers is) g l σ)
 
-  -- far cells act whole and are skipped
-  unfoldable pub manyBodyStep : Entry (Extent × Charge) → Flow → Outcome (Step Flow)
-  manyBodyStep (internal n) σ =
-      branch (far t (n .0) (length² (gapTo at i (n .1)))) (λ _. actFar (n .1) σ >>= λ σ. done (after σ Skip)) (λ _. done (after σ Continue))
-  manyBodyStep (tip n is) σ =
-      branch (far t (n .0) (length² (gapTo at i (n .1))))
-      (λ _. actFar (n .1) σ >>= λ σ. done (after σ Skip))
-      (λ _. actNear (n .1) is σ >>= λ σ. done (after σ Continue))
+  -- far cells act whole and are skipped; in a near leaf the members act
+  unfoldable pub meetNode : Extent → Charge → Gap → (Gap → Float → Flow → Outcome Flow) → Flow → Outcome (After Flow)
+  meetNode c q g near σ =
+      let l = length² g in
+      branch (far t c l) (λ _. actFar q g l σ >>= λ σ. done (after σ Skip)) (λ _. near g l σ >>= λ σ. done (after σ Continue))
+
+unfoldable pub manyBodyStep : Tuning → List Float → List Float → Float → ℕ → Entry (Extent × Charge) → Flow → Outcome (After Flow)
+manyBodyStep t at strengths alpha i (internal n) σ = meetNode t strengths alpha i (n .0) (n .1) (gapTo at i (n .1)) (λ g l σ. done σ) σ
+manyBodyStep t at strengths alpha i (tip n is) σ = meetNode t strengths alpha i (n .0) (n .1) (gapTo at i (n .1)) (actNear t strengths alpha i is) σ
 
 -- ---- the force
 
 -- 6 and 7; then per particle in index order, a walk parent first
-unfoldable pub manyBody : Tuning → List Float → List Float → Float → ℕ → Counted Flow → Outcome (Counted Flow)
-manyBody t at strengths alpha slots m =
+unfoldable pub runManyBody : Tuning → List Float → List Float → Float → ℕ → Counted Flow → Outcome (Counted Flow)
+runManyBody t at strengths alpha slots m =
     let n = length strengths in
-    given (treeCheck at n slots) (λ _.
+    treeCheck at n slots >>= λ _.
     let q = chargedTree at strengths in
-    foldStages (λ m i. walk (manyBodyStep t at strengths alpha i) q m) m (upTo n))
+    foldStages (λ m i. walk (manyBodyStep t at strengths alpha i) q m) m (upTo n)

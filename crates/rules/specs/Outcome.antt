@@ -42,10 +42,6 @@ abbrev pub _then_ : Check → Check → Check
 (done t) then c = c
 (refused r) then c = refused r
 
--- what follows, if the check is fine
-abbrev pub given : {A : Type 0} → Check → (Unit {0} → Outcome A) → Outcome A
-given c f = c >>= f
-
 -- each element's check, with the element's number, from i on: the first that refuses
 abbrev pub checkFrom : {A : Type 0} → (ℕ → A → Check) → ℕ → List A → Check
 checkFrom f i [] = fine

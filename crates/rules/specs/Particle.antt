@@ -19,8 +19,8 @@ offset c strength ns = (foldl _⊕_ 0· ns ⊘ float (length ns) ⊖ c) ⊗ stre
 unfoldable pub shifted : Float → Float → Particle → Particle
 shifted sx sy p = particle (p .x ⊖ sx) (p .y ⊖ sy) (p .vx) (p .vy) (p .flags)
 
-unfoldable pub center : Float → Float → Float → List Particle → List Particle
-center x y strength ps =
+unfoldable pub centered : Float → Float → Float → List Particle → List Particle
+centered x y strength ps =
     let sx = offset x strength (map (λ p. p .x) ps) in
     let sy = offset y strength (map (λ p. p .y) ps) in
     map (shifted sx sy) ps

@@ -17,18 +17,18 @@ infinity = 0x7ff0_0000_0000_0000
 unfoldable pub units : ℕ → ℕ
 units b = cond (ltb b (2 ^ 52)) b ((2 ^ 52 + b % 2 ^ 52) * 2 ^ (b / 2 ^ 52 - 1))
 
-abbrev pub square : ℕ → ℕ
-square n = n * n
+abbrev pub squared : ℕ → ℕ
+squared n = n * n
 
--- Four times the square of the root of b's value: that value is `units b` units, so its root squared is units b * 2 ^ 1074 square units.
-abbrev pub four : ℕ → ℕ
-four b = 4 * (units b * 2 ^ 1074)
+-- Four times the square of the root of b's value: that value is `units b` units, so the square of its root is units b * 2 ^ 1074 square units.
+abbrev pub fourfold : ℕ → ℕ
+fourfold b = 4 * (units b * 2 ^ 1074)
 
 -- ---- the root of a finite value above zero
 
 -- The middle of the values of the patterns r - 1 and r lies below the root of b's value, or is the root and r is even. Both sides are doubled and squared.
 abbrev pub middleBelow : ℕ → ℕ → Bool
-middleBelow b r = let s = square (units r + units (r - 1)) in ltb s (four b) || eqb s (four b) && eqb (r % 2) 0
+middleBelow b r = let s = squared (units r + units (r - 1)) in ltb s (fourfold b) || eqb s (fourfold b) && eqb (r % 2) 0
 
 unfoldable pub reached : ℕ → ℕ → Bool
 reached b r = ltb r infinity && middleBelow b r
@@ -62,9 +62,9 @@ rootBits b = bitsOf (root (floatOf b))
 -- Nearer than a larger y: the root is at most the middle of r and y, whose double is units r + units y. Squared, four times.
 pub record Nearest (b r : ℕ) : Type 0 where
   pub finite : r < infinity
-  pub above : (y : ℕ) → r < y → y < infinity → four b ≤ square (units r + units y)
-  pub below : (y : ℕ) → y < r → square (units r + units y) ≤ four b
-  pub even : (y : ℕ) → y < infinity → y ≢ r → square (units r + units y) ≡ four b → r % 2 ≡ 0
+  pub above : (y : ℕ) → r < y → y < infinity → fourfold b ≤ squared (units r + units y)
+  pub below : (y : ℕ) → y < r → squared (units r + units y) ≤ fourfold b
+  pub even : (y : ℕ) → y < infinity → y ≢ r → squared (units r + units y) ≡ fourfold b → r % 2 ≡ 0
 
 -- r is the value of the pattern that is nearest to the root of x's
 pub record RootOf (x r : Float) : Type 0 where

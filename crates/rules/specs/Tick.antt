@@ -1,17 +1,17 @@
 -- simulation.rs: tick and step. Definitions only.
 use mathlib.Core.Bool.{Bool, true, false, cond, _&&_}
-use mathlib.Core.List.{List, [], _∷_, map}
+use mathlib.Core.List.{List, [], _∷_, _++_, map}
 use Prim.Native.Nat.{ℕ, zero, suc, _+_, _-_, _*_}
 use lib.Dec.{leb, eqb}
 use lib.ListN.{length, getD, take, drop}
 use lib.Ieee.{Float, lt, le}
 use Rattle.rules.specs.declared.Particle.{Particle}
 use Rattle.rules.specs.declared.Refusal.{Refusal}
-use Rattle.rules.specs.declared.TickAnswer.{TickAnswer}
+use Rattle.rules.specs.declared.Counts.{Counts}
 use Rattle.rules.specs.declared.StepAnswer.{StepAnswer}
 use Rattle.rules.specs.Plain.{branch, all, sum}
-use Rattle.rules.specs.Outcome.{Outcome, done, refused, refusal, Check, fine, require, _then_, _>>=_, given, checkEach, foldStages, refusalOf, ifDone, workAfter}
-use Rattle.rules.specs.Number.{_⊕_, _⊖_, _⊗_, 0·, floatOf, xAt, yAt}
+use Rattle.rules.specs.Outcome.{Outcome, done, refused, refusal, Check, fine, require, _then_, _>>=_, checkEach, foldStages, refusalOf, ifDone, workAfter}
+use Rattle.rules.specs.Number.{_⊕_, _⊖_, _⊗_, floatOf, bitsOf, xAt, yAt}
 use Rattle.rules.specs.Refusal.{mostParticles, mostLinks, mostTicks, mostIterations, countCheck, lengthsCheck, drawsCheck, settingsCheck, alphaCheck, resultCheck}
 use Rattle.rules.specs.Sheet.{particle, lengthCheck, countOf, particlesOf, sheetOf, recordsCheck, placesOf, speedsOf}
 use Rattle.rules.specs.Walk.{counted}
@@ -30,7 +30,7 @@ pub data Force : Type 0 where
   unknown : Force
 
 -- What is lent of a slot: seven words, the last three a force's settings as f64 bits. Words that a kind doesn't use aren't looked at.
-pub record Entry : Type 0 where
+pub record ForceEntry : Type 0 where
   pub kind : ℕ
   pub iterations : ℕ
   pub links : ℕ
@@ -45,7 +45,7 @@ entrySize = 7
 abbrev pub forceSlots : ℕ
 forceSlots = 8
 
-unfoldable pub entryAt : List ℕ → ℕ → Entry
+unfoldable pub entryAt : List ℕ → ℕ → ForceEntry
 entryAt w at =
     let word : ℕ → ℕ = λ k. getD w (at + k) 0 in
     record {
@@ -59,11 +59,11 @@ entryAt w at =
     }
 
 -- k entries from a place on
-abbrev pub entriesFrom : List ℕ → ℕ → ℕ → List Entry
+abbrev pub entriesFrom : List ℕ → ℕ → ℕ → List ForceEntry
 entriesFrom w at zero = []
 entriesFrom w at (suc k) = entryAt w at ∷ entriesFrom w (at + entrySize) k
 
-abbrev pub entriesOf : List ℕ → List Entry
+abbrev pub entriesOf : List ℕ → List ForceEntry
 entriesOf w = entriesFrom w 0 forceSlots
 
 -- one of these, by the kind: empty, ManyBody, Collide, Link, Center, and any other
@@ -76,24 +76,24 @@ byKind (suc (suc (suc (suc zero)))) e m c l z u = z
 byKind (suc (suc (suc (suc (suc k))))) e m c l z u = u
 
 -- 1: iterations of Collide and Link, links of Link
-abbrev pub entryCounts : Entry → Check
+abbrev pub entryCounts : ForceEntry → Check
 entryCounts e =
     let iterations = countCheck mostIterations (e .iterations) in
     byKind (e .kind) fine fine iterations (countCheck mostLinks (e .links) then iterations) fine fine
 
 -- how many numbers and links a slot needs, of n particles
-abbrev pub numbersNeeded : ℕ → Entry → ℕ
+abbrev pub numbersNeeded : ℕ → ForceEntry → ℕ
 numbersNeeded n e = byKind (e .kind) 0 n n (e .strengths + e .links) 0 0
 
-abbrev pub linksNeeded : Entry → ℕ
+abbrev pub linksNeeded : ForceEntry → ℕ
 linksNeeded e = byKind (e .kind) 0 0 0 (e .links) 0 0
 
 -- a link's strengths are none or one for each
-abbrev pub strengthsRight : Entry → Bool
+abbrev pub strengthsRight : ForceEntry → Bool
 strengthsRight e = byKind (e .kind) true true true (noneOr (e .links) (e .strengths)) true true
 
 -- the force of a slot, from the numbers and link ends that are left
-unfoldable pub forceOf : ℕ → Entry → List Float → List ℕ → Force
+unfoldable pub forceOf : ℕ → ForceEntry → List Float → List ℕ → Force
 forceOf n e numbers links =
     byKind (e .kind)
     empty
@@ -104,7 +104,7 @@ forceOf n e numbers links =
     unknown
 
 -- the slots' lists are lent one after another
-abbrev pub forcesFrom : ℕ → List Entry → List Float → List ℕ → List Force
+abbrev pub forcesFrom : ℕ → List ForceEntry → List Float → List ℕ → List Force
 forcesFrom n [] numbers links = []
 forcesFrom n (e ∷ es) numbers links = forceOf n e numbers links ∷ forcesFrom n es (drop (numbersNeeded n e) numbers) (drop (linksNeeded e * 2) links)
 
@@ -132,9 +132,10 @@ pub record Settings : Type 0 where
 abbrev pub settings : Float → Float → Float → Settings
 settings target decay velocityDecay = record { alphaTarget = target; alphaDecay = decay; velocityDecay = velocityDecay }
 
--- a sheet, the words of the force slots, their numbers and link ends, draws, and work slots
+-- a sheet, alpha's bits, the words of the force slots (an array of 56), their numbers and link ends, draws, and work slots
 pub record SheetInput : Type 0 where
   pub sheet : List ℕ
+  pub alpha : ℕ
   pub forces : List ℕ
   pub numbers : List Float
   pub links : List ℕ
@@ -145,7 +146,7 @@ module _ (l : SheetInput) where
   abbrev pub count : ℕ
   count = countOf (l .sheet)
 
-  abbrev pub entries : List Entry
+  abbrev pub entries : List ForceEntry
   entries = entriesOf (l .forces)
 
   abbrev pub forces : List Force
@@ -184,17 +185,18 @@ abbrev pub state : List Particle → Float → List Float → ℕ → State
 state ps a ds v = record { particles = ps; alpha = a; draws = ds; visits = v }
 
 -- alpha += (target - alpha) * decay
-unfoldable pub cooled : Settings → Float → Float
-cooled s alpha = alpha ⊕ (s .alphaTarget ⊖ alpha) ⊗ s .alphaDecay
+unfoldable pub nextAlpha : Settings → Float → Float
+nextAlpha s alpha = alpha ⊕ (s .alphaTarget ⊖ alpha) ⊗ s .alphaDecay
 
 unfoldable pub alphaStage : Settings → State → Outcome State
 alphaStage s m =
-    let a = cooled s (m .alpha) in
-    given (alphaCheck a) (λ _. done (state (m .particles) a (m .draws) (m .visits)))
+    let a = nextAlpha s (m .alpha) in
+    alphaCheck a >>= λ _.
+    done (state (m .particles) a (m .draws) (m .visits))
 
 -- the state with these particles, if they are in range
 abbrev pub settled : List Particle → State → Outcome State
-settled ps m = given (resultCheck (placesOf ps) (speedsOf ps)) (λ _. done (state ps (m .alpha) (m .draws) (m .visits)))
+settled ps m = resultCheck (placesOf ps) (speedsOf ps) >>= λ _. done (state ps (m .alpha) (m .draws) (m .visits))
 
 -- the particles from number i on, with these velocities
 abbrev pub withSpeedsFrom : ℕ → List Float → List Particle → List Particle
@@ -213,7 +215,7 @@ pushStage slots f m =
 abbrev pub forceStage : ℕ → State → Force → Outcome State
 forceStage slots m empty = done m
 forceStage slots m (push f) = pushStage slots f m
-forceStage slots m (center x y strength) = settled (P.center x y strength (m .particles)) m
+forceStage slots m (center x y strength) = settled (P.centered x y strength (m .particles)) m
 forceStage slots m unknown = done m
 
 -- alpha, the forces in ascending number, the closing move; a held axis returns to its value at tick entry
@@ -223,26 +225,27 @@ tick s forces slots m =
     foldStages (forceStage slots) m₁ forces >>= λ m₂.
     settled (closing (s .velocityDecay) (m .particles) (m₂ .particles)) m₂
 
-module _ (l : SheetInput) (alpha : Float) (s : Settings) where
+module _ (l : SheetInput) (s : Settings) where
   abbrev pub begun : State
-  begun = state (particlesOf (l .sheet)) alpha (l .draws) 0
+  begun = state (particlesOf (l .sheet)) (floatOf (l .alpha)) (l .draws) 0
+
+  -- alpha is the first of the tick's settings
+  abbrev pub tickSettings : List Float
+  tickSettings = floatOf (l .alpha) ∷ s .alphaTarget ∷ s .alphaDecay ∷ s .velocityDecay ∷ []
 
   unfoldable pub tickResult : Outcome State
-  tickResult =
-      given (sheetCheck l 0 (alpha ∷ s .alphaTarget ∷ s .alphaDecay ∷ s .velocityDecay ∷ [])) (λ _. tick s (forces l) (slotsOf (l .work)) begun)
+  tickResult = sheetCheck l 0 tickSettings >>= λ _. tick s (forces l) (slotsOf (l .work)) begun
 
-  unfoldable pub tickAnswer : TickAnswer
+  unfoldable pub tickAnswer : Counts
   tickAnswer =
       let o = tickResult in
-      record {
-        refusal = refusalOf o;
-        visits = ifDone o (λ m. m .visits) 0;
-        draws = ifDone o (λ m. length (l .draws) - length (m .draws)) 0;
-        alpha = ifDone o (λ m. m .alpha) 0·;
-      }
+      record { refusal = refusalOf o; visits = ifDone o (λ m. m .visits) 0; draws = ifDone o (λ m. length (l .draws) - length (m .draws)) 0 }
 
   unfoldable pub sheetAfterTick : List ℕ
   sheetAfterTick = ifDone tickResult (λ m. sheetOf (m .particles)) (l .sheet)
+
+  unfoldable pub alphaAfterTick : ℕ
+  alphaAfterTick = ifDone tickResult (λ m. bitsOf (m .alpha)) (l .alpha)
 
   unfoldable pub workAfterTick : List ℕ
   workAfterTick = workAfter tickResult (l .work)
@@ -271,12 +274,12 @@ ticksFrom s alphaMin forces slots (suc k) t m =
     (λ _. onward (tick s forces slots m) (λ m′. ticksFrom s alphaMin forces slots k (t + 1) m′) (λ r. ranFor t r m))
     (λ _. ranFor t (refusal 0 0) m)
 
-module _ (l : SheetInput) (alpha : Float) (s : Settings) (alphaMin : Float) (budget : ℕ) where
+module _ (l : SheetInput) (s : Settings) (alphaMin : Float) (budget : ℕ) where
   -- step itself refuses only before its first tick
   unfoldable pub stepResult : Outcome Run
   stepResult =
-      given (sheetCheck l budget (alpha ∷ s .alphaTarget ∷ s .alphaDecay ∷ s .velocityDecay ∷ alphaMin ∷ [])) (λ _.
-      done (ticksFrom s alphaMin (forces l) (slotsOf (l .work)) budget 0 (begun l alpha s)))
+      sheetCheck l budget (tickSettings l s ++ (alphaMin ∷ [])) >>= λ _.
+      done (ticksFrom s alphaMin (forces l) (slotsOf (l .work)) budget 0 (begun l s))
 
   unfoldable pub stepAnswer : StepAnswer
   stepAnswer =
@@ -287,11 +290,13 @@ module _ (l : SheetInput) (alpha : Float) (s : Settings) (alphaMin : Float) (bud
         finished = ifDone o (λ r. le (r .last .alpha) alphaMin) false;
         visits = ifDone o (λ r. r .last .visits) 0;
         draws = ifDone o (λ r. length (l .draws) - length (r .last .draws)) 0;
-        alpha = ifDone o (λ r. r .last .alpha) 0·;
       }
 
   unfoldable pub sheetAfterStep : List ℕ
   sheetAfterStep = ifDone stepResult (λ r. sheetOf (r .last .particles)) (l .sheet)
+
+  unfoldable pub alphaAfterStep : ℕ
+  alphaAfterStep = ifDone stepResult (λ r. bitsOf (r .last .alpha)) (l .alpha)
 
   unfoldable pub workAfterStep : List ℕ
   workAfterStep = workAfter stepResult (l .work)

@@ -10,7 +10,7 @@ use Rattle.rules.specs.Plain.{branch, keep, all, upTo}
 use Rattle.rules.specs.Outcome.{Check, require, _then_, checkEach}
 use Rattle.rules.specs.Number.{xAt, yAt}
 use Rattle.rules.specs.Cell.{quadrant, quarter}
-use Rattle.rules.specs.Cover.{coverAll, extentOf}
+use Rattle.rules.specs.Cover.{coverFirst, extentOf}
 
 -- A leaf has the numbers of its points, its chain. A is what is known of each node.
 pub data Tree (A : Type 0) : Type 0 where
@@ -66,17 +66,17 @@ module _ (at : List Float) where
 
   -- of the first n points, in the extent reached by covering them in order
   unfoldable pub treeOf : ℕ → Tree Extent
-  treeOf n = treeIn (extentOf (coverAll at (upTo n))) (upTo n)
+  treeOf n = treeIn (extentOf (coverFirst at n)) (upTo n)
 
 -- ---- where building refuses
 
 -- 6 past the greatest level, 7 with more nodes than slots, 6 if both; i is the particle
-unfoldable pub fits : {A : Type 0} → ℕ → ℕ → Tree A → Check
-fits slots i t = require (leb (depth t) (greatestLevel + 1)) 6 i then require (leb (nodes t) slots) 7 i
+unfoldable pub fitsCheck : {A : Type 0} → ℕ → ℕ → Tree A → Check
+fitsCheck slots i t = require (leb (depth t) (greatestLevel + 1)) 6 i then require (leb (nodes t) slots) 7 i
 
 -- the earliest of n particles whose prefix breaks either
 unfoldable pub treeCheck : List Float → ℕ → ℕ → Check
-treeCheck at n slots = checkEach (λ i _. fits slots i (treeOf at (i + 1))) (upTo n)
+treeCheck at n slots = checkEach (λ i _. fitsCheck slots i (treeOf at (i + 1))) (upTo n)
 
 -- ---- the listing, parent first
 

@@ -37,15 +37,15 @@ pub record Counted (S : Type 0) : Type 0 where
 abbrev pub counted : {S : Type 0} → S → ℕ → Counted S
 counted s v = record { state = s; visits = v }
 
--- what a node does: the state it leaves, and whether the walk goes on below it
-pub record Step (S : Type 0) : Type 0 where
+-- what a node leaves: the state, and whether the walk goes on below it
+pub record After (S : Type 0) : Type 0 where
   pub state : S
   pub visit : Visit
 
-abbrev pub after : {S : Type 0} → S → Visit → Step S
+abbrev pub after : {S : Type 0} → S → Visit → After S
 after s v = record { state = s; visit = v }
 
-module _ {A S : Type 0} (step : Entry A → S → Outcome (Step S)) where
+module _ {A S : Type 0} (step : Entry A → S → Outcome (After S)) where
   -- one node is handed out, then what lies below it
   abbrev pub handed : Entry A → Counted S → (Counted S → Outcome (Counted S)) → Outcome (Counted S)
   handed e m below = step e (m .state) >>= λ r. unlessSkip (r .visit) (counted (r .state) (m .visits + 1)) below

@@ -43,21 +43,12 @@ pub struct TreeAnswer {
     pub extent: Extent,
 }
 
-// What a force counted.
+// What a force or a tick counted.
 #[repr(C)]
-pub struct ForceAnswer {
+pub struct Counts {
     pub refusal: Refusal,
     pub visits: u64,
     pub draws: u64,
-}
-
-// What a tick counted, and the alpha it reached.
-#[repr(C)]
-pub struct TickAnswer {
-    pub refusal: Refusal,
-    pub visits: u64,
-    pub draws: u64,
-    pub alpha: f64,
 }
 
 // What a step did: a refusal by 6 to 9 is that of the tick that ended it, an ordinary reply.
@@ -68,7 +59,6 @@ pub struct StepAnswer {
     pub finished: bool,
     pub visits: u64,
     pub draws: u64,
-    pub alpha: f64,
 }
 
 // What ManyBody is set to, each number squared.
