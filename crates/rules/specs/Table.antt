@@ -193,3 +193,40 @@ listings =
 pub every-listing-is-right : all (λ b. b) listings ≡ true
 unfolding opened listings sample plus minus half equals still
 every-listing-is-right = refl
+
+-- ---- lent lengths, which no run beside the Rust can show: 2, after 1 and before 4, with nothing changed
+
+-- the tree of one point, with these numbers of rows, chain places and work words
+lengths : ℕ → ℕ → ℕ → Float → TreeInput
+lengths rows chains work x = record { sheet = sheetOf (still (x ∷ 0· ∷ [])); rows = replicate rows 9; chains = replicate chains 9; work = replicate work 7 }
+
+-- a force's velocities that begin at a byte of the buffer
+startingAt : ℕ → ForceInput → ForceInput
+startingAt start l = record { places = l .places; buffer = l .buffer; start = start; draws = l .draws; work = l .work }
+
+nan· : Float
+nan· = floatOf 0x7ff8_0000_0000_0000
+
+pub edges : List Bool
+edges =
+    -- a row too few, a row too many, a chain place too many; words that make no whole slot count for none
+    refusesTree (lengths 0 1 8 0·) 2 0 7
+    ∷ refusesTree (lengths 8 1 8 0·) 2 0 7
+    ∷ refusesTree (lengths 4 2 8 0·) 2 0 7
+    ∷ counts (lengths 4 1 15 0·) 1
+    -- 2 comes before 4, and no slot at all is 7
+    ∷ refusesTree (lengths 0 1 8 nan·) 2 0 7
+    ∷ refusesTree (lengths 0 1 7 0·) 7 0 0
+    -- velocities that reach past the buffer by a byte, and that just fit; half a pair of places; a link end too many
+    ∷ (let l = startingAt 5 (force two []) in refusesForce l (manyBodyResult l (0· ∷ 0· ∷ []) 1·) 2 0 7)
+    ∷ (let l = startingAt 4 (force (0· ∷ 0· ∷ 1· ∷ 1· ∷ []) []) in isRefusal 0 0 (refusalOf (manyBodyResult l (0· ∷ 0· ∷ []) 1·)))
+    ∷ (let l = force (0· ∷ 0· ∷ 0· ∷ []) [] in refusesForce l (manyBodyResult l (0· ∷ []) 1·) 2 0 7)
+    ∷ (let l = force two [] in refusesForce l (linkResult l (0 ∷ 1 ∷ 1 ∷ []) [] (0· ∷ []) 1 1·) 2 0 7)
+    -- link strengths though there are no links, and one strength for two links
+    ∷ (let l = force two [] in refusesForce l (linkResult l [] (0· ∷ []) [] 1 1·) 2 0 7)
+    ∷ (let l = force two [] in refusesForce l (linkResult l (0 ∷ 1 ∷ 0 ∷ 1 ∷ []) (0· ∷ []) (0· ∷ 0· ∷ []) 1 1·) 2 0 7)
+    ∷ []
+
+pub every-edge-holds : all (λ b. b) edges ≡ true
+unfolding opened edges lengths startingAt nan· equals isRefusal still tree counts refusesTree before behind force refusesForce two
+every-edge-holds = refl
