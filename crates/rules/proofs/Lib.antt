@@ -1,0 +1,3 @@
+pub mod CellFloat
+pub mod CellList
+pub mod CellPoints
