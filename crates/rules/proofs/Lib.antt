@@ -1,3 +1,4 @@
 pub mod CellFloat
 pub mod CellList
 pub mod CellPoints
+pub mod CellIs
