@@ -73,7 +73,7 @@ module _ (at : List Float) where
   grow-node k c [] e = absurd (true≢false e)
   grow-node k c (i ∷ is) e = rw e
 
-  grow-stop : (c : Extent) (is : List ℕ) → grow at zero c is ≡ none
+  pub grow-stop : (c : Extent) (is : List ℕ) → grow at zero c is ≡ none
   unfolding grow
   grow-stop c is = refl
 

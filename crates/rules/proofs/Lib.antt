@@ -2,3 +2,4 @@ pub mod CellFloat
 pub mod CellList
 pub mod CellPoints
 pub mod CellIs
+pub mod CellDeep
