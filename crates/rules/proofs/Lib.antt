@@ -3,3 +3,4 @@ pub mod CellList
 pub mod CellPoints
 pub mod CellIs
 pub mod CellDeep
+pub mod CellCount
