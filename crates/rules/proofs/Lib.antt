@@ -4,3 +4,4 @@ pub mod CellPoints
 pub mod CellIs
 pub mod CellDeep
 pub mod CellCount
+pub mod CellInsert
