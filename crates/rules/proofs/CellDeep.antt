@@ -21,7 +21,7 @@ use Rattle.rules.proofs.CellIs.{grow-none, grow-leaf, grow-node, grow-s
 
 -- ---- the greatest of four
 
-max-of : (n a b c d : ℕ) → n ≤ max (max a b) (max c d) → (n ≤ a) ⊎ ((n ≤ b) ⊎ ((n ≤ c) ⊎ (n ≤ d)))
+pub max-of : (n a b c d : ℕ) → n ≤ max (max a b) (max c d) → (n ≤ a) ⊎ ((n ≤ b) ⊎ ((n ≤ c) ⊎ (n ≤ d)))
 max-of n a b c d l = go (leb n a) (leb n b) (leb n c) (leb→le n a) (nleb→lt n a) (leb→le n b) (nleb→lt n b) (leb→le n c) (nleb→lt n c)
   where
     go : (p q r : Bool) → (T p → n ≤ a) → (T (not p) → a < n) → (T q → n ≤ b) → (T (not q) → b < n) → (T r → n ≤ c) → (T (not r) → c < n)
@@ -44,11 +44,11 @@ module _ (at : List Float) where
   together zero c i j = true
   together (suc k) c i j = inQuarter at c (quarterOf c i) j && together k (quarter (quarterOf c i) c) i j
 
-  inQuarter-is : (c : Extent) (q i : ℕ) → inQuarter at c q i ≡ true → q ≡ quarterOf c i
+  pub inQuarter-is : (c : Extent) (q i : ℕ) → inQuarter at c q i ≡ true → q ≡ quarterOf c i
   unfolding inQuarter
   inQuarter-is c q i e = eqb→eq q (quarterOf c i) (subst T (sym e) tt)
 
-  inQuarter-own : (c : Extent) (i : ℕ) → inQuarter at c (quarterOf c i) i ≡ true
+  pub inQuarter-own : (c : Extent) (i : ℕ) → inQuarter at c (quarterOf c i) i ≡ true
   unfolding inQuarter
   inQuarter-own c i = is-true (eqb (quarterOf c i) (quarterOf c i)) (eqb-refl (quarterOf c i))
 

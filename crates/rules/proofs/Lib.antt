@@ -5,3 +5,5 @@ pub mod CellIs
 pub mod CellDeep
 pub mod CellCount
 pub mod CellInsert
+pub mod CellMore
+pub mod CellChain
