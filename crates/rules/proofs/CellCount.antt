@@ -1,15 +1,18 @@
 -- Counting in the tree of the cell rule: leaves and distinct points, particles and chains, nodes and levels.
 use mathlib.Core.Path.{_≡_, refl, sym, ap, ap₂, _∙_, subst}
-use mathlib.Core.Logic.{_⊎_, inl, inr}
+use mathlib.Core.Logic.{_≢_}
 use mathlib.Core.Bool.{Bool, true, false, not, cond, _&&_, true≢false, false≢true}
 use mathlib.Core.List.{List, [], _∷_, _++_}
 use Prim.Native.Nat.{ℕ, zero, suc, _+_, _*_, _≤_, _<_, max}
 use native.Mathlib.Omega.{arith}
 use lib.ListN.{length}
 use lib.Dec.{eqb}
+use native.Mathlib.Nat.{zero-add}
+use native.Mathlib.Numerals.{add-one}
+use borrow.Author.Tests.{eqb-true, eqb-false}
 use lib.Ieee.{Float}
 use Rattle.rules.specs.declared.Extent.{Extent}
-use Rattle.rules.specs.Plain.{keep, all}
+use Rattle.rules.specs.Plain.{all, countFrom, upTo}
 use Rattle.rules.specs.Cell.{quarter}
 use Rattle.rules.specs.Tree.{Tree, none, leaf, node, depth, nodes, same, alike, inQuarter, pointsIn, chainsOf}
 use Rattle.rules.proofs.CellList.{In, total, total-append, left, right, all-in, all-map, all-keep, in-keep, keep-all, keep-keep}
@@ -59,6 +62,46 @@ pub length-total : (is : List ℕ) → total (λ i _. 1) is ≡ length is
 length-total [] = refl
 length-total (i ∷ is) = omega (arith, length-total is)
 
+-- of the numbers a, a + 1, .. each below the last stands there once
+times-before : (i a k : ℕ) → i < a → times i (countFrom a k) ≡ 0
+times-before i a zero l = refl
+times-before i a (suc k) l = go (eqb i a) refl (times-before i (a + 1) k (omega arith))
+  where
+    go : (b : Bool) → eqb i a ≡ b → times i (countFrom (a + 1) k) ≡ 0 → cond b 1 0 + times i (countFrom (a + 1) k) ≡ 0
+    go true e h = absurd (omega (arith, eqb-true i a e))
+    go false e h = omega arith
+
+times-count : (i a k : ℕ) → a ≤ i → i < a + k → times i (countFrom a k) ≡ 1
+times-count i a zero l m = absurd (omega arith)
+times-count i a (suc k) l m = go (eqb i a) refl (times-count i (a + 1) k)
+  where
+    go : (b : Bool) → eqb i a ≡ b → (a + 1 ≤ i → i < a + 1 + k → times i (countFrom (a + 1) k) ≡ 1) → cond b 1 0 + times i (countFrom (a + 1) k) ≡ 1
+    go true e h = omega (arith, times-before i (a + 1) k (omega (arith, eqb-true i a e)))
+    go false e h = let n : i ≢ a = eqb-false i a e in omega (arith, h (omega arith) (omega arith))
+
+pub times-upTo : (i n : ℕ) → i < n → times i (upTo n) ≡ 1
+times-upTo i n l = times-count i 0 n (omega arith) (omega arith)
+
+countFrom-snoc : (a k : ℕ) → countFrom a (suc k) ≡ countFrom a k ++ ((a + k) ∷ [])
+countFrom-snoc a zero = ap (λ (n : ℕ). n ∷ []) (plain a)
+  where
+    plain : (a : ℕ) → a ≡ a + 0
+    plain a = omega arith
+countFrom-snoc a (suc k) = ap (λ (l : List ℕ). a ∷ l) (countFrom-snoc (a + 1) k ∙ ap (λ (n : ℕ). countFrom (a + 1) k ++ (n ∷ [])) (on a k))
+  where
+    on : (a k : ℕ) → a + 1 + k ≡ a + suc k
+    on a k = omega arith
+
+pub upTo-snoc : (n : ℕ) → upTo (n + 1) ≡ upTo n ++ (n ∷ [])
+upTo-snoc n = ap upTo (add-one n) ∙ countFrom-snoc 0 n ∙ ap (λ (m : ℕ). upTo n ++ (m ∷ [])) (zero-add n)
+
+pub length-upTo : (n : ℕ) → length (upTo n) ≡ n
+length-upTo n = go 0 n
+  where
+    go : (a k : ℕ) → length (countFrom a k) ≡ k
+    go a zero = refl
+    go a (suc k) = ap suc (go (a + 1) k)
+
 module _ (at : List Float) where
   -- how many distinct points: one counts where none of the later ones is numerically equal
   abbrev pub lastOf : ℕ → List ℕ → ℕ
@@ -80,6 +123,9 @@ module _ (at : List Float) where
       (total-chains f t2 (quarter 2 c) (pointsIn at c 2 is) (h .4)))
       (total-chains f t3 (quarter 3 c) (pointsIn at c 3 is) (h .5))
       ∙ total-quarters at (λ i _. f i) c (λ q i l e. refl) is
+
+  pub times-chains : (t : Tree Extent) (c : Extent) (is : List ℕ) (i : ℕ) → Is at c t is → times i (chainsOf t) ≡ times i is
+  times-chains t c is i h = total-chains (λ j. cond (eqb i j) 1 0) t c is h
 
   -- ---- distinct points and leaves
 

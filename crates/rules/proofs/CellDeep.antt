@@ -40,7 +40,7 @@ module _ (at : List Float) where
   quarterOf c i = quadrant c (xAt at i) (yAt at i)
 
   -- for k levels from the cell c on, the two points lie in one quarter
-  abbrev pub together : ℕ → Extent → ℕ → ℕ → Bool
+  unfoldable pub together : ℕ → Extent → ℕ → ℕ → Bool
   together zero c i j = true
   together (suc k) c i j = inQuarter at c (quarterOf c i) j && together k (quarter (quarterOf c i) c) i j
 
@@ -109,6 +109,7 @@ module _ (at : List Float) where
 
   pub deep : (k : ℕ) (c : Extent) (is : List ℕ) (i j : ℕ) → In i is → In j is → same at i i ≡ true → same at i j ≡ false → together k c i j ≡ true
       → suc k < depth (grow at (suc (suc k)) c is)
+  unfolding together
   deep zero c is i j m n r e t =
       rw (grow-node at 1 c is (not-alike is i j m n r e)) (up (own-le c i 1 (below 1 c is) (λ q f. depth-pos 0 (quarter q c) (pointsIn at c q is) i (keep-in (inQuarter at c q) is i m f))))
     where
@@ -133,6 +134,7 @@ module _ (at : List Float) where
 
   -- two points of a quarter that stay together in it do so in the cell
   up-pair : (k : ℕ) (c : Extent) (q : ℕ) (is : List ℕ) → Pair k (quarter q c) (pointsIn at c q is) → Pair (suc k) c is
+  unfolding together
   up-pair k c q is (i, j, m, n, e, t) =
       let (mi, fi) = in-keep (inQuarter at c q) is i m in
       let (mj, fj) = in-keep (inQuarter at c q) is j n in
@@ -140,6 +142,7 @@ module _ (at : List Float) where
       (i, j, mi, mj, e, subst (λ (p : ℕ). (inQuarter at c p j && together k (quarter p c) i j) ≡ true) w (both (inQuarter at c q j) (together k (quarter q c) i j) fj t))
 
   pub deep-pair : (k : ℕ) (c : Extent) (is : List ℕ) → suc k < depth (grow at (suc (suc k)) c is) → Pair k c is
+  unfolding together
   deep-pair zero c [] l = let l = rw (grow-none at 2 c) at l in absurd (omega arith)
   deep-pair zero c (i ∷ is) l = go (all (same at i) is) refl l
     where

@@ -2,7 +2,7 @@
 use mathlib.Core.Path.{_≡_, refl, sym, ap, ap₂, _∙_}
 use mathlib.Core.Logic.{_⊎_, inl, inr}
 use mathlib.Core.Bool.{Bool, true, false, not, cond, _&&_, false≢true, and-eq-true-iff}
-use mathlib.Core.List.{List, [], _∷_, _++_, Sublistᴰ, Sublistᴰ·slnil, Sublistᴰ·cons, Sublistᴰ·cons-cons}
+use mathlib.Core.List.{List, [], _∷_, _++_, Sublistᴰ, Sublistᴰ·slnil, Sublistᴰ·cons, Sublistᴰ·cons-cons, Sublistᴰ·nil-sublist}
 use Prim.Native.Nat.{ℕ, _+_}
 use native.Mathlib.Omega.{arith}
 use Rattle.rules.specs.Plain.{keep, all}
@@ -143,7 +143,7 @@ all-sublist p (Sublistᴰ·cons {a = i} {l₂ = m} s) e = all-sublist p s (right
 all-sublist p (Sublistᴰ·cons-cons {a = i} {b = j} {l₁ = l} {l₂ = m} f s) e = both (p i) (all p l) (ap p f ∙ left (p j) (all p m) e) (all-sublist p s (right (p j) (all p m) e))
 
 pub prefix-sublist : (l m : List ℕ) → Sublistᴰ l (l ++ m)
-prefix-sublist [] m = mathlib.Core.List.Sublistᴰ·nil-sublist m
+prefix-sublist [] m = Sublistᴰ·nil-sublist m
 prefix-sublist (i ∷ l) m = Sublistᴰ·cons-cons refl (prefix-sublist l m)
 
 -- ---- sums

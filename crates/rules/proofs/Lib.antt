@@ -7,3 +7,4 @@ pub mod CellCount
 pub mod CellInsert
 pub mod CellMore
 pub mod CellChain
+pub mod CellRule
