@@ -1,9 +1,9 @@
 -- The chains of the cell rule's tree: one for each distinct point, with all its particles in order.
 use mathlib.Core.Path.{_≡_, refl, sym, ap, _∙_, subst}
-use mathlib.Core.Logic.{_⊎_, inl, inr}
-use mathlib.Core.Bool.{Bool, true, false, _&&_}
+use mathlib.Core.Logic.{inl, inr}
+use mathlib.Core.Bool.{true}
 use mathlib.Core.List.{List, [], _∷_}
-use Prim.Native.Nat.{ℕ, zero, suc, _<_}
+use Prim.Native.Nat.{ℕ, _<_}
 use native.Mathlib.Omega.{arith}
 use lib.ListN.{length}
 use lib.Ieee.{Float}
@@ -63,10 +63,9 @@ module _ (at : List Float) where
   chains (leaf d js) c [] p h = absurd (omega arith)
   chains (leaf d js) c (i ∷ is) p h =
       subst (Chain at (i ∷ is)) (sym (h .1)) (record { some = omega arith; one = h .3; whole = λ j m. sym (whole-leaf i is (p i (inl refl)) (h .3) j m) })
-  chains (node d t0 t1 t2 t3) c is p h =
-      (
-        each-map (Chain at (pointsIn at c 0 is)) (Chain at is) (chain-up c 0 is) t0 (chains t0 (quarter 0 c) (pointsIn at c 0 is) (λ i m. p i (in-keep (inQuarter at c 0) is i m .0)) (h .2)),
-        each-map (Chain at (pointsIn at c 1 is)) (Chain at is) (chain-up c 1 is) t1 (chains t1 (quarter 1 c) (pointsIn at c 1 is) (λ i m. p i (in-keep (inQuarter at c 1) is i m .0)) (h .3)),
-        each-map (Chain at (pointsIn at c 2 is)) (Chain at is) (chain-up c 2 is) t2 (chains t2 (quarter 2 c) (pointsIn at c 2 is) (λ i m. p i (in-keep (inQuarter at c 2) is i m .0)) (h .4)),
-        each-map (Chain at (pointsIn at c 3 is)) (Chain at is) (chain-up c 3 is) t3 (chains t3 (quarter 3 c) (pointsIn at c 3 is) (λ i m. p i (in-keep (inQuarter at c 3) is i m .0)) (h .5)),
-      )
+  chains (node d t0 t1 t2 t3) c is p h = (
+    each-map (Chain at (pointsIn at c 0 is)) (Chain at is) (chain-up c 0 is) t0 (chains t0 (quarter 0 c) (pointsIn at c 0 is) (λ i m. p i (in-keep (inQuarter at c 0) is i m .0)) (h .2)),
+    each-map (Chain at (pointsIn at c 1 is)) (Chain at is) (chain-up c 1 is) t1 (chains t1 (quarter 1 c) (pointsIn at c 1 is) (λ i m. p i (in-keep (inQuarter at c 1) is i m .0)) (h .3)),
+    each-map (Chain at (pointsIn at c 2 is)) (Chain at is) (chain-up c 2 is) t2 (chains t2 (quarter 2 c) (pointsIn at c 2 is) (λ i m. p i (in-keep (inQuarter at c 2) is i m .0)) (h .4)),
+    each-map (Chain at (pointsIn at c 3 is)) (Chain at is) (chain-up c 3 is) t3 (chains t3 (quarter 3 c) (pointsIn at c 3 is) (λ i m. p i (in-keep (inQuarter at c 3) is i m .0)) (h .5)),
+  )

@@ -1,9 +1,9 @@
 -- Counting in the tree of the cell rule: leaves and distinct points, particles and chains, nodes and levels.
 use mathlib.Core.Path.{_≡_, refl, sym, ap, ap₂, _∙_, subst}
 use mathlib.Core.Logic.{_≢_}
-use mathlib.Core.Bool.{Bool, true, false, not, cond, _&&_, true≢false, false≢true}
+use mathlib.Core.Bool.{Bool, true, false, not, cond, _&&_, true≢false}
 use mathlib.Core.List.{List, [], _∷_, _++_}
-use Prim.Native.Nat.{ℕ, zero, suc, _+_, _*_, _≤_, _<_, max}
+use Prim.Native.Nat.{ℕ, zero, suc, _+_, _*_, _≤_, _<_}
 use native.Mathlib.Omega.{arith}
 use lib.ListN.{length}
 use lib.Dec.{eqb}
@@ -14,8 +14,8 @@ use lib.Ieee.{Float}
 use Rattle.rules.specs.declared.Extent.{Extent}
 use Rattle.rules.specs.Plain.{all, countFrom, upTo}
 use Rattle.rules.specs.Cell.{quarter}
-use Rattle.rules.specs.Tree.{Tree, none, leaf, node, depth, nodes, same, alike, inQuarter, pointsIn, chainsOf}
-use Rattle.rules.proofs.CellList.{In, total, total-append, left, right, all-in, all-map, all-keep, in-keep, keep-all, keep-keep}
+use Rattle.rules.specs.Tree.{Tree, none, leaf, node, depth, nodes, same, inQuarter, pointsIn, chainsOf}
+use Rattle.rules.proofs.CellList.{total, total-append, left, right, all-map, all-keep}
 use Rattle.rules.proofs.CellPoints.{same-sym, same-trans, same-quarter, total-quarters}
 use Rattle.rules.proofs.CellIs.{Is}
 

@@ -1,20 +1,18 @@
 -- How deep a grown tree is: it reaches its last level exactly where two distinct points stay together that long.
-use mathlib.Core.Path.{_≡_, refl, sym, ap, ap₂, _∙_, subst}
+use mathlib.Core.Path.{_≡_, refl, sym, ap, _∙_, subst}
 use mathlib.Core.Logic.{_⊎_, inl, inr}
-use mathlib.Core.Bool.{Bool, true, false, not, _&&_, true≢false, false≢true}
+use mathlib.Core.Bool.{Bool, true, false, _&&_, true≢false}
 use mathlib.Core.List.{List, [], _∷_}
-use Prim.Native.Nat.{ℕ, zero, suc, _+_, _≤_, _<_, max, zero-le}
-use native.Mathlib.Nat.{le-antisymm}
+use Prim.Native.Nat.{ℕ, zero, suc, _≤_, _<_, max, zero-le}
 use native.Mathlib.Omega.{arith}
-use lib.ListN.{length}
-use lib.Dec.{T, leb, eqb, leb→le, nleb→lt, eqb→eq, eqb-refl}
+use lib.Dec.{leb}
 use lib.Ieee.{Float}
-use lib.Ieee.Bits.{is-true}
+use borrow.Author.Tests.{leb-true, leb-false, eqb-true, eq-eqb}
 use Rattle.rules.specs.declared.Extent.{Extent}
 use Rattle.rules.specs.Plain.{all}
 use Rattle.rules.specs.Number.{xAt, yAt}
 use Rattle.rules.specs.Cell.{quarter, quadrant}
-use Rattle.rules.specs.Tree.{Tree, none, leaf, node, depth, same, alike, inQuarter, pointsIn, grow}
+use Rattle.rules.specs.Tree.{depth, same, alike, inQuarter, pointsIn, grow}
 use Rattle.rules.proofs.CellList.{In, both, left, right, all-in, all-not, in-keep, keep-in}
 use Rattle.rules.proofs.CellPoints.{One, one0, one1, one2, one3, one-quarter, same-sym, same-trans}
 use Rattle.rules.proofs.CellIs.{grow-none, grow-leaf, grow-node, grow-stop}
@@ -22,17 +20,13 @@ use Rattle.rules.proofs.CellIs.{grow-none, grow-leaf, grow-node, grow-s
 -- ---- the greatest of four
 
 pub max-of : (n a b c d : ℕ) → n ≤ max (max a b) (max c d) → (n ≤ a) ⊎ ((n ≤ b) ⊎ ((n ≤ c) ⊎ (n ≤ d)))
-max-of n a b c d l = go (leb n a) (leb n b) (leb n c) (leb→le n a) (nleb→lt n a) (leb→le n b) (nleb→lt n b) (leb→le n c) (nleb→lt n c)
+max-of n a b c d l = go (leb n a) (leb n b) (leb n c) refl refl refl
   where
-    go : (p q r : Bool) → (T p → n ≤ a) → (T (not p) → a < n) → (T q → n ≤ b) → (T (not q) → b < n) → (T r → n ≤ c) → (T (not r) → c < n)
-        → (n ≤ a) ⊎ ((n ≤ b) ⊎ ((n ≤ c) ⊎ (n ≤ d)))
-    go true q r f f′ g g′ h h′ = inl (f tt)
-    go false true r f f′ g g′ h h′ = inr (inl (g tt))
-    go false false true f f′ g g′ h h′ = inr (inr (inl (h tt)))
-    go false false false f f′ g g′ h h′ = inr (inr (inr (last n a b c d l (f′ tt) (g′ tt) (h′ tt))))
-      where
-        last : (n a b c d : ℕ) → n ≤ max (max a b) (max c d) → a < n → b < n → c < n → n ≤ d
-        last n a b c d l x y z = omega arith
+    go : (p q r : Bool) → leb n a ≡ p → leb n b ≡ q → leb n c ≡ r → (n ≤ a) ⊎ ((n ≤ b) ⊎ ((n ≤ c) ⊎ (n ≤ d)))
+    go true q r e f g = inl (leb-true n a e)
+    go false true r e f g = inr (inl (leb-true n b f))
+    go false false true e f g = inr (inr (inl (leb-true n c g)))
+    go false false false e f g = inr (inr (inr (omega (arith, leb-false n a e, leb-false n b f, leb-false n c g))))
 
 module _ (at : List Float) where
   -- the quarter of c in which the point lies
@@ -46,11 +40,11 @@ module _ (at : List Float) where
 
   pub inQuarter-is : (c : Extent) (q i : ℕ) → inQuarter at c q i ≡ true → q ≡ quarterOf c i
   unfolding inQuarter
-  inQuarter-is c q i e = eqb→eq q (quarterOf c i) (subst T (sym e) tt)
+  inQuarter-is c q i e = eqb-true q (quarterOf c i) e
 
   pub inQuarter-own : (c : Extent) (i : ℕ) → inQuarter at c (quarterOf c i) i ≡ true
   unfolding inQuarter
-  inQuarter-own c i = is-true (eqb (quarterOf c i) (quarterOf c i)) (eqb-refl (quarterOf c i))
+  inQuarter-own c i = eq-eqb (quarterOf c i) (quarterOf c i) refl
 
   -- how many levels a quarter's tree has
   abbrev below : ℕ → Extent → List ℕ → ℕ → ℕ

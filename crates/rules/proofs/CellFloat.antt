@@ -4,10 +4,10 @@ use mathlib.Core.Logic.{_⊎_, inl, inr}
 use mathlib.Core.Bool.{Bool, true, false, _&&_, _||_, Bool·beq, true≢false, false≢true}
 use Prim.Native.Nat.{ℕ, _+_, _*_, _<_}
 use native.Mathlib.Nat.{add-zero, le-of-eq, le-antisymm, mul-right-comm, zero-mul, add-mul, mul-lt-mul-of-pos-right, lt-of-mul-lt-mul-right, le-of-mul-le-mul-right}
-use lib.Dec.{T, ltb, eqb, ltb→lt, lt→ltb, eqb→eq, leb·suc-zero}
+use lib.Dec.{ltb, eqb, leb·suc-zero}
 use lib.Ieee.{Float, nan, inf, fin, up, down, lt, le, eq, below, level}
-use lib.Ieee.Fits.{down-pos, eq→eqb}
-use lib.Ieee.Bits.{is-true}
+use lib.Ieee.Fits.{down-pos}
+use borrow.Author.Tests.{ltb-true, lt-ltb, eqb-true, eq-eqb}
 use Rattle.rules.specs.Number.{finite}
 
 -- ---- tests
@@ -17,16 +17,6 @@ same-test true true p q = refl
 same-test true false p q = sym (p refl)
 same-test false true p q = q refl
 same-test false false p q = refl
-
-so : (b : Bool) → b ≡ true → T b
-so true e = tt
-so false e = absurd (false≢true e)
-
-eqb-true : (a b : ℕ) → eqb a b ≡ true → a ≡ b
-eqb-true a b e = eqb→eq a b (so (eqb a b) e)
-
-eqb-same : (a b : ℕ) → a ≡ b → eqb a b ≡ true
-eqb-same a b e = is-true (eqb a b) (eq→eqb e)
 
 beq-true : (s t : Bool) → Bool·beq s t ≡ true → s ≡ t
 beq-true true true e = refl
@@ -55,8 +45,8 @@ level-true s a t b = go (eqb a b) (Bool·beq s t) (eqb a 0) (eqb-true a b) (beq-
     go true false false f g h e = absurd (false≢true e)
 
 level-of : (s : Bool) (a : ℕ) (t : Bool) (b : ℕ) → Level s a t b → level s a t b ≡ true
-level-of s a t b (e, inl f) = ap₂ (λ (p q : Bool). p && (q || eqb a 0)) (eqb-same a b e) (beq-same s t f)
-level-of s a t b (e, inr z) = ap₂ (λ (p q : Bool). p && (Bool·beq s t || q)) (eqb-same a b e) (eqb-same a 0 z) ∙ or-true (Bool·beq s t)
+level-of s a t b (e, inl f) = ap₂ (λ (p q : Bool). p && (q || eqb a 0)) (eq-eqb a b e) (beq-same s t f)
+level-of s a t b (e, inr z) = ap₂ (λ (p q : Bool). p && (Bool·beq s t || q)) (eq-eqb a b e) (eq-eqb a 0 z) ∙ or-true (Bool·beq s t)
   where
     or-true : (p : Bool) → (p || true) ≡ true
     or-true true = refl
@@ -72,11 +62,11 @@ module _ (a b c : ℕ) (C : 0 < c) where
   ltb-scale : ltb (a * c) (b * c) ≡ ltb a b
   ltb-scale =
       same-test (ltb (a * c) (b * c)) (ltb a b)
-      (λ e. is-true (ltb a b) (lt→ltb a b (lt-of-mul-lt-mul-right c (ltb→lt (a * c) (b * c) (so (ltb (a * c) (b * c)) e)))))
-      (λ e. is-true (ltb (a * c) (b * c)) (lt→ltb (a * c) (b * c) (mul-lt-mul-of-pos-right (ltb→lt a b (so (ltb a b) e)) C)))
+      (λ e. lt-ltb a b (lt-of-mul-lt-mul-right c (ltb-true (a * c) (b * c) e)))
+      (λ e. lt-ltb (a * c) (b * c) (mul-lt-mul-of-pos-right (ltb-true a b e) C))
 
   eqb-scale : eqb (a * c) (b * c) ≡ eqb a b
-  eqb-scale = same-test (eqb (a * c) (b * c)) (eqb a b) (λ e. eqb-same a b (cancel (eqb-true (a * c) (b * c) e))) (λ e. eqb-same (a * c) (b * c) (ap (λ (x : ℕ). x * c) (eqb-true a b e)))
+  eqb-scale = same-test (eqb (a * c) (b * c)) (eqb a b) (λ e. eq-eqb a b (cancel (eqb-true (a * c) (b * c) e))) (λ e. eq-eqb (a * c) (b * c) (ap (λ (x : ℕ). x * c) (eqb-true a b e)))
     where
       cancel : a * c ≡ b * c → a ≡ b
       cancel e = le-antisymm (le-of-mul-le-mul-right (le-of-eq e) C) (le-of-mul-le-mul-right (le-of-eq (sym e)) C)
@@ -117,21 +107,21 @@ module _ (R : Bool → ℕ → Bool → ℕ → Bool)
     (scale : (s : Bool) (a : ℕ) (t : Bool) (b c : ℕ) → 0 < c → R s (a * c) t (b * c) ≡ R s a t b)
     (sign : (u : Bool) (z : ℕ) (s t : Bool) → R u z s 0 ≡ R u z t 0)
   where
-  alike : (u : Bool) (z : ℕ) (s : Bool) (a : ℕ) (t : Bool) (b : ℕ) → Level s a t b → R u z s a ≡ R u z t b
-  alike u z s a t b (e, inl f) = ap₂ (R u z) f e
-  alike u z s a t b (e, inr o) = ap (R u z s) o ∙ sign u z s t ∙ ap (R u z t) (sym o ∙ e)
+    alike : (u : Bool) (z : ℕ) (s : Bool) (a : ℕ) (t : Bool) (b : ℕ) → Level s a t b → R u z s a ≡ R u z t b
+    alike u z s a t b (e, inl f) = ap₂ (R u z) f e
+    alike u z s a t b (e, inr o) = ap (R u z s) o ∙ sign u z s t ∙ ap (R u z t) (sym o ∙ e)
 
-  -- z / f against a / e and against b / d
-  across : (u : Bool) (z f : ℕ) (s : Bool) (a e : ℕ) (t : Bool) (b d : ℕ) → 0 < e → 0 < d → Level s (a * d) t (b * e) → R u (z * e) s (a * f) ≡ R u (z * d) t (b * f)
-  across u z f s a e t b d E D (h, g) =
-      sym (scale u (z * e) s (a * f) d D)
-      ∙ ap (λ (x : ℕ). R u x s (a * f * d)) (mul-right-comm z e d)
-      ∙ alike u (z * d * e) s (a * f * d) t (b * f * e) (mul-right-comm a f d ∙ ap (λ (x : ℕ). x * f) h ∙ mul-right-comm b e f, none g)
-      ∙ scale u (z * d) t (b * f) e E
-    where
-      none : (s ≡ t) ⊎ (a * d ≡ 0) → (s ≡ t) ⊎ (a * f * d ≡ 0)
-      none (inl p) = inl p
-      none (inr p) = inr (mul-right-comm a f d ∙ ap (λ (x : ℕ). x * f) p ∙ zero-mul f)
+    -- z / f against a / e and against b / d
+    across : (u : Bool) (z f : ℕ) (s : Bool) (a e : ℕ) (t : Bool) (b d : ℕ) → 0 < e → 0 < d → Level s (a * d) t (b * e) → R u (z * e) s (a * f) ≡ R u (z * d) t (b * f)
+    across u z f s a e t b d E D (h, g) =
+        sym (scale u (z * e) s (a * f) d D)
+        ∙ ap (λ (x : ℕ). R u x s (a * f * d)) (mul-right-comm z e d)
+        ∙ alike u (z * d * e) s (a * f * d) t (b * f * e) (mul-right-comm a f d ∙ ap (λ (x : ℕ). x * f) h ∙ mul-right-comm b e f, none g)
+        ∙ scale u (z * d) t (b * f) e E
+      where
+        none : (s ≡ t) ⊎ (a * d ≡ 0) → (s ≡ t) ⊎ (a * f * d ≡ 0)
+        none (inl p) = inl p
+        none (inr p) = inr (mul-right-comm a f d ∙ ap (λ (x : ℕ). x * f) p ∙ zero-mul f)
 
 -- ---- the laws
 

@@ -3,15 +3,14 @@ use mathlib.Core.Path.{_≡_, refl, sym, ap, ap₂, _∙_, subst}
 use mathlib.Core.Logic.{_⊎_, inl, inr}
 use mathlib.Core.Bool.{Bool, true, false, not, cond, _&&_, true≢false, false≢true, and-true}
 use mathlib.Core.List.{List, [], _∷_, _++_, append-nil}
-use Prim.Native.Nat.{ℕ, zero, suc, _+_, _≤_, _<_, max, min}
+use Prim.Native.Nat.{ℕ, zero, suc, _≤_, _<_}
 use native.Mathlib.Omega.{arith}
-use lib.ListN.{length}
 use lib.Ieee.{Float}
 use Rattle.rules.specs.declared.Extent.{Extent}
-use Rattle.rules.specs.Plain.{branch, keep, all}
+use Rattle.rules.specs.Plain.{branch, all}
 use Rattle.rules.specs.Cell.{quarter}
 use Rattle.rules.specs.Tree.{Tree, none, leaf, node, depth, same, alike, inQuarter, pointsIn, grow}
-use Rattle.rules.proofs.CellList.{In, left, right, all-append, all-map, keep-append, keep-all, keep-none}
+use Rattle.rules.proofs.CellList.{In, all-append, all-map, keep-append, keep-all, keep-none}
 use Rattle.rules.proofs.CellPoints.{same-quarter}
 use Rattle.rules.proofs.CellIs.{Is, grow-node, depth-grow}
 use Rattle.rules.proofs.CellDeep.{max-of, quarterOf, inQuarter-is, inQuarter-own, depth-pos}

@@ -1,5 +1,5 @@
 -- The theorems on the cell rule. `Is at c t is` says that t is the tree of the points `is` in the cell c; `at` has the places of all points.
-use mathlib.Core.Path.{_≡_, sym, ap, _∙_}
+use mathlib.Core.Path.{_≡_, sym, _∙_}
 use mathlib.Core.Bool.{true, false}
 use mathlib.Core.List.{List, [], _∷_, _++_, Sublistᴰ}
 use Prim.Native.Nat.{ℕ, suc, _+_, _*_, _≤_, _<_, min}
@@ -19,7 +19,7 @@ use Rattle.rules.proofs.CellDeep.{quarterOf, together, Pair, depth-le, 
 use Rattle.rules.proofs.CellCount as Count
 use Rattle.rules.proofs.CellCount.{leaves, Fruitful, times, distinct, length-total, times-upTo}
 use Rattle.rules.proofs.CellInsert as Insert
-use Rattle.rules.proofs.CellInsert.{moved, insertT, into, ends, below}
+use Rattle.rules.proofs.CellInsert.{insertT, into, ends, below}
 use Rattle.rules.proofs.CellMore.{NoLarger, no-larger}
 use Rattle.rules.proofs.CellChain as Chains
 use Rattle.rules.proofs.CellChain.{EachChain, Points, Chain}
