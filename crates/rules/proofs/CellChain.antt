@@ -17,15 +17,15 @@ use Rattle.rules.proofs.CellPoints.{same-sym, same-quarter, same-refl}
 use Rattle.rules.proofs.CellIs.{Is}
 use Rattle.rules.proofs.CellCount.{all-same}
 
--- P holds of the chain of each leaf
-abbrev pub EachChain : {A : Type 0} → (List ℕ → Type 0) → Tree A → Type 0
-EachChain P none = Unit {0}
-EachChain P (leaf a js) = P js
-EachChain P (node a t0 t1 t2 t3) = EachChain P t0 × EachChain P t1 × EachChain P t2 × EachChain P t3
+-- P holds of what is known of each leaf and of its chain
+abbrev pub EachLeaf : {A : Type 0} → (A → List ℕ → Type 0) → Tree A → Type 0
+EachLeaf P none = Unit {0}
+EachLeaf P (leaf a js) = P a js
+EachLeaf P (node a t0 t1 t2 t3) = EachLeaf P t0 × EachLeaf P t1 × EachLeaf P t2 × EachLeaf P t3
 
-each-map : {A : Type 0} (P Q : List ℕ → Type 0) → ((js : List ℕ) → P js → Q js) → (t : Tree A) → EachChain P t → EachChain Q t
+each-map : {A : Type 0} (P Q : A → List ℕ → Type 0) → ((a : A) (js : List ℕ) → P a js → Q a js) → (t : Tree A) → EachLeaf P t → EachLeaf Q t
 each-map P Q f none h = tt
-each-map P Q f (leaf a js) h = f js h
+each-map P Q f (leaf a js) h = f a js h
 each-map P Q f (node a t0 t1 t2 t3) h = (each-map P Q f t0 (h .0), each-map P Q f t1 (h .1), each-map P Q f t2 (h .2), each-map P Q f t3 (h .3))
 
 -- each point is numerically equal to itself: no coordinate is a NaN
@@ -58,14 +58,14 @@ module _ (at : List Float) where
             ∙ keep-keep (same at i) (inQuarter at c q) (λ j e. sym (same-quarter at c q i j e) ∙ in-keep (inQuarter at c q) is i (in-keep (same at i) (pointsIn at c q is) i (subst (In i) (h .whole i m) m) .0) .1) is;
       }
 
-  pub chains : (t : Tree Extent) (c : Extent) (is : List ℕ) → Points at is → Is at c t is → EachChain (Chain at is) t
+  pub chains : (t : Tree Extent) (c : Extent) (is : List ℕ) → Points at is → Is at c t is → EachLeaf (λ _. Chain at is) t
   chains none c is p h = tt
   chains (leaf d js) c [] p h = absurd (omega arith)
   chains (leaf d js) c (i ∷ is) p h =
       subst (Chain at (i ∷ is)) (sym (h .1)) (record { some = omega arith; one = h .3; whole = λ j m. sym (whole-leaf i is (p i (inl refl)) (h .3) j m) })
   chains (node d t0 t1 t2 t3) c is p h = (
-    each-map (Chain at (pointsIn at c 0 is)) (Chain at is) (chain-up c 0 is) t0 (chains t0 (quarter 0 c) (pointsIn at c 0 is) (λ i m. p i (in-keep (inQuarter at c 0) is i m .0)) (h .2)),
-    each-map (Chain at (pointsIn at c 1 is)) (Chain at is) (chain-up c 1 is) t1 (chains t1 (quarter 1 c) (pointsIn at c 1 is) (λ i m. p i (in-keep (inQuarter at c 1) is i m .0)) (h .3)),
-    each-map (Chain at (pointsIn at c 2 is)) (Chain at is) (chain-up c 2 is) t2 (chains t2 (quarter 2 c) (pointsIn at c 2 is) (λ i m. p i (in-keep (inQuarter at c 2) is i m .0)) (h .4)),
-    each-map (Chain at (pointsIn at c 3 is)) (Chain at is) (chain-up c 3 is) t3 (chains t3 (quarter 3 c) (pointsIn at c 3 is) (λ i m. p i (in-keep (inQuarter at c 3) is i m .0)) (h .5)),
+    each-map (λ _. Chain at (pointsIn at c 0 is)) (λ _. Chain at is) (λ _. chain-up c 0 is) t0 (chains t0 (quarter 0 c) (pointsIn at c 0 is) (λ i m. p i (in-keep (inQuarter at c 0) is i m .0)) (h .2)),
+    each-map (λ _. Chain at (pointsIn at c 1 is)) (λ _. Chain at is) (λ _. chain-up c 1 is) t1 (chains t1 (quarter 1 c) (pointsIn at c 1 is) (λ i m. p i (in-keep (inQuarter at c 1) is i m .0)) (h .3)),
+    each-map (λ _. Chain at (pointsIn at c 2 is)) (λ _. Chain at is) (λ _. chain-up c 2 is) t2 (chains t2 (quarter 2 c) (pointsIn at c 2 is) (λ i m. p i (in-keep (inQuarter at c 2) is i m .0)) (h .4)),
+    each-map (λ _. Chain at (pointsIn at c 3 is)) (λ _. Chain at is) (λ _. chain-up c 3 is) t3 (chains t3 (quarter 3 c) (pointsIn at c 3 is) (λ i m. p i (in-keep (inQuarter at c 3) is i m .0)) (h .5)),
   )

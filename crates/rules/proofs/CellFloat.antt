@@ -32,7 +32,7 @@ beq-same false false e = refl
 
 -- ---- equal numbers with signs: the same number, and the same sign unless it is 0
 
-abbrev Level : Bool → ℕ → Bool → ℕ → Type 0
+abbrev pub Level : Bool → ℕ → Bool → ℕ → Type 0
 Level s a t b = (a ≡ b) × ((s ≡ t) ⊎ (a ≡ 0))
 
 level-true : (s : Bool) (a : ℕ) (t : Bool) (b : ℕ) → level s a t b ≡ true → Level s a t b
@@ -44,7 +44,7 @@ level-true s a t b = go (eqb a b) (Bool·beq s t) (eqb a 0) (eqb-true a b) (beq-
     go true false true f g h e = (f refl, inr (h refl))
     go true false false f g h e = absurd (false≢true e)
 
-level-of : (s : Bool) (a : ℕ) (t : Bool) (b : ℕ) → Level s a t b → level s a t b ≡ true
+pub level-of : (s : Bool) (a : ℕ) (t : Bool) (b : ℕ) → Level s a t b → level s a t b ≡ true
 level-of s a t b (e, inl f) = ap₂ (λ (p q : Bool). p && (q || eqb a 0)) (eq-eqb a b e) (beq-same s t f)
 level-of s a t b (e, inr z) = ap₂ (λ (p q : Bool). p && (Bool·beq s t || q)) (eq-eqb a b e) (eq-eqb a 0 z) ∙ or-true (Bool·beq s t)
   where

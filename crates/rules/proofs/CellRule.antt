@@ -21,8 +21,9 @@ use Rattle.rules.proofs.CellCount.{leaves, Fruitful, times, distinct, l
 use Rattle.rules.proofs.CellInsert as Insert
 use Rattle.rules.proofs.CellInsert.{insertT, into, ends, below}
 use Rattle.rules.proofs.CellMore.{NoLarger, no-larger}
+use Rattle.rules.proofs.CellInside.{FiniteCell, Inside, inside-leaves}
 use Rattle.rules.proofs.CellChain as Chains
-use Rattle.rules.proofs.CellChain.{EachChain, Points, Chain}
+use Rattle.rules.proofs.CellChain.{EachLeaf, Points, Chain}
 
 -- ==== theorems
 
@@ -101,7 +102,7 @@ module _ (at : List Float) where
   -- ---- leaves and chains
 
   -- Every leaf's chain is not empty, and has all the particles that are numerically equal to any of its own, in order.
-  pub chains : (t : Tree Extent) (c : Extent) (is : List ℕ) → Points at is → Is at c t is → EachChain (Chain at is) t
+  pub chains : (t : Tree Extent) (c : Extent) (is : List ℕ) → Points at is → Is at c t is → EachLeaf (λ _. Chain at is) t
   chains t c is p h = Chains.chains at t c is p h
 
   -- A particle stands in the chains as often as among the points.
@@ -115,6 +116,10 @@ module _ (at : List Float) where
   -- There is one leaf for each distinct point.
   pub leaves-distinct : (t : Tree Extent) (c : Extent) (is : List ℕ) → Is at c t is → leaves t ≡ distinct at is
   leaves-distinct t c is h = Count.leaves-distinct at t c is h
+
+  -- Every particle of a leaf lies in the leaf's cell, if all points lie in the root's, whose ends are finite.
+  pub leaves-inside : (t : Tree Extent) (c : Extent) (is : List ℕ) → FiniteCell c → ((i : ℕ) → In i is → Inside at c i) → Is at c t is → EachLeaf (λ d js. (i : ℕ) → In i js → Inside at d i) t
+  leaves-inside t c is f w h = inside-leaves at t c is f w h
 
   -- Of n particles in an accepted tree, each stands in exactly one chain.
   pub each-once : (n i : ℕ) → depth (treeOf at n) ≤ 65 → i < n → times i (chainsOf (treeOf at n)) ≡ 1

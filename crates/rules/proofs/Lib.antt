@@ -8,3 +8,4 @@ pub mod CellInsert
 pub mod CellMore
 pub mod CellChain
 pub mod CellRule
+pub mod CellInside
