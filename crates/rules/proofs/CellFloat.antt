@@ -35,7 +35,7 @@ beq-same false false e = refl
 abbrev pub Level : Bool → ℕ → Bool → ℕ → Type 0
 Level s a t b = (a ≡ b) × ((s ≡ t) ⊎ (a ≡ 0))
 
-level-true : (s : Bool) (a : ℕ) (t : Bool) (b : ℕ) → level s a t b ≡ true → Level s a t b
+pub level-true : (s : Bool) (a : ℕ) (t : Bool) (b : ℕ) → level s a t b ≡ true → Level s a t b
 level-true s a t b = go (eqb a b) (Bool·beq s t) (eqb a 0) (eqb-true a b) (beq-true s t) (eqb-true a 0)
   where
     go : (p q r : Bool) → (p ≡ true → a ≡ b) → (q ≡ true → s ≡ t) → (r ≡ true → a ≡ 0) → (p && (q || r)) ≡ true → Level s a t b

@@ -16,7 +16,7 @@ use Rattle.rules.specs.Cell.{middle, xm, ym, quadrant, quarter}
 use Rattle.rules.specs.Opened.{opened}
 use Rattle.rules.specs.Tree.{Tree, none, leaf, node, inQuarter, pointsIn}
 use Rattle.rules.proofs.CellList.{In, in-keep}
-use Rattle.rules.proofs.CellFloat.{Level, level-of}
+use Rattle.rules.proofs.CellFloat.{Level, level-of, level-true}
 use Rattle.rules.proofs.CellDeep.{quarterOf, inQuarter-is}
 use Rattle.rules.proofs.CellIs.{Is}
 use Rattle.rules.proofs.CellChain.{EachLeaf}
@@ -163,6 +163,42 @@ above (fin s m f) (fin t n d) h g e =
     let (p, q) = neither (below s (m * up f * down d) t (n * up d * down f)) (level s (m * up f * down d) t (n * up d * down f)) e in
     not-below s (m * up f * down d) t (n * up d * down f) p q
 
+not-above : (s : Bool) (a : ℕ) (t : Bool) (b : ℕ) → below t b s a ≡ true → (below s a t b || level s a t b) ≡ false
+not-above s a t b h = go (below s a t b) (level s a t b) refl refl
+  where
+    twice : (s : Bool) (a : ℕ) (t : Bool) (b : ℕ) → below t b s a ≡ true → below s a t b ≡ true → ⊥
+    twice false a false b h g = omega (arith, ltb-true b a h, ltb-true a b g)
+    twice false a true b h g = false≢true g
+    twice true a false b h g = false≢true h
+    twice true a true b h g = omega (arith, ltb-true a b h, ltb-true b a g)
+
+    equal : (s : Bool) (a : ℕ) (t : Bool) (b : ℕ) → below t b s a ≡ true → Level s a t b → ⊥
+    equal false a false b h (e, o) = omega (arith, ltb-true b a h)
+    equal false a true b h (e, inl o) = false≢true o
+    equal false a true b h (e, inr o) = omega (arith, ltb-true 0 (b + a) h)
+    equal true a false b h (e, o) = false≢true h
+    equal true a true b h (e, o) = omega (arith, ltb-true a b h)
+
+    go : (p q : Bool) → below s a t b ≡ p → level s a t b ≡ q → (p || q) ≡ false
+    go true q e f = absurd (twice s a t b h e)
+    go false true e f = absurd (equal s a t b h (level-true s a t b f))
+    go false false e f = refl
+
+beneath : (m x : Float) → lt x m ≡ true → le m x ≡ false
+unfolding le lt eq
+beneath nan x e = refl
+beneath (inf s) nan e = refl
+beneath (inf true) (inf true) e = absurd (false≢true e)
+beneath (inf true) (inf false) e = absurd (false≢true e)
+beneath (inf false) (inf true) e = refl
+beneath (inf false) (inf false) e = absurd (false≢true e)
+beneath (inf true) (fin t n d) e = absurd (false≢true e)
+beneath (inf false) (fin t n d) e = refl
+beneath (fin s m f) nan e = refl
+beneath (fin s m f) (inf true) e = refl
+beneath (fin s m f) (inf false) e = absurd (false≢true e)
+beneath (fin s m f) (fin t n d) e = not-above s (m * up f * down d) t (n * up d * down f) e
+
 -- what is compared is a number
 le-number : (a x : Float) → le a x ≡ true → number x ≡ true
 unfolding le lt eq
@@ -244,3 +280,12 @@ module _ (at : List Float) where
 
   pub inside-leaves : (t : Tree Extent) (c : Extent) (is : List ℕ) → FiniteCell c → ((i : ℕ) → In i is → Inside at c i) → Is at c t is → EachLeaf (λ d js. (i : ℕ) → In i js → Inside at d i) t
   inside-leaves t c is f w h = inside-sound t c is (finite-ends (c .x0) (c .x1) (f .x0) (f .x1), finite-ends (c .y0) (c .y1) (f .y0) (f .y1)) w h
+
+  -- what lies in a quarter's cell lies in that quarter
+  pub inside-quarter : (q : ℕ) (c : Extent) (i : ℕ) → q < 4 → Inside at (quarter q c) i → inQuarter at c q i ≡ true
+  unfolding inQuarter quadrant quarter
+  inside-quarter zero c i l w = ap₂ (λ (a b : Bool). eqb 0 (cond a 2 0 + cond b 1 0)) (beneath (ym c) (yAt at i) (w .y .high)) (beneath (xm c) (xAt at i) (w .x .high))
+  inside-quarter (suc zero) c i l w = ap₂ (λ (a b : Bool). eqb 1 (cond a 2 0 + cond b 1 0)) (beneath (ym c) (yAt at i) (w .y .high)) (w .x .low)
+  inside-quarter (suc (suc zero)) c i l w = ap₂ (λ (a b : Bool). eqb 2 (cond a 2 0 + cond b 1 0)) (w .y .low) (beneath (xm c) (xAt at i) (w .x .high))
+  inside-quarter (suc (suc (suc zero))) c i l w = ap₂ (λ (a b : Bool). eqb 3 (cond a 2 0 + cond b 1 0)) (w .y .low) (w .x .low)
+  inside-quarter (suc (suc (suc (suc q)))) c i l w = absurd (omega arith)

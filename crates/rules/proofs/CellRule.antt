@@ -1,5 +1,5 @@
 -- The theorems on the cell rule. `Is at c t is` says that t is the tree of the points `is` in the cell c; `at` has the places of all points.
-use mathlib.Core.Path.{_≡_, sym, _∙_}
+use mathlib.Core.Path.{_≡_, sym, _∙_, subst}
 use mathlib.Core.Bool.{true, false}
 use mathlib.Core.List.{List, [], _∷_, _++_, Sublistᴰ}
 use Prim.Native.Nat.{ℕ, suc, _+_, _*_, _≤_, _<_, min}
@@ -17,9 +17,11 @@ use Rattle.rules.proofs.CellIs as Relation
 use Rattle.rules.proofs.CellIs.{Is}
 use Rattle.rules.proofs.CellDeep.{quarterOf, together, Pair, depth-le, deep, deep-pair}
 use Rattle.rules.proofs.CellCount as Count
-use Rattle.rules.proofs.CellCount.{leaves, Fruitful, times, distinct, length-total, times-upTo}
+use Rattle.rules.proofs.CellCount.{leaves, Fruitful, times, distinct, length-total, length-upTo, times-upTo, upTo-snoc}
 use Rattle.rules.proofs.CellInsert as Insert
 use Rattle.rules.proofs.CellInsert.{insertT, into, ends, below}
+use Rattle.rules.proofs.CellWrap as Wrap
+use Rattle.rules.proofs.CellWrap.{wrapT}
 use Rattle.rules.proofs.CellMore.{NoLarger, no-larger}
 use Rattle.rules.proofs.CellInside.{FiniteCell, Inside, inside-leaves}
 use Rattle.rules.proofs.CellChain as Chains
@@ -77,11 +79,12 @@ module _ (at : List Float) where
   unfolding treeIn
   tree-whole c is l = Relation.grow-is at 65 c is l
 
-  -- And it has that one level more exactly where the whole tree passes level 64.
+  -- A tree of the points that passes no level past 64 is the rule's.
   pub tree-grown : (t : Tree Extent) (c : Extent) (is : List ℕ) → Is at c t is → depth t ≤ 65 → t ≡ treeIn at c is
   unfolding treeIn
   tree-grown t c is h l = Relation.grown at t 66 c is h (omega arith)
 
+  -- Where the tree of the points passes level 64, the rule's tree has that one level more.
   pub tree-passes : (t : Tree Extent) (c : Extent) (is : List ℕ) → Is at c t is → 65 < depth t → depth (treeIn at c is) ≡ 66
   unfolding treeIn
   tree-passes t c is h l = Relation.depth-grow at t 66 c is h ∙ least (depth t) l
@@ -136,6 +139,14 @@ module _ (at : List Float) where
   pub nodes-points : (t : Tree Extent) (c : Extent) (is : List ℕ) → Is at c t is → depth t ≤ 65 → nodes t ≤ 1 + 64 * length is
   nodes-points t c is h l = omega (arith, nodes-distinct t c is h l, Count.distinct-le at is)
 
+  -- So of an accepted tree of n particles.
+  pub tree-nodes : (n : ℕ) → depth (treeOf at n) ≤ 65 → (nodes (treeOf at n) ≤ 1 + 64 * distinct at (upTo n)) × (nodes (treeOf at n) ≤ 1 + 64 * n)
+  unfolding treeOf
+  tree-nodes n l =
+      let c = extentOf (coverAll at (upTo n)) in
+      let h = tree-whole c (upTo n) l in
+      (nodes-distinct (treeIn at c (upTo n)) c (upTo n) h l, subst (λ (m : ℕ). nodes (treeIn at c (upTo n)) ≤ 1 + 64 * m) (length-upTo n) (nodes-points (treeIn at c (upTo n)) c (upTo n) h l))
+
   -- ---- more points
 
   -- With points left out, a tree has no more nodes and no more levels.
@@ -145,6 +156,11 @@ module _ (at : List Float) where
   -- With points added, a tree has no fewer nodes and no fewer levels.
   pub more : (k : ℕ) (c : Extent) (js rest : List ℕ) → NoLarger (grow at k c js) (grow at k c (js ++ rest))
   more k c js rest = no-larger at k c js (js ++ rest) (prefix-sublist js rest)
+
+  -- So of the rule's tree.
+  pub tree-more : (c : Extent) (js rest : List ℕ) → NoLarger (treeIn at c js) (treeIn at c (js ++ rest))
+  unfolding treeIn
+  tree-more c js rest = more 66 c js rest
 
   -- ---- one more point, p, with k levels to go
 
@@ -180,10 +196,21 @@ module _ (at : List Float) where
     pub insert-passes : (t : Tree Extent) (k : ℕ) (c : Extent) (is : List ℕ) → Is at c t is → k < depth (insertT at p c k t) → k < depth (grow at (suc k) c (is ++ (p ∷ [])))
     insert-passes t k c is h l = Insert.insert-deep at p k c t is h l
 
-    -- So within 65 levels it is the rule's tree, and past them the rule's tree passes level 64.
+    -- Of the particles below p, with p: the tree of the particles below p + 1.
+    pub inserted-next : (t : Tree Extent) (k : ℕ) (c : Extent) → Is at c t (upTo p) → depth (insertT at p c k t) ≤ k → Is at c (insertT at p c k t) (upTo (p + 1))
+    inserted-next t k c h l = subst (Is at c (insertT at p c k t)) (sym (upTo-snoc p)) (inserted t k c (upTo p) h l)
+
+    -- Within levels 0 to 64 the result is the rule's tree.
     pub insert-tree : (t : Tree Extent) (c : Extent) (is : List ℕ) → Is at c t is → depth (insertT at p c 65 t) ≤ 65 → insertT at p c 65 t ≡ treeIn at c (is ++ (p ∷ []))
     insert-tree t c is h l = tree-grown (insertT at p c 65 t) c (is ++ (p ∷ [])) (inserted t 65 c is h l) l
 
+    -- Past them the rule's tree passes level 64.
     pub insert-refused : (t : Tree Extent) (c : Extent) (is : List ℕ) → Is at c t is → 65 < depth (insertT at p c 65 t) → 65 < depth (treeIn at c (is ++ (p ∷ [])))
     unfolding treeIn
     insert-refused t c is h l = insert-passes t 65 c is h l
+
+  -- ---- a larger root cell
+
+  -- A cell of which the quarter q has all the points has that quarter's tree as its only child, or the same leaf.
+  pub wrapped : (c : Extent) (q : ℕ) (t : Tree Extent) (is : List ℕ) → q < 4 → ((i : ℕ) → In i is → Inside at (quarter q c) i) → Is at (quarter q c) t is → Is at c (wrapT c q t) is
+  wrapped c q t is l w h = Wrap.wrapped at c q t is l w h

@@ -9,3 +9,4 @@ pub mod CellMore
 pub mod CellChain
 pub mod CellRule
 pub mod CellInside
+pub mod CellWrap
