@@ -1,6 +1,6 @@
 -- Counting in the tree of the cell rule: leaves and distinct points, particles and chains, nodes and levels.
 use mathlib.Core.Path.{_≡_, refl, sym, ap, ap₂, _∙_, subst}
-use mathlib.Core.Logic.{_≢_}
+use mathlib.Core.Logic.{_≢_, _⊎_, inl, inr}
 use mathlib.Core.Bool.{Bool, true, false, not, cond, _&&_, true≢false}
 use mathlib.Core.List.{List, [], _∷_, _++_}
 use Prim.Native.Nat.{ℕ, zero, suc, _+_, _*_, _≤_, _<_}
@@ -9,13 +9,13 @@ use lib.ListN.{length}
 use lib.Dec.{eqb}
 use native.Mathlib.Nat.{zero-add}
 use native.Mathlib.Numerals.{add-one}
-use borrow.Author.Tests.{eqb-true, eqb-false}
+use borrow.Author.Tests.{eqb-true, eqb-false, eq-eqb}
 use lib.Ieee.{Float}
 use Rattle.rules.specs.declared.Extent.{Extent}
 use Rattle.rules.specs.Plain.{all, countFrom, upTo}
 use Rattle.rules.specs.Cell.{quarter}
 use Rattle.rules.specs.Tree.{Tree, none, leaf, node, depth, nodes, same, inQuarter, pointsIn, chainsOf}
-use Rattle.rules.proofs.CellList.{total, total-append, left, right, all-map, all-keep}
+use Rattle.rules.proofs.CellList.{In, total, total-append, left, right, all-map, all-keep}
 use Rattle.rules.proofs.CellPoints.{same-sym, same-trans, same-quarter, total-quarters}
 use Rattle.rules.proofs.CellIs.{Is}
 
@@ -61,6 +61,19 @@ times i is = total (λ j _. cond (eqb i j) 1 0) is
 pub length-total : (is : List ℕ) → total (λ i _. 1) is ≡ length is
 length-total [] = refl
 length-total (i ∷ is) = omega (arith, length-total is)
+
+pub in-times : (i : ℕ) (l : List ℕ) → In i l → 0 < times i l
+in-times i [] m = absurd m
+in-times i (j ∷ l) (inl e) = subst (λ (b : Bool). 0 < cond b 1 0 + times i l) (sym (eq-eqb i j e)) (omega arith)
+in-times i (j ∷ l) (inr m) = omega (arith, in-times i l m)
+
+pub times-in : (i : ℕ) (l : List ℕ) → 0 < times i l → In i l
+times-in i [] h = absurd (omega arith)
+times-in i (j ∷ l) h = go (eqb i j) refl h (times-in i l)
+  where
+    go : (b : Bool) → eqb i j ≡ b → 0 < cond b 1 0 + times i l → (0 < times i l → In i l) → In i (j ∷ l)
+    go true e h rest = inl (eqb-true i j e)
+    go false e h rest = inr (rest (omega arith))
 
 -- of the numbers a, a + 1, .. each below the last stands there once
 times-before : (i a k : ℕ) → i < a → times i (countFrom a k) ≡ 0

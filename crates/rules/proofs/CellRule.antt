@@ -1,5 +1,6 @@
 -- The theorems on the cell rule. `Is at c t is` says that t is the tree of the points `is` in the cell c; `at` has the places of all points.
 use mathlib.Core.Path.{_≡_, sym, _∙_, subst}
+use mathlib.Core.Logic.{_↔_}
 use mathlib.Core.Bool.{true, false}
 use mathlib.Core.List.{List, [], _∷_, _++_, Sublistᴰ}
 use Prim.Native.Nat.{ℕ, suc, _+_, _*_, _≤_, _<_, min}
@@ -9,6 +10,7 @@ use lib.ListN.{length}
 use lib.Ieee.{Float}
 use Rattle.rules.specs.declared.Extent.{Extent}
 use Rattle.rules.specs.Plain.{upTo}
+use Rattle.rules.specs.Number.{placeRange, xAt, yAt}
 use Rattle.rules.specs.Cell.{quarter}
 use Rattle.rules.specs.Cover.{coverAll, extentOf}
 use Rattle.rules.specs.Tree.{Tree, none, leaf, node, depth, nodes, same, alike, inQuarter, pointsIn, grow, treeIn, treeOf, chainsOf}
@@ -17,7 +19,7 @@ use Rattle.rules.proofs.CellIs as Relation
 use Rattle.rules.proofs.CellIs.{Is}
 use Rattle.rules.proofs.CellDeep.{quarterOf, together, Pair, depth-le, deep, deep-pair}
 use Rattle.rules.proofs.CellCount as Count
-use Rattle.rules.proofs.CellCount.{leaves, Fruitful, times, distinct, length-total, length-upTo, times-upTo, upTo-snoc}
+use Rattle.rules.proofs.CellCount.{leaves, Fruitful, times, distinct, in-times, times-in, length-total, length-upTo, times-upTo, upTo-snoc}
 use Rattle.rules.proofs.CellInsert as Insert
 use Rattle.rules.proofs.CellInsert.{insertT, into, ends, below}
 use Rattle.rules.proofs.CellWrap as Wrap
@@ -104,6 +106,10 @@ module _ (at : List Float) where
 
   -- ---- leaves and chains
 
+  -- Points whose coordinates are in range are numerically equal to themselves.
+  pub points : (is : List ℕ) → ((i : ℕ) → In i is → placeRange (xAt at i) (yAt at i) ≡ true) → Points at is
+  points is h = Chains.finite-points at is h
+
   -- Every leaf's chain is not empty, and has all the particles that are numerically equal to any of its own, in order.
   pub chains : (t : Tree Extent) (c : Extent) (is : List ℕ) → Points at is → Is at c t is → EachLeaf (λ _. Chain at is) t
   chains t c is p h = Chains.chains at t c is p h
@@ -111,6 +117,12 @@ module _ (at : List Float) where
   -- A particle stands in the chains as often as among the points.
   pub chains-times : (t : Tree Extent) (c : Extent) (is : List ℕ) (i : ℕ) → Is at c t is → times i (chainsOf t) ≡ times i is
   chains-times t c is i h = Count.times-chains at t c is i h
+
+  -- So each of the points stands in a chain, and nothing else does.
+  pub chains-in : (t : Tree Extent) (c : Extent) (is : List ℕ) (i : ℕ) → Is at c t is → In i (chainsOf t) ↔ In i is
+  chains-in t c is i h =
+      let e = chains-times t c is i h in
+      (λ m. times-in i is (subst (λ (n : ℕ). 0 < n) e (in-times i (chainsOf t) m)), λ m. times-in i (chainsOf t) (subst (λ (n : ℕ). 0 < n) (sym e) (in-times i is m)))
 
   -- The chains together are as long as the list of points.
   pub chains-length : (t : Tree Extent) (c : Extent) (is : List ℕ) → Is at c t is → length (chainsOf t) ≡ length is
