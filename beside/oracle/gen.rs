@@ -468,7 +468,7 @@ fn spoil_tick(r: &mut Random, tick: &mut Tick) {
 
 /// How often a case is spoilt: mostly not, and sometimes twice, so that the order of the tests shows.
 fn spoils(r: &mut Random) -> usize {
-    match r.below(10) {
+    match r.below(8) {
         0 => 1,
         1 => 2,
         _ => 0,

@@ -98,7 +98,7 @@ fn row(name: &'static str, case: Case, expected: String) -> Row {
 // ---- the rows
 
 fn rows() -> Vec<Row> {
-    [trees(), forces(), moves(), ticks(), refusals()].into_iter().flatten().collect()
+    [trees(), forces(), moves(), ticks(), refusals(), orders()].into_iter().flatten().collect()
 }
 
 /// Internal nodes from level 0 on, all in quadrant 0, then two leaves below in these quadrants.
@@ -251,6 +251,42 @@ fn refusals() -> Vec<Row> {
         row("Collide looks at no alpha", with(collide(1.0, 0, &[1.0, 1.0]), nan, sound()), format!("ok 0 0 |{}", numbers(&[0.0; 4]))),
         row("65 iterations", with(collide(1.0, 65, &[]), 1.0, sound()), refused(1, 0)),
         row("8,193 links", with(link(&[(9, 9); 8193], &[], &[]), 1.0, sound()), refused(1, 0)),
-        row("an unknown kind", Case::Tick(tick(&[Force::Unknown(9)], sound(), &[2.0])), refused(5, 0)),
+        row("65 iterations of links", with(Force::Link { iterations: 65, links: vec![], strengths: vec![], distances: vec![] }, 1.0, sound()), refused(1, 0)),
+        row("a link's other end", with(link(&[(1, 0), (0, 2)], &[], &[0.0; 2]), 1.0, sound()), refused(3, 1)),
+        row("radii before the strength", with(collide(nan, 1, &[1.0, -1.0]), 1.0, sound()), refused(5, 1)),
+        row("y alone", tree(9, &[[0.0, 0.0], [0.0, -2.0 * LIMIT]]), refused(4, 1)),
+        row("vy alone", Case::Tree { slots: 9, particles: vec![particle(0.0, 0.0, 0.0, nan, 0)] }, refused(5, 0)),
+        row("a draw that is not used", force(many_body(&[1.0]), &pair[..1], &[0.0, 2.0]), refused(5, 1)),
+        row("draws of 1 and -1", force(many_body(&[1.0]), &pair[..1], &[1.0, -1.0]), format!("ok 1 0 |{}", numbers(&[0.0; 2]))),
+        row("a radius of 2^40", force(collide(1.0, 1, &[LIMIT]), &pair[..1], &[]), format!("ok 1 0 |{}", numbers(&[0.0; 2]))),
+    ]
+}
+
+/// The order of the tests before a tick.
+fn orders() -> Vec<Row> {
+    let nan = f64::NAN;
+    let sound = || still(&[[0.0, 0.0], [3.0, 4.0]]);
+    let unsound = || still(&[[0.0, 0.0], [nan, 4.0]]);
+    let ticked = |forces: &[Force], particles, draws: &[f64]| Case::Tick(tick(forces, particles, draws));
+    let late = [0.5, 2.0];
+    let cold = Tick { alpha: nan, ..tick(&[], sound(), &late) };
+    let own = [0.0, 0.0, 0.0, 0.0, 3.0, 4.0, 0.0, 0.0];
+    vec![
+        row("counts before lengths", ticked(&[many_body(&[1.0]), collide(1.0, 65, &[])], sound(), &[]), refused(1, 0)),
+        row("lengths before ends", ticked(&[link(&[(9, 9)], &[], &[]), many_body(&[1.0, 1.0])], sound(), &[]), refused(2, 0)),
+        row("one strength too few", ticked(&[many_body(&[1.0])], sound(), &[]), refused(2, 0)),
+        row("two strengths for one link", ticked(&[link(&[(0, 1)], &[1.0; 2], &[0.0])], sound(), &[]), refused(2, 0)),
+        row("ends before records", ticked(&[link(&[(0, 1), (0, 2)], &[], &[0.0; 2])], unsound(), &[]), refused(3, 1)),
+        row("records before lists", ticked(&[many_body(&[nan, 1.0])], unsound(), &[]), refused(4, 1)),
+        row("lists before draws", ticked(&[many_body(&[1.0, nan])], sound(), &[2.0]), refused(5, 1)),
+        row("an unknown kind before draws", ticked(&[Force::Unknown(9)], sound(), &late), refused(5, 0)),
+        row("an earlier slot's list first", ticked(&[many_body(&[1.0, nan]), Force::Unknown(9)], sound(), &[]), refused(5, 1)),
+        row("draws before settings", Case::Tick(cold), refused(5, 1)),
+        row("alpha_min", Case::Step { tick: tick(&[], sound(), &[]), min: nan, budget: 1 }, refused(5, 0)),
+        row(
+            "strengths lent before distances",
+            ticked(&[link(&[(0, 0)], &[-1.0], &[1.0])], sound(), &[]),
+            format!("ok 0 0 {} |{}", hex(1.0), numbers(&own)),
+        ),
     ]
 }
