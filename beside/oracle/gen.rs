@@ -73,7 +73,7 @@ type Point = [f64; 2];
 /// Points that 01 and the traps name.
 fn named_points(r: &mut Random) -> Vec<Point> {
     let (h64, h65, h53) = (two_to(-64), two_to(-65), two_to(-53));
-    match r.below(12) {
+    match r.below(15) {
         0 => vec![[0.0, 0.0], [h64, 0.0], [1.0, 1.0]],
         1 => vec![[1.0, 0.0], [1.0, h53]],
         2 => vec![[LIMIT, -LIMIT], [LIMIT, LIMIT], [-LIMIT, 0.0]],
@@ -85,8 +85,17 @@ fn named_points(r: &mut Random) -> Vec<Point> {
         8 => vec![[0.0, 0.0], [3.0, 3.0], [0.0, 0.0]],
         9 => vec![[-0.5, 0.0], [-0.0, -0.5]],
         10 => vec![[0.0, 0.0], [h64, h64], [-1.0, -1.0], [-3.0, 0.0]],
-        _ => comb(if r.once_in(3) { 64 } else { 1 + r.below(12) }),
+        11 => comb(if r.once_in(3) { 64 } else { 1 + r.below(12) }),
+        _ => edge_of_far(r),
     }
+}
+
+/// A point whose cell, seen from (0,0), lies at the distance where far begins, or a few bits beside.
+fn edge_of_far(r: &mut Random) -> Vec<Point> {
+    let side = two_to(r.below(8) as i64);
+    let y = if r.once_in(3) { 0.0 } else { r.unit() * side };
+    let x = (side * side / (0.9 * 0.9) - y * y).sqrt();
+    vec![[0.0, 0.0], [f64::from_bits(x.to_bits() + r.below(7) as u64 - 3), y]]
 }
 
 /// (0,0) and the other corners of the squares of side 1/2, 1/4 and so on: a walk has three waiting at every level.
@@ -114,6 +123,7 @@ fn coordinate(r: &mut Random, style: usize) -> f64 {
         9 => 1.0 + r.whole(2) * r.pick(&[two_to(-52), two_to(-53), 0.0]),
         10 => r.signed_unit() * 30.0,
         11 => r.signed_unit(),
+        12 => r.pick(&[0.0, -0.0]),
         _ => r.whole(3) + r.pick(&[0.0, 0.0, two_to(-30), -0.5]),
     }
 }
@@ -142,7 +152,7 @@ fn places(r: &mut Random, max: usize) -> Vec<Point> {
         2 => return outward(r, n),
         _ => {}
     }
-    let styles = [r.below(13), r.below(13)];
+    let styles = [r.below(14), r.below(14)];
     let mixed = r.once_in(2);
     let mut points: Vec<Point> = Vec::new();
     for i in 0..n {
@@ -167,8 +177,8 @@ fn count(r: &mut Random, max: usize) -> usize {
 
 fn velocity(r: &mut Random) -> f64 {
     match r.below(24) {
-        0..=9 => 0.0,
-        10 => -0.0,
+        0..=7 => 0.0,
+        8..=10 => -0.0,
         11..=14 => r.whole(4) / 2.0,
         15..=19 => r.signed_unit() * 10.0,
         20 => r.spread(-30, 32),

@@ -14,21 +14,22 @@ struct Row {
 pub fn run() -> bool {
     let mut fine = true;
     for row in rows() {
-        fine &= report(&row, "rust", rust::answer(&row.case, MinusZero::AsZero));
-        fine &= report(&row, "rule", by_rule(&row.case));
+        let answers = [("rust", rust::answer(&row.case, MinusZero::AsZero)), ("rule", by_rule(&row.case))];
+        fine &= report(&row, &answers);
     }
     let kept = minus_zero_kept();
-    fine & report(&kept, "raw", rust::answer(&kept.case, MinusZero::AsItIs))
+    let answer = rust::answer(&kept.case, MinusZero::AsItIs);
+    fine & report(&kept, &[("raw", answer)])
 }
 
-fn report(row: &Row, mode: &str, answer: String) -> bool {
-    let right = answer == row.expected;
-    if right {
-        println!("{}, {mode}: as written down", row.name);
+fn report(row: &Row, answers: &[(&str, String)]) -> bool {
+    let wrong: Vec<String> = answers.iter().filter(|(_, a)| *a != row.expected).map(|(mode, a)| format!(", {mode} {a}")).collect();
+    if wrong.is_empty() {
+        println!("{}: right", row.name);
     } else {
-        println!("{}, {mode}: WRONG\n  case     {}\n  expected {}\n  answer   {answer}", row.name, write(&row.case), row.expected);
+        println!("{}: WRONG: case {}, expected {}{}", row.name, write(&row.case), row.expected, wrong.concat());
     }
-    right
+    wrong.is_empty()
 }
 
 // ---- how cases and answers are written down
