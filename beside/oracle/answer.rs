@@ -70,9 +70,7 @@ pub fn write(outcome: &Outcome) -> String {
         Ok(Answer::Floor(z)) => format!("ok {z}"),
         Ok(Answer::Root(x)) => format!("ok {}", hex(*x)),
         Ok(Answer::Tree { extent, rows }) => tree(extent, rows),
-        Ok(Answer::Visit { first, last }) => {
-            words(&format!("{} |", words("ok", first, usize::to_string)), last, usize::to_string)
-        }
+        Ok(Answer::Visit { first, last }) => words(&format!("{} |", words("ok", first, usize::to_string)), last, usize::to_string),
         Ok(Answer::Force { visits, used, velocities }) => {
             words(&format!("ok {visits} {used} |"), velocities, |v| format!("{} {}", hex(v[0]), hex(v[1])))
         }

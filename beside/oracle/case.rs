@@ -87,12 +87,7 @@ impl Words<'_> {
             "-" => Force::Empty,
             "M" => Force::ManyBody { strengths: self.floats()? },
             "C" => Force::Collide { strength: self.float()?, iterations: self.whole()?, radii: self.floats()? },
-            "L" => Force::Link {
-                iterations: self.whole()?,
-                links: self.links()?,
-                strengths: self.floats()?,
-                distances: self.floats()?,
-            },
+            "L" => Force::Link { iterations: self.whole()?, links: self.links()?, strengths: self.floats()?, distances: self.floats()? },
             "E" => Force::Center { x: self.float()?, y: self.float()?, strength: self.float()? },
             "?" => Force::Unknown(self.whole()?),
             _ => return None,

@@ -73,7 +73,7 @@ type Point = [f64; 2];
 /// Points that 01 and the traps name.
 fn named_points(r: &mut Random) -> Vec<Point> {
     let (h64, h65, h53) = (two_to(-64), two_to(-65), two_to(-53));
-    match r.below(15) {
+    match r.below(12) {
         0 => vec![[0.0, 0.0], [h64, 0.0], [1.0, 1.0]],
         1 => vec![[1.0, 0.0], [1.0, h53]],
         2 => vec![[LIMIT, -LIMIT], [LIMIT, LIMIT], [-LIMIT, 0.0]],
@@ -85,8 +85,7 @@ fn named_points(r: &mut Random) -> Vec<Point> {
         8 => vec![[0.0, 0.0], [3.0, 3.0], [0.0, 0.0]],
         9 => vec![[-0.5, 0.0], [-0.0, -0.5]],
         10 => vec![[0.0, 0.0], [h64, h64], [-1.0, -1.0], [-3.0, 0.0]],
-        11 => comb(if r.once_in(3) { 64 } else { 1 + r.below(12) }),
-        _ => edge_of_far(r),
+        _ => comb(if r.once_in(3) { 64 } else { 1 + r.below(12) }),
     }
 }
 
@@ -144,12 +143,21 @@ fn outward(r: &mut Random, n: usize) -> Vec<Point> {
         .collect()
 }
 
+/// Three places at most, so that the chains are long.
+fn few(r: &mut Random, count: usize) -> Vec<Point> {
+    let style = r.below(14);
+    let some: Vec<Point> = (0..3).map(|_| [coordinate(r, style), coordinate(r, style)]).collect();
+    (0..count).map(|_| r.pick(&some)).collect()
+}
+
 fn places(r: &mut Random, max: usize) -> Vec<Point> {
     let n = count(r, max);
     match r.below(24) {
         0 => return named_points(r),
         1 => return grid(n, r.pick(&[1.0, 0.5, 3.0])),
         2 => return outward(r, n),
+        3 => return few(r, max.min(2 * n)),
+        4 => return edge_of_far(r),
         _ => {}
     }
     let styles = [r.below(14), r.below(14)];
@@ -230,7 +238,7 @@ fn strength(r: &mut Random) -> f64 {
         5 => 0.0,
         6 => -0.0,
         7 | 8 => r.whole(4),
-        9 => r.pick(&[LIMIT, -LIMIT, two_to(-1074), -two_to(-1022)]),
+        9 => r.pick(&[LIMIT, -LIMIT, two_to(-1074), -two_to(-1022), 30.0]),
         10 => r.spread(-60, 39),
         _ => r.signed_unit() * 50.0,
     }
@@ -307,12 +315,34 @@ fn iterations(r: &mut Random) -> u64 {
 // ---- forces
 
 fn many_body(r: &mut Random, n: usize) -> Force {
-    Force::ManyBody { strengths: list(r, n, strength) }
+    let mut strengths = list(r, n, strength);
+    if r.once_in(4) {
+        // most of them zero, so that cells have no centre
+        for s in strengths.iter_mut() {
+            *s = if r.once_in(3) { *s } else { r.pick(&[0.0, -0.0]) };
+        }
+    }
+    Force::ManyBody { strengths }
 }
 
-fn collide(r: &mut Random, n: usize) -> Force {
+fn collide(r: &mut Random, particles: &[Record]) -> Force {
     let strength = if r.once_in(3) { setting(r) } else { r.pick(&[1.0, 0.5, 0.7, 0.0, -0.0]) };
-    Force::Collide { strength, iterations: iterations(r), radii: list(r, n, radius) }
+    let mut radii = list(r, particles.len(), radius);
+    if !particles.is_empty() && r.once_in(4) {
+        reach_an_end(r, particles, &mut radii);
+    }
+    Force::Collide { strength, iterations: iterations(r), radii }
+}
+
+/// One particle whose reach ends where a cell begins, or a bit beside.
+fn reach_an_end(r: &mut Random, particles: &[Record], radii: &mut [f64]) {
+    let i = r.below(particles.len());
+    let end = particles[r.below(particles.len())].x.floor() + r.whole(2);
+    let reach = (end - particles[i].x).abs();
+    if reach > 0.0 && reach < LIMIT {
+        radii.fill(0.0);
+        radii[i] = f64::from_bits(reach.to_bits() + r.below(3) as u64 - 1);
+    }
 }
 
 fn link(r: &mut Random, n: usize) -> Force {
@@ -329,18 +359,19 @@ fn center(r: &mut Random) -> Force {
     Force::Center { x: setting(r), y: setting(r), strength: if r.once_in(2) { 1.0 } else { r.signed_unit() } }
 }
 
-fn any_force(r: &mut Random, n: usize) -> Force {
+fn any_force(r: &mut Random, particles: &[Record]) -> Force {
+    let n = particles.len();
     match r.below(7) {
         0 | 1 => many_body(r, n),
-        2 | 3 => collide(r, n),
+        2 | 3 => collide(r, particles),
         4 | 5 => link(r, n),
         _ => center(r),
     }
 }
 
-fn eight(r: &mut Random, n: usize) -> Vec<Force> {
+fn eight(r: &mut Random, particles: &[Record]) -> Vec<Force> {
     let dense = r.once_in(8);
-    (0..8).map(|_| if dense || r.once_in(4) { any_force(r, n) } else { Force::Empty }).collect()
+    (0..8).map(|_| if dense || r.once_in(4) { any_force(r, particles) } else { Force::Empty }).collect()
 }
 
 // ---- what is refused
@@ -496,7 +527,8 @@ fn number(r: &mut Random) -> f64 {
         4 => f64::from_bits(r.next() >> 12), // subnormal
         5 => {
             let root = (r.next() >> 38) as f64;
-            f64::from_bits((root * root).to_bits() + r.below(3) as u64 - (root > 0.0) as u64) // at and beside a square
+            f64::from_bits((root * root).to_bits() + r.below(3) as u64 - (root > 0.0) as u64)
+            // at and beside a square
         }
         _ => r.spread(-60, 42),
     }
@@ -524,7 +556,7 @@ fn visit(r: &mut Random, max: usize) -> Case {
 fn force(r: &mut Random, max: usize) -> Case {
     let mut particles = particles(r, max);
     let n = particles.len();
-    let mut force = any_force(r, n);
+    let mut force = any_force(r, &particles);
     let mut alpha = alpha(r);
     let mut draws = draws(r, 4 * n + 8);
     let slots = slots(r, n);
@@ -561,7 +593,7 @@ fn whole_tick(r: &mut Random, max: usize, ticks: usize) -> Tick {
         target: if r.once_in(3) { alpha(r) } else { 0.0 },
         decay: decay(r),
         velocity_decay: decay(r),
-        forces: eight(r, n),
+        forces: eight(r, &particles),
         draws: draws(r, (6 * n + 8) * ticks),
         particles,
     };

@@ -135,9 +135,7 @@ fn lengths(force: &Force, n: usize) -> Check {
     let fit = match force {
         Force::ManyBody { strengths } => strengths.len() == n,
         Force::Collide { radii, .. } => radii.len() == n,
-        Force::Link { links, strengths, distances, .. } => {
-            distances.len() == links.len() && strengths_fit(strengths.len(), links.len())
-        }
+        Force::Link { links, strengths, distances, .. } => distances.len() == links.len() && strengths_fit(strengths.len(), links.len()),
         _ => true,
     };
     require(fit, 2, 0)

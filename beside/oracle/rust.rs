@@ -23,9 +23,7 @@ pub fn answer(case: &Case, minus: MinusZero) -> String {
         Case::Root(x) => write(&Ok(Answer::Root(x.sqrt()))),
         Case::Tree { slots, particles } => write(&tree(*slots, particles)),
         Case::Visit { particles, skips } => write(&visit(particles, skips)),
-        Case::Force { slots, force, alpha, particles, draws } => {
-            write(&single(*slots, &handed(force, minus), *alpha, particles, draws))
-        }
+        Case::Force { slots, force, alpha, particles, draws } => write(&single(*slots, &handed(force, minus), *alpha, particles, draws)),
         Case::Move { decay, particles } => write(&closing(*decay, particles)),
         Case::Tick(tick) => ticked(tick, minus),
         Case::Step { tick, min, budget } => stepped(tick, *min, *budget, minus),

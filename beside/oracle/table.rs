@@ -129,10 +129,18 @@ fn trees() -> Vec<Row> {
         row("T8, above 2^40", tree(9, &[[above, 0.0]]), refused(4, 0)),
         row("T13, of 0.25", Case::Root(0.25), format!("ok {}", hex(0.5))),
         row("T13, of 2^-1074", Case::Root(f64::from_bits(1)), format!("ok {}", hex(half_to(537)))),
-        row("the lister's tree", tree(9, &[[0.0, 0.0], [3.0, 3.0], [0.0, 0.0]]), listed([0.0, 0.0, 4.0, 4.0], "0,0,1,0 1,0,2,2 1,3,2,1", "0 2 1")),
+        row(
+            "the lister's tree",
+            tree(9, &[[0.0, 0.0], [3.0, 3.0], [0.0, 0.0]]),
+            listed([0.0, 0.0, 4.0, 4.0], "0,0,1,0 1,0,2,2 1,3,2,1", "0 2 1"),
+        ),
         row("an old leaf is pushed down", tree(999, &[[0.0, 0.0], [half_to(64), 0.0], [1.0, 1.0]]), refused(6, 2)),
         row("a middle that rounds", tree(99, &[[1.0, 0.0], [1.0, half_to(53)]]), listed([1.0, 0.0, 2.0, 1.0], &ladder(53, [1, 3]), "0 1")),
-        row("side 2^43", tree(9, &wide), listed([-3.0, -1.0, 5.0, 7.0].map(|end| end * LIMIT), "0,0,1,0 1,0,2,1 1,1,1,0 2,0,2,1 2,2,2,1", "2 0 1")),
+        row(
+            "side 2^43",
+            tree(9, &wide),
+            listed([-3.0, -1.0, 5.0, 7.0].map(|end| end * LIMIT), "0,0,1,0 1,0,2,1 1,1,1,0 2,0,2,1 2,2,2,1", "2 0 1"),
+        ),
         row("no slots", tree(0, &[[0.0, 0.0]]), refused(7, 0)),
         row("visit, node 2 skipped", Case::Visit { particles: still(&corners), skips: vec![2] }, "ok 0 1 2 | 1 3 4 2 0".to_string()),
         row("floor of -0.0", Case::Floor(-0.0), "ok 0".to_string()),
@@ -175,11 +183,7 @@ fn forces() -> Vec<Row> {
             Case::Force { slots: 0, force: collide(1.0, 0, &[1.0]), alpha: 1.0, particles: still(&side[..1]), draws: vec![] },
             format!("ok 0 0 |{}", numbers(&[0.0; 2])),
         ),
-        row(
-            "8,192 links",
-            force(link(&[(0, 0); 8192], &[], &[0.0; 8192]), &side[..1], &[]),
-            format!("ok 0 0 |{}", numbers(&[0.0; 2])),
-        ),
+        row("8,192 links", force(link(&[(0, 0); 8192], &[], &[0.0; 8192]), &side[..1], &[]), format!("ok 0 0 |{}", numbers(&[0.0; 2]))),
     ]
 }
 
@@ -252,7 +256,11 @@ fn refusals() -> Vec<Row> {
         row("Collide looks at no alpha", with(collide(1.0, 0, &[1.0, 1.0]), nan, sound()), format!("ok 0 0 |{}", numbers(&[0.0; 4]))),
         row("65 iterations", with(collide(1.0, 65, &[]), 1.0, sound()), refused(1, 0)),
         row("8,193 links", with(link(&[(9, 9); 8193], &[], &[]), 1.0, sound()), refused(1, 0)),
-        row("65 iterations of links", with(Force::Link { iterations: 65, links: vec![], strengths: vec![], distances: vec![] }, 1.0, sound()), refused(1, 0)),
+        row(
+            "65 iterations of links",
+            with(Force::Link { iterations: 65, links: vec![], strengths: vec![], distances: vec![] }, 1.0, sound()),
+            refused(1, 0),
+        ),
         row("a link's other end", with(link(&[(1, 0), (0, 2)], &[], &[0.0; 2]), 1.0, sound()), refused(3, 1)),
         row("radii before the strength", with(collide(nan, 1, &[1.0, -1.0]), 1.0, sound()), refused(5, 1)),
         row("y alone", tree(9, &[[0.0, 0.0], [0.0, -2.0 * LIMIT]]), refused(4, 1)),

@@ -128,14 +128,7 @@ fn many_body(strengths: &[f64], places: &[Point], slots: usize, alpha: f64, flow
     Ok(())
 }
 
-fn charge_acts(
-    node: &Tree<Charge>,
-    i: usize,
-    [x, y]: Point,
-    strengths: &[f64],
-    alpha: f64,
-    flow: &mut Flow,
-) -> Result<Visit, Refusal> {
+fn charge_acts(node: &Tree<Charge>, i: usize, [x, y]: Point, strengths: &[f64], alpha: f64, flow: &mut Flow) -> Result<Visit, Refusal> {
     let charge = &node.value;
     let seen = gap(charge.x - x, charge.y - y);
     let w = node.cell.x1 - node.cell.x0;
