@@ -158,6 +158,7 @@ fn places(r: &mut Random, max: usize) -> Vec<Point> {
         2 => return outward(r, n),
         3 => return few(r, max.min(2 * n)),
         4 => return edge_of_far(r),
+        5 => return vec![[r.unit() * r.unit(), 0.5], [2.5, 0.5], [3.5, r.unit()]],
         _ => {}
     }
     let styles = [r.below(14), r.below(14)];
@@ -337,7 +338,8 @@ fn collide(r: &mut Random, particles: &[Record]) -> Force {
 /// One particle whose reach ends where a cell begins, or a bit beside.
 fn reach_an_end(r: &mut Random, particles: &[Record], radii: &mut [f64]) {
     let i = r.below(particles.len());
-    let end = particles[r.below(particles.len())].x.floor() + r.whole(2);
+    let side = r.pick(&[1.0, 2.0, 2.0, 4.0]);
+    let end = (particles[r.below(particles.len())].x / side).floor() * side;
     let reach = (end - particles[i].x).abs();
     if reach > 0.0 && reach < LIMIT {
         radii.fill(0.0);
