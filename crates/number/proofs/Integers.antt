@@ -8,13 +8,13 @@ use lib.IntN.{ℤ, pos, negsuc, natAbs, subℕ, _+ℤ_, _-ℤ_, +ℤ-idr}
 use lib.Signed.{ltZ, leZ}
 use lib.Dec.{T, ltb, ltb→lt, nltb→le, lt→ltb, leb→le, le→leb, lit≤, leb·suc-zero}
 use lib.Pow.{pow-mono, pow-add}
-use lib.Ieee.{Float, nan, inf, fin, binary64, prec, up, down, round, ofInt, inFloat, ofBits, add, sub, sum, div, neg, lt, le, eq}
+use lib.Ieee.{Float, nan, inf, fin, binary64, up, down, round, ofInt, inFloat, ofBits, add, sub, sum, div, neg, lt, le}
 use lib.Ieee.Fits.{down-pos}
 use lib.Ieee.Exact.{HasValue}
 use lib.Ieee.Scale.{round-same}
 use lib.Ieee.Back.{round-whole}
 use Rattle.rules.specs.Number.{_⊕_, _⊖_, _⊘_, 2·}
-use Rattle.number.proofs.Order.{ltb-scale, signed, eqZ, lt-at, le-at, eq-at}
+use Rattle.number.proofs.Order.{ltb-scale, signed, lt-at, le-at}
 
 -- ---- x is the integer z
 
@@ -84,9 +84,6 @@ module _ (x y : Float) (a b : ℤ) (h : HasInt x a) (k : HasInt y b) where
 
   pub le-int : le x y ≡ leZ a b
   le-int = le-at 1 x y (negative a) (negative b) (natAbs a) (natAbs b) (zero-lt-suc 0) h k ∙ ap₂ leZ (signed-is a) (signed-is b)
-
-  pub eq-int : eq x y ≡ eqZ a b
-  eq-int = eq-at 1 x y (negative a) (negative b) (natAbs a) (natAbs b) (zero-lt-suc 0) h k ∙ ap₂ eqZ (signed-is a) (signed-is b)
 
 -- ---- a sum
 

@@ -2,7 +2,7 @@
 use mathlib.Core.Path.{_≡_, refl, sym, ap, _∙_, subst}
 use mathlib.Core.Logic.{_≢_, inl, inr}
 use mathlib.Core.Bool.{Bool, true, false, not, cond, _&&_, _||_}
-use Prim.Native.Nat.{ℕ, zero, suc, _+_, _-_, _*_, _%_, _^_, _≤_, _<_}
+use Prim.Native.Nat.{ℕ, zero, suc, _+_, _-_, _%_, _^_, _≤_, _<_}
 use native.Mathlib.Nat.{le-trans, le-antisymm, add-comm, le-of-eq, le-of-lt, eq-or-lt-of-le, pow-suc}
 use native.Mathlib.Omega.{arith}
 use lib.Dec.{T, lit<, ltb, eqb, ltb→lt, nltb→le, eqb→eq, lt→ltb}
