@@ -13,7 +13,7 @@ use lib.Ieee.Fits.{down-pos}
 use lib.Ieee.Exact.{HasValue}
 use lib.Ieee.Scale.{round-same}
 use lib.Ieee.Back.{round-whole}
-use Rattle.rules.specs.Number.{_⊕_, _⊖_, _⊘_, 2·}
+use Rattle.rules.specs.Number.{_⊕_, _⊖_, _⊘_, 1·, 2·, float}
 use Rattle.number.proofs.Order.{ltb-scale, signed, lt-at, le-at}
 
 -- ---- x is the integer z
@@ -47,6 +47,11 @@ ofInt-is (negsuc n) t = round-whole binary64 true (suc n) (ltb→lt n (2 ^ 53) t
 -- an integer of at most 2 ^ 53 in size has its float
 pub ofInt-has : (k : ℕ) (z : ℤ) → k ≤ 53 → Within k z → HasInt (ofInt binary64 z) z
 ofInt-has k z h w = ofInt-is z (within-in k z h w)
+
+-- the one that a first cell's ends differ by
+pub one-is : 1· ≡ float 1
+unfolding ofBits ofInt round
+one-is = refl
 
 natAbs-sub : (a b : ℕ) → natAbs (subℕ a b) ≤ a + b
 natAbs-sub a b = go (ltb a b) (ltb→lt a b)
