@@ -1,7 +1,7 @@
 -- Whole floats within 2 ^ 45 of zero, counted from -2 ^ 45 up, so that every fact is one of natural numbers, which `omega` reads. Assumes nothing.
 use mathlib.Core.Path.{_≡_, refl, sym, ap, ap₂, _∙_}
-use mathlib.Core.Bool.{Bool, true, false, not, cond, _&&_}
-use Prim.Native.Nat.{ℕ, zero, suc, _+_, _-_, _*_, _^_, _≤_, _<_}
+use mathlib.Core.Bool.{Bool, true, false, not, cond}
+use Prim.Native.Nat.{ℕ, zero, suc, _+_, _-_, _^_, _≤_, _<_}
 use native.Mathlib.Nat.{le-trans, le-of-eq}
 use native.Mathlib.Omega.{arith}
 use lib.IntN.{ℤ, pos, negsuc, natAbs, subℕ, _+ℤ_, _-ℤ_, +ℤ-idr}
@@ -63,7 +63,8 @@ module _ (B a b : ℕ) where
       go false true p p' q q' = h (p' tt) (q tt)
       go false false p p' q q' = k (p' tt) (q' tt)
 
-  ltZ-sub : ltZ (subℕ a B) (subℕ b B) ≡ ltb a b
+  -- the order of the two is that of a and b
+  pub ltZ-sub : ltZ (subℕ a B) (subℕ b B) ≡ ltb a b
   ltZ-sub = cases
       (λ h k. ap₂ ltZ (subℕ-neg a B h) (subℕ-neg b B k) ∙ ltb-same (B - suc b) (B - suc a) a b (λ l. omega arith) (λ l. omega arith))
       (λ h k. ap₂ ltZ (subℕ-neg a B h) (subℕ-pos b B k) ∙ sym (is-true (ltb a b) (lt→ltb a b (omega arith))))
@@ -86,7 +87,7 @@ module _ (B a b : ℕ) where
       pp : B ≤ a → B ≤ b → a - B + (b - B) ≡ a + b - (B + B)
       pp h k = omega arith
 
-leZ-sub : (B a b : ℕ) → leZ (subℕ a B) (subℕ b B) ≡ leb a b
+pub leZ-sub : (B a b : ℕ) → leZ (subℕ a B) (subℕ b B) ≡ leb a b
 leZ-sub B a b = not-inj (leZ (subℕ a B) (subℕ b B)) (leb a b) (sym (flip (subℕ b B) (subℕ a B)) ∙ ltZ-sub B b a ∙ flip-nat b a)
   where
     not-inj : (p q : Bool) → not p ≡ not q → p ≡ q
@@ -95,7 +96,8 @@ leZ-sub B a b = not-inj (leZ (subℕ a B) (subℕ b B)) (leb a b) (sym (flip (su
     not-inj false true e = sym e
     not-inj false false e = refl
 
-add-pos : (B a z : ℕ) → subℕ a B +ℤ pos z ≡ subℕ (a + z) B
+-- z more, and z less
+pub add-pos : (B a z : ℕ) → subℕ a B +ℤ pos z ≡ subℕ (a + z) B
 add-pos B a z =
     ap (λ (v : ℤ). subℕ a B +ℤ v) (ap pos (plain z B) ∙ sym (subℕ-pos (z + B) B (omega arith)))
     ∙ add-sub B a (z + B)
@@ -104,7 +106,7 @@ add-pos B a z =
     plain : (z B : ℕ) → z ≡ z + B - B
     plain z B = omega arith
 
-sub-pos : (B a z : ℕ) → z ≤ a → z ≤ B → subℕ a B -ℤ pos z ≡ subℕ (a - z) B
+pub sub-pos : (B a z : ℕ) → z ≤ a → z ≤ B → subℕ a B -ℤ pos z ≡ subℕ (a - z) B
 sub-pos B a zero h k = +ℤ-idr (subℕ a B) ∙ ap (λ (n : ℕ). subℕ n B) (same a)
   where
     same : (a : ℕ) → a ≡ a - 0
@@ -187,6 +189,21 @@ bias-is (negsuc n) w = subℕ-neg (zero45 - suc n) zero45 (less n (w .within)) �
 
     same : (n : ℕ) → suc n ≤ zero45 → zero45 - suc (zero45 - suc n) ≡ n
     same n h = omega arith
+
+-- so its float is one of those above
+pub whole-bias : (z : ℤ) → Within 45 z → whole (bias z) ≡ ofInt binary64 z
+whole-bias z w = ap (ofInt binary64) (bias-is z w)
+
+-- an integer of at most 2 ^ 40 in size is as near to the middle
+pub bias-near : (z : ℤ) → Within 40 z → (zero45 ≤ bias z + 2 ^ 40) × (bias z ≤ zero45 + 2 ^ 40)
+bias-near (pos n) w = above n (w .within)
+  where
+    above : (n : ℕ) → n ≤ 2 ^ 40 → (zero45 ≤ n + zero45 + 2 ^ 40) × (n + zero45 ≤ zero45 + 2 ^ 40)
+    above n h = omega arith
+bias-near (negsuc n) w = below n (w .within)
+  where
+    below : (n : ℕ) → suc n ≤ 2 ^ 40 → (zero45 ≤ zero45 - suc n + 2 ^ 40) × (zero45 - suc n ≤ zero45 + 2 ^ 40)
+    below n h = omega arith
 
 -- an x within 2 ^ 40 of zero is below a whole float where its floor is
 module _ (x : Float) (b : ℕ) (t : T (within x)) (h : b ≤ 2 ^ 46) where

@@ -1,12 +1,12 @@
 -- A number within 2 ^ 40 of zero cut toward zero, as a cast does it, and the floor from that. Assumes nothing.
 use mathlib.Core.Path.{_≡_, refl, sym, ap, _∙_, subst}
 use mathlib.Core.Bool.{Bool, true, false, not}
-use Prim.Native.Nat.{ℕ, zero, suc, _+_, _-_, _*_, _/_, _^_, _≤_, _<_, min}
+use Prim.Native.Nat.{ℕ, zero, suc, _-_, _*_, _/_, _^_, _≤_, _<_, min}
 use native.Mathlib.Nat.{le-trans, le-of-eq, lt-of-lt-of-le, lt-of-le-of-lt, lt-irrefl, mul-comm, div-le-of-le-mul, div-mul-le-self, div-lt-iff-lt-mul, lt-suc-self, le-of-lt, le-of-mul-le-mul-right}
 use native.Mathlib.Omega.{arith}
 use lib.IntN.{ℤ, pos, negsuc, negℤ, natAbs, predℤ, _-ℤ_, -ℤ-one}
 use lib.Signed.{ltZ}
-use lib.Dec.{T, leb, ltb, ltb→lt, nltb→le, lt→ltb, le→leb, lit≤, lit<, leb·zero}
+use lib.Dec.{T, ltb, ltb→lt, nltb→le, lt→ltb, le→leb, lit≤, lit<}
 use lib.Ieee.{Float, nan, inf, fin, binary64, up, down, ofInt, lt, le, toSigned}
 use lib.Ieee.Fits.{down-pos}
 use mir.Syntax.{w64}

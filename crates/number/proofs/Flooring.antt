@@ -9,7 +9,6 @@ use lib.Signed.{ltZ, leZ}
 use lib.Dec.{T, leb, leb→le, le→leb, leb·suc-suc, leb·suc-zero, leb·zero}
 use lib.Ieee.{Float, nan, inf, fin, up, down, ofBits, neg, lt, le, eq}
 use lib.Ieee.Fits.{down-pos, and-l, and-r}
-use lib.Ieee.Bits.{is-true}
 use lib.Ieee.Exact.{HasValue}
 use Rattle.rules.specs.Number.{finite, between, within, limit}
 use Rattle.rules.specs.Floor.{floor, ceiling}

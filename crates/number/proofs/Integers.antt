@@ -8,13 +8,13 @@ use lib.IntN.{ℤ, pos, negsuc, natAbs, subℕ, _+ℤ_, _-ℤ_, +ℤ-idr}
 use lib.Signed.{ltZ, leZ}
 use lib.Dec.{T, ltb, ltb→lt, nltb→le, lt→ltb, leb→le, le→leb, lit≤, leb·suc-zero}
 use lib.Pow.{pow-mono, pow-add}
-use lib.Ieee.{Float, nan, inf, fin, binary64, prec, up, down, round, ofInt, inFloat, ofBits, add, sub, sum, div, neg, lt, le, eq}
+use lib.Ieee.{Float, nan, inf, fin, binary64, up, down, round, ofInt, inFloat, ofBits, add, sub, sum, div, neg, lt, le}
 use lib.Ieee.Fits.{down-pos}
 use lib.Ieee.Exact.{HasValue}
 use lib.Ieee.Scale.{round-same}
 use lib.Ieee.Back.{round-whole}
-use Rattle.rules.specs.Number.{_⊕_, _⊖_, _⊘_, 2·}
-use Rattle.number.proofs.Order.{ltb-scale, signed, eqZ, lt-at, le-at, eq-at}
+use Rattle.rules.specs.Number.{_⊕_, _⊖_, _⊘_, 1·, 2·, float}
+use Rattle.number.proofs.Order.{ltb-scale, signed, lt-at, le-at}
 
 -- ---- x is the integer z
 
@@ -47,6 +47,11 @@ ofInt-is (negsuc n) t = round-whole binary64 true (suc n) (ltb→lt n (2 ^ 53) t
 -- an integer of at most 2 ^ 53 in size has its float
 pub ofInt-has : (k : ℕ) (z : ℤ) → k ≤ 53 → Within k z → HasInt (ofInt binary64 z) z
 ofInt-has k z h w = ofInt-is z (within-in k z h w)
+
+-- the one that a first cell's ends differ by
+pub one-is : 1· ≡ float 1
+unfolding ofBits ofInt round
+one-is = refl
 
 natAbs-sub : (a b : ℕ) → natAbs (subℕ a b) ≤ a + b
 natAbs-sub a b = go (ltb a b) (ltb→lt a b)
@@ -84,9 +89,6 @@ module _ (x y : Float) (a b : ℤ) (h : HasInt x a) (k : HasInt y b) where
 
   pub le-int : le x y ≡ leZ a b
   le-int = le-at 1 x y (negative a) (negative b) (natAbs a) (natAbs b) (zero-lt-suc 0) h k ∙ ap₂ leZ (signed-is a) (signed-is b)
-
-  pub eq-int : eq x y ≡ eqZ a b
-  eq-int = eq-at 1 x y (negative a) (negative b) (natAbs a) (natAbs b) (zero-lt-suc 0) h k ∙ ap₂ eqZ (signed-is a) (signed-is b)
 
 -- ---- a sum
 

@@ -1,10 +1,12 @@
-mod Tests
+-- for proofs of other crates
 pub mod Order
 pub mod Integers
 pub mod Flooring
 pub mod Biased
+pub mod NoTie
+-- for the proofs here
+mod Tests
 mod Cut
 mod Powers
 mod Rounding
 mod Patterns
-pub mod NoTie

@@ -1,13 +1,12 @@
 -- What the proofs of the steps to a root cite: powers of two. Assumes nothing.
-use mathlib.Core.Path.{_≡_, refl, sym, ap, _∙_, subst}
-use Prim.Native.Nat.{ℕ, zero, suc, _+_, _-_, _*_, _/_, _%_, _^_, _≤_, _<_}
-use native.Mathlib.Nat.{le-refl, le-trans, le-of-eq, le-of-lt, lt-of-lt-of-le, lt-of-le-of-lt, lt-of-not-le, lt-irrefl, mul-assoc, mul-comm, add-comm, mul-le-mul-right, mul-lt-mul-of-pos-right, pow-suc, two-mul, pow-succ'}
-use native.Mathlib.Numerals.{add-one}
+use mathlib.Core.Path.{_≡_, sym, ap, _∙_, subst}
+use Prim.Native.Nat.{ℕ, suc, _+_, _-_, _*_, _/_, _%_, _^_, _≤_, _<_}
+use native.Mathlib.Nat.{le-refl, le-trans, le-of-eq, lt-of-lt-of-le, lt-of-le-of-lt, lt-of-not-le, lt-irrefl, mul-assoc, mul-comm, add-comm, mul-le-mul-right}
 use native.Mathlib.Omega.{arith}
 use lib.Arith.{digits-div}
 use lib.Count.{leadingZeros, leading-top}
 use lib.Pow.{pow-add, pow-pos, pow-mono, shl-exact, shl-lt}
-use Rattle.rules.specs.Root.{infinity, units}
+use Rattle.rules.specs.Root.{infinity}
 use Rattle.rules.proofs.Units.{units-small, units-large}
 use Rattle.rules.proofs.Nearest.{square-le}
 use Rattle.number.specs.Steps.{Unpacked, Radicand, Ready, Stepped, Rooted, whole}

@@ -1,11 +1,8 @@
 -- From an integer root with its remainder to the nearest pattern. No tie can be: (2 q + 1) ² is odd and 4 n is even. Assumes nothing.
-use mathlib.Core.Path.{_≡_, refl, sym, ap, _∙_, subst}
-use mathlib.Core.Logic.{_≢_, inl, inr}
-use mathlib.Core.Bool.{Bool, true, false, not, cond}
-use Prim.Native.Nat.{ℕ, zero, suc, _+_, _-_, _*_, _/_, _%_, _^_, _≤_, _<_}
-use native.Mathlib.Nat.{le-refl, le-trans, le-of-eq, le-of-lt, lt-of-lt-of-le, lt-of-le-of-lt, lt-irrefl, le-of-suc-le-suc, eq-or-lt-of-le, mul-assoc, mul-pos, mul-mul-mul-comm, mul-le-mul-right, mul-lt-mul-of-pos-right, add-mul}
+use mathlib.Core.Path.{_≡_, sym, ap, _∙_}
+use Prim.Native.Nat.{ℕ, _+_, _-_, _*_, _/_, _^_, _≤_, _<_}
+use native.Mathlib.Nat.{le-trans, le-of-eq, le-of-lt, lt-of-lt-of-le, lt-of-le-of-lt, mul-assoc, mul-pos, mul-mul-mul-comm, mul-le-mul-right, mul-lt-mul-of-pos-right, add-mul}
 use native.Mathlib.Omega.{arith}
-use lib.Dec.{T, ltb, ltb→lt, nltb→le}
 use lib.Pow.{pow-pos}
 use Rattle.rules.specs.Root.{infinity, units, fourfold}
 use Rattle.rules.proofs.Units.{units-at, units-lt, units-le}

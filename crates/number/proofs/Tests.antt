@@ -8,7 +8,7 @@ use lib.IntN.{ℤ, pos, negsuc}
 use lib.Dec.{T, eqb, ltb, eqb→eq, ltb→lt, lt→ltb}
 use lib.Arith.{le→nltb}
 use lib.Pow.{pow-pos}
-use lib.Ieee.{Float, nan, inf, fin, binary64, up, down, fits, isNan, ofBits, toBits, nanBits, lt, eq, ne, neg, div, level, below}
+use lib.Ieee.{Float, nan, inf, fin, binary64, up, down, fits, isNan, ofBits, toBits, nanBits, lt, eq, ne, neg, div, level}
 use lib.Ieee.Fits.{and-l, up-pos}
 use lib.Ieee.Bits.{nanBits-is, nanBits-above, is-true}
 use lib.Ieee.Compare.{nan-differs, differs-from-itself}

@@ -22,14 +22,17 @@ pub record Ready (q rem rest : ℕ) : Type 0 where
   pub rem-le : rem ≤ 2 * q
   pub rest-lt : rest < 2 ^ 54
 
+-- what the three stand for: the radicand's digits, those to come behind 54 places
 abbrev pub whole : ℕ → ℕ → ℕ → ℕ
 whole q rem rest = (q * q + rem) * 2 ^ 54 + rest
 
+-- a step shifts the radicand by two digits and the root by one
 pub record Stepped (q rem rest q' rem' rest' : ℕ) : Type 0 where
   pub ready : Ready q' rem' rest'
   pub q-le : q' ≤ 2 * q + 1
   pub same : whole q' rem' rest' ≡ 4 * whole q rem rest
 
+-- q is the whole part of the root of a * 2 ^ 52
 pub record Rooted (a q rem : ℕ) : Type 0 where
   pub lo : 2 ^ 52 ≤ q
   pub hi : q < 2 ^ 53

@@ -1,4 +1,5 @@
-// A number's bits, and the number of any bits. A NaN is written 7FF8000000000000 and read whatever its payload is.
+// A number's bits, and the number of any bits. A NaN is written 7FF8000000000000, and read whatever
+// its payload is.
 ghost use mathlib.Core.Path.{_≡_};
 ghost use Rattle.rules.specs.Number.{bitsOf, floatOf};
 
@@ -11,7 +12,8 @@ pub fn bits_of(x: f64) -> u64
     f64::to_bits(x)
 }
 
-// Without its sign a pattern beyond the infinity's is a NaN: the machine may keep its payload, so it is made anew.
+// Without its sign a pattern beyond the infinity's is a NaN. A machine may keep its payload, so it
+// is made anew.
 pub fn float_of(b: u64) -> f64
     ensures { λ r. ⌜ r ≡ floatOf b ⌝ }
 {

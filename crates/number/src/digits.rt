@@ -1,4 +1,5 @@
-// The root of a finite value above zero, all binary digits one at a time. What it promises is `Nearest`, whatever the way there.
+// The root of a finite value above zero, all binary digits one at a time. What `nearest` promises
+// says nothing of that way.
 ghost use Prim.Native.Nat.{_^_, _<_, _≤_};
 ghost use Rattle.rules.specs.Root.{infinity, Nearest};
 ghost use Rattle.number.specs.Steps.{Unpacked, Radicand, Ready, Stepped, Rooted};
@@ -88,7 +89,9 @@ fn integer_root(a: u64) -> Digits
     s
 }
 
-// The pattern nearest to the root of b's value. The root is a whole number of 53 digits and a fraction, times 2^h: it is rounded up where the remainder says that the fraction is above a half.
+// The pattern nearest to the root of b's value. The root is a whole number of 53 digits and a
+// fraction, times 2^h, and a remainder above q says that the fraction is above a half. It never is
+// a half, so no tie is to be broken.
 pub fn nearest(b: u64) -> u64
     requires { ⌜ (0 < b) × (b < infinity) ⌝ }
     ensures { λ r. ⌜ Nearest b r ⌝ }

@@ -1,4 +1,5 @@
-// Numbers after document 01: floor, root, bits, ranges and small helpers. Each function answers what the definition of `rules` with its name says.
+// Numbers after document 01: floor, root, bits, ranges and small helpers. Each function answers
+// what the definition of `rules` with its name says.
 mod bits;
 mod digits;
 mod plain;

@@ -1,4 +1,3 @@
-use mathlib.Core.Path.{refl}
 use Rattle.rules.specs.Number.{clamp}
 use Rattle.number.proofs.plain.clamp.Statement.{statement}
 use Rattle.number.proofs.plain.clamp.Tie as tie

@@ -1,4 +1,3 @@
-use mathlib.Core.Path.{refl}
 use Rattle.rules.specs.Number.{plainZero}
 use Rattle.number.proofs.plain.plain_zero.Statement.{statement}
 use Rattle.number.proofs.plain.plain_zero.Tie as tie

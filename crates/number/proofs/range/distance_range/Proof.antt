@@ -1,4 +1,3 @@
-use mathlib.Core.Path.{refl}
 use Rattle.rules.specs.Number.{between}
 use Rattle.number.proofs.range.distance_range.Statement.{statement}
 use Rattle.number.proofs.range.distance_range.Tie as tie

@@ -1,4 +1,3 @@
-use mathlib.Core.Path.{refl}
 use Rattle.rules.specs.Number.{between}
 use Rattle.number.proofs.range.within.Statement.{statement}
 use Rattle.number.proofs.range.within.Tie as tie

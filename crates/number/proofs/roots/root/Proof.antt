@@ -1,9 +1,9 @@
 use borrow.Author.Needs.{needs}
-use mathlib.Core.Path.{_≡_, sym, ap, _∙_, subst}
+use mathlib.Core.Path.{sym, _∙_, subst}
 use Prim.Native.Nat.{ℕ, _≤_, _<_}
 use lib.Dec.{T}
 use lib.Ieee.{binary64, fits}
-use Rattle.rules.specs.Number.{bitsOf, floatOf}
+use Rattle.rules.specs.Number.{bitsOf}
 use Rattle.rules.specs.Root.{infinity}
 use Rattle.number.proofs.Patterns.{Kind, kind, some, root-negative, root-zero, root-large, root-finite}
 use Rattle.number.proofs.roots.root.Statement.{statement}
