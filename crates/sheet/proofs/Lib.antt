@@ -1,2 +1,4 @@
 pub mod Lists
 pub mod Bytes
+pub mod Checking
+pub mod Columns
