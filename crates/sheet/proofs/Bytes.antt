@@ -5,7 +5,7 @@ use Prim.Native.Nat.{ℕ, zero, suc, _+_, _*_, _/_, _%_, _^_, _≤_, _<_}
 use native.Mathlib.Numerals.{add-one, add-two, add-three, add-four, add-five, add-six, add-seven, add-eight}
 use native.Mathlib.Nat.{add-zero, add-suc, mul-zero, pow-zero, pow-suc, div-lt-iff-lt-mul}
 use native.Mathlib.Omega.{arith}
-use lib.ListN.{length, getD, take, drop, set}
+use lib.ListN.{length, getD, take, drop, set, length-drop}
 use lib.Seq.{sets-eq, drop-cons, drop-drop, getD-drop, length-take-le, drop-at}
 use Rattle.rules.specs.Plain.{overwritten}
 use Rattle.rules.specs.Sheet.{wordOf, bytesOf, wordAt}
@@ -14,6 +14,15 @@ use Rattle.sheet.proofs.Lists.{overwritten-drop}
 -- every element is a byte
 abbrev pub Bytes : List ℕ → Type 0
 Bytes l = (i : ℕ) → getD l i 0 < 256
+
+pub bytes-drop : (n : ℕ) (l : List ℕ) → Bytes l → Bytes (drop n l)
+bytes-drop n l h i = rw getD-drop (h (n + i))
+
+pub bytes-take : (n : ℕ) (l : List ℕ) → Bytes l → Bytes (take n l)
+bytes-take zero l h i = omega arith
+bytes-take (suc n) [] h i = omega arith
+bytes-take (suc n) (b ∷ l) h zero = h zero
+bytes-take (suc n) (b ∷ l) h (suc i) = bytes-take n l (λ k. h (suc k)) i
 
 -- ---- numbers and the bytes that spell them
 
@@ -82,3 +91,17 @@ pub word-put : (l : List ℕ) (at w : ℕ) → at + 8 ≤ length l → w < 2 ^ 6
 unfolding wordAt
 word-put l at w h hw =
     ap (λ (x : List ℕ). wordOf (take 8 x)) (overwritten-drop l at (bytesOf 8 w) (omega arith)) ∙ word-of-bytes 8 w hw
+
+module _ (l : List ℕ) (at : ℕ) (b : Bytes l) (h : at + 8 ≤ length l) where
+  word-length : length (take 8 (drop at l)) ≡ 8
+  word-length = length-take-le 8 (drop at l) (simp length-drop (omega arith))
+
+  -- the bytes of a word that was read are those that stand there
+  pub word-kept : bytesOf 8 (wordAt l at) ≡ take 8 (drop at l)
+  unfolding wordAt
+  word-kept = rw word-length at (bytes-of-word (take 8 (drop at l)) (bytes-take 8 (drop at l) (bytes-drop at l b)))
+
+  -- a word that was read is below 2 ^ 64
+  pub word-fits : wordAt l at < 2 ^ 64
+  unfolding wordAt
+  word-fits = rw word-length at (word-bound (take 8 (drop at l)) (bytes-take 8 (drop at l) (bytes-drop at l b)))

@@ -2,13 +2,17 @@
 use mathlib.Core.Path.{_≡_, refl, sym, ap, _∙_}
 use mathlib.Core.List.{List, [], _∷_, _++_, append-assoc, append-nil}
 use Prim.Native.Nat.{ℕ, zero, suc, _+_, _-_, _*_, _≤_, _<_}
-use native.Mathlib.Nat.{add-assoc}
+use native.Mathlib.Nat.{add-assoc, add-zero}
 use native.Mathlib.Omega.{arith}
 use lib.ListN.{length, getD, take, drop, length-take, length-drop, length-append, take-append-drop}
 use lib.Seq.{length-take-le, take-append-le, drop-append-le, drop-append-add, take-append-add, take-take, drop-drop, take-add, drop-at, take-at}
 use Rattle.rules.specs.Plain.{overwritten}
 
 module _ {A : Type 0} where
+  pub length-zero : (l : List A) → length l ≡ 0 → l ≡ []
+  length-zero [] e = refl
+  length-zero (a ∷ l) e = absurd (omega arith)
+
   -- writing over keeps the length
   pub overwritten-length : (l : List A) (at : ℕ) (part : List A) → at + length part ≤ length l → length (overwritten l at part) ≡ length l
   overwritten-length l at part h =
@@ -41,3 +45,12 @@ module _ {A : Type 0} where
   pub overwritten-drop : (l : List A) (at : ℕ) (part : List A) → at ≤ length l → drop at (overwritten l at part) ≡ part ++ drop (at + length part) l
   overwritten-drop l at part h =
       rw append-assoc (drop-at (take at l) (part ++ drop (at + length part) l) at (length-take-le at l h))
+
+  -- nothing is written
+  pub overwritten-none : (l : List A) (at : ℕ) → overwritten l at [] ≡ l
+  overwritten-none l at = rw (append-nil, add-zero) (take-append-drop at l)
+
+  -- a part after a front, written over by one of its length
+  pub overwritten-part : (p a q : List A) (n : ℕ) (b : List A) → length p ≡ n → length b ≡ length a → overwritten (p ++ (a ++ q)) n b ≡ p ++ (b ++ q)
+  overwritten-part p a q n b e h =
+      rw (take-at p (a ++ q) n e, ← drop-drop (length b) n (p ++ (a ++ q)), drop-at p (a ++ q) n e, drop-at a q (length b) (sym h)) (append-assoc p b q)

@@ -4,7 +4,7 @@ use borrow.Author.Tests.{lt-leb, le-leb}
 use Rattle.rules.specs.declared.Refusal.{Refusal}
 use Rattle.rules.specs.Refusal.{coordinateCheck, velocityCheck}
 use Rattle.rules.specs.Sheet.{recordCheck}
-use Rattle.sheet.proofs.Checking.{then-stays, coordinate-fine}
+use Rattle.sheet.proofs.Checked.{then-stays, coordinate-fine}
 use Rattle.sheet.proofs.check.record_check.Statement.{statement}
 use Rattle.sheet.proofs.check.record_check.Tie as tie
 

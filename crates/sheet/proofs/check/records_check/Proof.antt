@@ -7,7 +7,7 @@ use lib.ListN.{length}
 use Rattle.rules.specs.Outcome.{refusalOf, checkFrom}
 use Rattle.rules.specs.declared.Refusal.{Refusal}
 use Rattle.rules.specs.Sheet.{particlesOf, recordsCheck, recordAt, recordsFrom, recordCheck}
-use Rattle.sheet.proofs.Checking.{check-bad, check-on, check-none}
+use Rattle.sheet.proofs.Turns.{check-bad, check-on, check-none}
 use Rattle.sheet.proofs.check.records_check.Statement.{statement}
 use Rattle.sheet.proofs.check.records_check.Tie as tie
 

@@ -6,7 +6,7 @@ use native.Mathlib.Omega.{arith}
 use borrow.Author.Needs.{needs}
 use lib.ListN.{length, take, length-set}
 use Rattle.rules.specs.Sheet.{pairsFrom}
-use Rattle.sheet.proofs.Columns.{reaches, read-turn, read-end}
+use Rattle.sheet.proofs.Turns.{reaches, read-turn, read-end}
 use Rattle.sheet.proofs.pairs.read_pairs.Statement.{statement}
 use Rattle.sheet.proofs.pairs.read_pairs.Tie as tie
 

@@ -5,7 +5,7 @@ use native.Mathlib.Omega.{arith}
 use borrow.Author.Needs.{needs}
 use lib.ListN.{length, drop}
 use Rattle.sheet.specs.Columns.{putPairs}
-use Rattle.sheet.proofs.Columns.{reaches, write-turn, write-end}
+use Rattle.sheet.proofs.Turns.{reaches, write-turn, write-end}
 use Rattle.sheet.proofs.pairs.write_pairs.Statement.{statement}
 use Rattle.sheet.proofs.pairs.write_pairs.Tie as tie
 

@@ -6,7 +6,7 @@ use native.Mathlib.Omega.{arith}
 use lib.ListN.{length, take, length-set}
 use Rattle.rules.specs.Sheet.{particlesOf, recordsFrom}
 use Rattle.sheet.specs.Columns.{flagsOf}
-use Rattle.sheet.proofs.Columns.{flags-turn, flags-end}
+use Rattle.sheet.proofs.Turns.{flags-turn, flags-end}
 use Rattle.sheet.proofs.records.read_flags.Statement.{statement}
 use Rattle.sheet.proofs.records.read_flags.Tie as tie
 
