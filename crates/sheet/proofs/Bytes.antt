@@ -1,12 +1,12 @@
 -- Words in lists of bytes.
-use mathlib.Core.Path.{_≡_, refl, sym, ap, _∙_}
-use mathlib.Core.List.{List, [], _∷_, _++_}
+use mathlib.Core.Path.{_≡_, refl, ap, _∙_}
+use mathlib.Core.List.{List, [], _∷_}
 use Prim.Native.Nat.{ℕ, zero, suc, _+_, _*_, _/_, _%_, _^_, _≤_, _<_}
-use native.Mathlib.Numerals.{add-one, add-two, add-three, add-four, add-five, add-six, add-seven, add-eight}
+use native.Mathlib.Numerals.{add-one, add-two, add-three, add-four, add-five, add-six, add-seven}
 use native.Mathlib.Nat.{add-zero, add-suc, mul-zero, pow-zero, pow-suc, div-lt-iff-lt-mul}
 use native.Mathlib.Omega.{arith}
 use lib.ListN.{length, getD, take, drop, set, length-drop}
-use lib.Seq.{sets-eq, drop-cons, drop-drop, getD-drop, length-take-le, drop-at}
+use lib.Seq.{sets-eq, drop-cons, getD-drop, length-take-le}
 use Rattle.rules.specs.Plain.{overwritten}
 use Rattle.rules.specs.Sheet.{wordOf, bytesOf, wordAt}
 use Rattle.sheet.proofs.Lists.{overwritten-drop}
@@ -80,11 +80,6 @@ pub stores : (l : List ℕ) (at b0 b1 b2 b3 b4 b5 b6 b7 : ℕ) → at + 8 ≤ le
 stores l at b0 b1 b2 b3 b4 b5 b6 b7 h =
     rw (add-one at, add-two at, add-three at, add-four at, add-five at, add-six at, add-seven at)
     (sets-eq (b0 ∷ b1 ∷ b2 ∷ b3 ∷ b4 ∷ b5 ∷ b6 ∷ b7 ∷ []) l at h)
-
--- the word at a place is the first of what stands from there on
-pub word-drop : (l : List ℕ) (at k : ℕ) → wordAt l (at + k) ≡ wordAt (drop at l) k
-unfolding wordAt
-word-drop l at k = rw (← drop-drop k at l)
 
 -- reading what was written gives it
 pub word-put : (l : List ℕ) (at w : ℕ) → at + 8 ≤ length l → w < 2 ^ 64 → wordAt (overwritten l at (bytesOf 8 w)) at ≡ w

@@ -1,5 +1,5 @@
 -- What the checks of records say.
-use mathlib.Core.Path.{_≡_, refl, ap, _∙_}
+use mathlib.Core.Path.{_≡_, refl, ap}
 use mathlib.Core.Bool.{Bool, true, false, _&&_, not, false≢true}
 use mathlib.Core.List.{List, [], _∷_}
 use Prim.Native.Nat.{ℕ, _+_}
@@ -10,7 +10,6 @@ use Rattle.rules.specs.declared.Particle.{Particle}
 use Rattle.rules.specs.declared.Refusal.{Refusal}
 use Rattle.rules.specs.Plain.{all}
 use Rattle.rules.specs.Outcome.{Outcome, done, refused, Check, fine, require, _then_, _>>=_, refusalOf, checkFrom}
-use Rattle.rules.specs.Refusal.{coordinateCheck, velocityCheck}
 use Rattle.rules.specs.Number.{between, within, finite, limit}
 use Rattle.rules.specs.Sheet.{recordCheck, recordsCheck, placesOf, speedsOf}
 use Rattle.sheet.specs.Columns.{flagsOf}
@@ -22,9 +21,9 @@ pub stays : {A : Type 0} (c : Check) (f : Unit {0} → Outcome A) → (refusalOf
 stays (done t) f h = absurd (h refl)
 stays (refused r) f h = refl
 
-pub then-stays : (c d : Check) → (refusalOf c .number ≡ 0 → ⊥) → refusalOf c ≡ refusalOf (c then d)
-then-stays (done t) d h = absurd (h refl)
-then-stays (refused r) d h = refl
+pub then-stays : (r : Refusal) (c d : Check) → r ≡ refusalOf c → (r .number ≡ 0 → ⊥) → r ≡ refusalOf (c then d)
+then-stays r (done t) d e h = absurd (h (ap (λ (r : Refusal). r .number) e))
+then-stays r (refused q) d e h = e
 
 -- where two checks are fine, each is
 both-fine : (c : Check) (f : Unit {0} → Check) → c >>= f ≡ fine → (c ≡ fine) × (f tt ≡ fine)
@@ -42,12 +41,10 @@ pub record Sound (p : Particle) : Type 0 where
   pub vy : finite (p .vy) ≡ true
 
 -- a check of one particle that names no number is fine
-pub coordinate-fine : (i : ℕ) (x y : Float) → refusalOf (coordinateCheck i x y) .number ≡ 0 → coordinateCheck i x y ≡ fine
-coordinate-fine i x y e = go (within x && within y) e
-  where
-    go : (a : Bool) → refusalOf (require a 4 i) .number ≡ 0 → require a 4 i ≡ fine
-    go true e = refl
-    go false e = absurd (omega arith)
+pub then-on : (r : Refusal) (ok : Bool) (n i : ℕ) (d : Check) → (n ≡ 0 → ⊥) → refusalOf (require ok n i) .number ≡ 0 → r ≡ refusalOf d
+    → r ≡ refusalOf (require ok n i then d)
+then-on r true n i d k z e = e
+then-on r false n i d k z e = absurd (k z)
 
 pub record-fine : (i : ℕ) (p : Particle) → refusalOf (recordCheck i p) .number ≡ 0 → recordCheck i p ≡ fine
 unfolding recordCheck
@@ -80,15 +77,15 @@ pub sound-fine : (i : ℕ) (p : Particle) → Sound p → recordCheck i p ≡ fi
 unfolding recordCheck
 sound-fine i p s = rw (s .flags, s .x, s .y, s .vx, s .vy)
 
+and-split : (a b : Bool) → a && b ≡ true → (a ≡ true) × (b ≡ true)
+and-split true b h = (refl, h)
+and-split false b h = absurd (false≢true h)
+
 -- ---- numbers in range are no NaN
 
 pub within-number : (x : Float) → within x ≡ true → T (not (isNan x))
 unfolding between le isNan
-within-number nan h = absurd (false≢true (second (le (neg limit) nan) false h))
-  where
-    second : (a b : Bool) → a && b ≡ true → b ≡ true
-    second true b h = h
-    second false b h = absurd (false≢true h)
+within-number nan h = absurd (false≢true (and-split (le (neg limit) nan) false h .1))
 within-number (inf s) h = tt
 within-number (fin s m e) h = tt
 
@@ -125,3 +122,19 @@ checks-sound i (p ∷ ps) h =
 pub records-sound : (ps : List Particle) → recordsCheck ps ≡ fine → AllSound ps
 unfolding recordsCheck
 records-sound ps h = checks-sound 0 ps h
+
+sound-checks : (i : ℕ) (ps : List Particle) → AllSound ps → checkFrom recordCheck i ps ≡ fine
+sound-checks i [] s = refl
+sound-checks i (p ∷ ps) s =
+    let x = and-split (within (p .x)) (within (p .y) && all within (placesOf ps)) (s .places) in
+    let y = and-split (within (p .y)) (all within (placesOf ps)) (x .1) in
+    let vx = and-split (finite (p .vx)) (finite (p .vy) && all finite (speedsOf ps)) (s .speeds) in
+    let vy = and-split (finite (p .vy)) (all finite (speedsOf ps)) (vx .1) in
+    let f = and-split (leb (p .flags) 3) (all (λ f. leb f 3) (flagsOf ps)) (s .flags) in
+    rw (sound-fine i p (record { flags = f .0; x = x .0; y = y .0; vx = vx .0; vy = vy .0 }))
+    (sound-checks (i + 1) ps (record { places = y .1; speeds = vy .1; flags = f .1 }))
+
+-- and nothing else does it refuse
+pub sound-records : (ps : List Particle) → AllSound ps → recordsCheck ps ≡ fine
+unfolding recordsCheck
+sound-records ps s = sound-checks 0 ps s

@@ -1,19 +1,26 @@
 -- Columns of a sheet: the pairs of its particles, read and written back.
 use mathlib.Core.Path.{_≡_, refl, sym, ap, _∙_}
-use mathlib.Core.List.{List, [], _∷_, _++_, append-assoc, append-nil}
-use Prim.Native.Nat.{ℕ, zero, suc, _+_, _-_, _*_, _/_, _%_, _≤_, _<_}
-use native.Mathlib.Nat.{add-assoc, add-zero}
+use mathlib.Core.List.{List, [], _∷_, _++_, append-assoc}
+use Prim.Native.Nat.{ℕ, zero, suc, _+_, _*_, _/_, _≤_}
+use native.Mathlib.Nat.{add-assoc}
 use native.Mathlib.Omega.{arith}
 use lib.ListN.{length, take, drop, length-append, length-drop, take-append-drop}
-use lib.Seq.{drop-drop, drop-at, length-take-le}
+use lib.Seq.{drop-drop, length-take-le}
 use lib.Ieee.{Float}
 use Rattle.rules.specs.declared.Particle.{Particle}
 use Rattle.rules.specs.Plain.{overwritten}
 use Rattle.rules.specs.Sheet.{bytesOf, wordAt, floatAt, floatBytes, recordAt, recordsFrom, countOf, particlesOf, recordBytes, sheetOf, placesOf, speedsOf, pairsFrom, pairsBytes}
-use Rattle.sheet.specs.Columns.{putPairs, flagsOf}
+use Rattle.sheet.specs.Columns.{Room, putPairs, flagsOf}
 use Rattle.sheet.proofs.Lists.{length-zero, overwritten-next, overwritten-after, overwritten-part, overwritten-none, overwritten-length}
 use Rattle.sheet.proofs.Bytes.{Bytes, bytes-drop, word-kept}
 use Rattle.sheet.proofs.Sheets.{records-drop}
+
+-- room for k pairs, as reading and writing them ask for it
+pub pairs-room : (s : List ℕ) (stride offset k : ℕ) → 16 ≤ stride → stride ≤ 40 → offset + k * stride + 16 ≤ length s + stride → Room s stride offset (k * 2)
+pairs-room s stride offset k l m h = record { least = l; most = m; even = omega arith; reach = rw (halves k) h }
+  where
+    halves : (k : ℕ) → k * 2 / 2 ≡ k
+    halves k = omega arith
 
 -- ---- reading
 

@@ -1,11 +1,11 @@
 -- Lists that are written over.
 use mathlib.Core.Path.{_≡_, refl, sym, ap, _∙_}
 use mathlib.Core.List.{List, [], _∷_, _++_, append-assoc, append-nil}
-use Prim.Native.Nat.{ℕ, zero, suc, _+_, _-_, _*_, _≤_, _<_}
+use Prim.Native.Nat.{ℕ, _+_, _≤_}
 use native.Mathlib.Nat.{add-assoc, add-zero}
 use native.Mathlib.Omega.{arith}
-use lib.ListN.{length, getD, take, drop, length-take, length-drop, length-append, take-append-drop}
-use lib.Seq.{length-take-le, take-append-le, drop-append-le, drop-append-add, take-append-add, take-take, drop-drop, take-add, drop-at, take-at}
+use lib.ListN.{length, take, drop, length-drop, length-append, take-append-drop}
+use lib.Seq.{length-take-le, drop-append-add, take-append-add, drop-drop, drop-at, take-at}
 use Rattle.rules.specs.Plain.{overwritten}
 
 module _ {A : Type 0} where
@@ -35,11 +35,6 @@ module _ {A : Type 0} where
   pub overwritten-after : (p l : List A) (at : ℕ) (part : List A) → overwritten (p ++ l) (length p + at) part ≡ p ++ overwritten l at part
   overwritten-after p l at part =
       rw (take-append-add p l at, add-assoc (length p) at (length part), drop-append-add p l (at + length part)) (simp append-assoc)
-
-  -- a list before an end is written over as it is alone
-  pub overwritten-before : (l q : List A) (at : ℕ) (part : List A) → at + length part ≤ length l → overwritten (l ++ q) at part ≡ overwritten l at part ++ q
-  overwritten-before l q at part h =
-      rw (take-append-le at l q (omega arith), drop-append-le (at + length part) l q h) (simp append-assoc)
 
   -- from its place on, the part that was written
   pub overwritten-drop : (l : List A) (at : ℕ) (part : List A) → at ≤ length l → drop at (overwritten l at part) ≡ part ++ drop (at + length part) l
