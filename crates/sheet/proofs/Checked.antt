@@ -21,9 +21,16 @@ pub stays : {A : Type 0} (c : Check) (f : Unit {0} → Outcome A) → (refusalOf
 stays (done t) f h = absurd (h refl)
 stays (refused r) f h = refl
 
+-- the same for a check that another follows, as a call answered it
 pub then-stays : (r : Refusal) (c d : Check) → r ≡ refusalOf c → (r .number ≡ 0 → ⊥) → r ≡ refusalOf (c then d)
 then-stays r (done t) d e h = absurd (h (ap (λ (r : Refusal). r .number) e))
 then-stays r (refused q) d e h = e
+
+-- where the first of two checks refuses nothing, the second decides
+pub then-on : (r : Refusal) (ok : Bool) (n i : ℕ) (d : Check) → (n ≡ 0 → ⊥) → refusalOf (require ok n i) .number ≡ 0 → r ≡ refusalOf d
+    → r ≡ refusalOf (require ok n i then d)
+then-on r true n i d k z e = e
+then-on r false n i d k z e = absurd (k z)
 
 -- where two checks are fine, each is
 both-fine : (c : Check) (f : Unit {0} → Check) → c >>= f ≡ fine → (c ≡ fine) × (f tt ≡ fine)
@@ -40,12 +47,7 @@ pub record Sound (p : Particle) : Type 0 where
   pub vx : finite (p .vx) ≡ true
   pub vy : finite (p .vy) ≡ true
 
--- a check of one particle that names no number is fine
-pub then-on : (r : Refusal) (ok : Bool) (n i : ℕ) (d : Check) → (n ≡ 0 → ⊥) → refusalOf (require ok n i) .number ≡ 0 → r ≡ refusalOf d
-    → r ≡ refusalOf (require ok n i then d)
-then-on r true n i d k z e = e
-then-on r false n i d k z e = absurd (k z)
-
+-- a record for which no number is answered is fine
 pub record-fine : (i : ℕ) (p : Particle) → refusalOf (recordCheck i p) .number ≡ 0 → recordCheck i p ≡ fine
 unfolding recordCheck
 record-fine i p e = go (leb (p .flags) 3) (within (p .x) && within (p .y)) (finite (p .vx) && finite (p .vy)) e
@@ -58,9 +60,10 @@ record-fine i p e = go (leb (p .flags) 3) (within (p .x) && within (p .y)) (fini
     go true true true e = refl
 
 -- what is fine is sound
-pub fine-sound : (i : ℕ) (p : Particle) → recordCheck i p ≡ fine → Sound p
+fine-sound : (i : ℕ) (p : Particle) → recordCheck i p ≡ fine → Sound p
 unfolding recordCheck
-fine-sound i p e = let g = go (leb (p .flags) 3) (within (p .x)) (within (p .y)) (finite (p .vx)) (finite (p .vy)) (ap (λ (c : Check). refusalOf c .number) e) in
+fine-sound i p e =
+    let g = go (leb (p .flags) 3) (within (p .x)) (within (p .y)) (finite (p .vx)) (finite (p .vy)) (ap (λ (c : Check). refusalOf c .number) e) in
     record { flags = g .0; x = g .1; y = g .2; vx = g .3; vy = g .4 }
   where
     go : (a b c d f : Bool) → refusalOf (require a 10 i then require (b && c) 4 i then require (d && f) 5 i) .number ≡ 0
@@ -73,10 +76,11 @@ fine-sound i p e = let g = go (leb (p .flags) 3) (within (p .x)) (within (p .y))
     go true true true true true e = (refl, refl, refl, refl, refl)
 
 -- what is sound is fine
-pub sound-fine : (i : ℕ) (p : Particle) → Sound p → recordCheck i p ≡ fine
+sound-fine : (i : ℕ) (p : Particle) → Sound p → recordCheck i p ≡ fine
 unfolding recordCheck
 sound-fine i p s = rw (s .flags, s .x, s .y, s .vx, s .vy)
 
+-- where two tests hold together, each does
 and-split : (a b : Bool) → a && b ≡ true → (a ≡ true) × (b ≡ true)
 and-split true b h = (refl, h)
 and-split false b h = absurd (false≢true h)
@@ -118,7 +122,7 @@ checks-sound i (p ∷ ps) h =
       flags = rw (b .0 .flags) (r .flags);
     }
 
--- what recordsCheck lets pass
+-- what the check of all records lets pass is in range
 pub records-sound : (ps : List Particle) → recordsCheck ps ≡ fine → AllSound ps
 unfolding recordsCheck
 records-sound ps h = checks-sound 0 ps h
@@ -134,7 +138,7 @@ sound-checks i (p ∷ ps) s =
     rw (sound-fine i p (record { flags = f .0; x = x .0; y = y .0; vx = vx .0; vy = vy .0 }))
     (sound-checks (i + 1) ps (record { places = y .1; speeds = vy .1; flags = f .1 }))
 
--- and nothing else does it refuse
+-- and what is in range it lets pass
 pub sound-records : (ps : List Particle) → AllSound ps → recordsCheck ps ≡ fine
 unfolding recordsCheck
 sound-records ps s = sound-checks 0 ps s

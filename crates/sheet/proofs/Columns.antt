@@ -1,7 +1,7 @@
 -- Columns of a sheet: the pairs of its particles, read and written back.
 use mathlib.Core.Path.{_≡_, refl, sym, ap, _∙_}
 use mathlib.Core.List.{List, [], _∷_, _++_, append-assoc}
-use Prim.Native.Nat.{ℕ, zero, suc, _+_, _*_, _/_, _≤_}
+use Prim.Native.Nat.{ℕ, zero, suc, _+_, _*_, _≤_}
 use native.Mathlib.Nat.{add-assoc}
 use native.Mathlib.Omega.{arith}
 use lib.ListN.{length, take, drop, length-append, length-drop, take-append-drop}
@@ -10,17 +10,10 @@ use lib.Ieee.{Float}
 use Rattle.rules.specs.declared.Particle.{Particle}
 use Rattle.rules.specs.Plain.{overwritten}
 use Rattle.rules.specs.Sheet.{bytesOf, wordAt, floatAt, floatBytes, recordAt, recordsFrom, countOf, particlesOf, recordBytes, sheetOf, placesOf, speedsOf, pairsFrom, pairsBytes}
-use Rattle.sheet.specs.Columns.{Room, putPairs, flagsOf}
+use Rattle.sheet.specs.Columns.{putPairs, flagsOf}
 use Rattle.sheet.proofs.Lists.{length-zero, overwritten-next, overwritten-after, overwritten-part, overwritten-none, overwritten-length}
 use Rattle.sheet.proofs.Bytes.{Bytes, bytes-drop, word-kept}
 use Rattle.sheet.proofs.Sheets.{records-drop}
-
--- room for k pairs, as reading and writing them ask for it
-pub pairs-room : (s : List ℕ) (stride offset k : ℕ) → 16 ≤ stride → stride ≤ 40 → offset + k * stride + 16 ≤ length s + stride → Room s stride offset (k * 2)
-pairs-room s stride offset k l m h = record { least = l; most = m; even = omega arith; reach = rw (halves k) h }
-  where
-    halves : (k : ℕ) → k * 2 / 2 ≡ k
-    halves k = omega arith
 
 -- ---- reading
 
@@ -49,7 +42,7 @@ speeds-of s = speeds-from s 0 (countOf s)
 -- ---- writing
 
 -- pairs are written after a front as they are alone
-pub put-after : (stride : ℕ) (p s : List ℕ) (at : ℕ) (xs : List Float) → putPairs stride (p ++ s) (length p + at) xs ≡ p ++ putPairs stride s at xs
+put-after : (stride : ℕ) (p s : List ℕ) (at : ℕ) (xs : List Float) → putPairs stride (p ++ s) (length p + at) xs ≡ p ++ putPairs stride s at xs
 put-after stride p s at [] = refl
 put-after stride p s at (x ∷ []) = refl
 put-after stride p s at (x ∷ y ∷ xs) =
@@ -69,6 +62,7 @@ put-beside (suc k) s at (x ∷ y ∷ xs) e h =
 
 -- ---- places and speeds written into a sheet
 
+-- the same, with the front's length n
 past : (stride : ℕ) (p s : List ℕ) (n at : ℕ) (xs : List Float) → length p ≡ n → putPairs stride (p ++ s) (n + at) xs ≡ p ++ putPairs stride s at xs
 past stride p s n at xs e = rw (← e) (put-after stride p s at xs)
 
@@ -102,13 +96,16 @@ parts s =
     ∙ ap (λ (l : List ℕ). take 16 s ++ l) (take-append-drop 16 (drop 16 s))
     ∙ take-append-drop 16 s)
 
+-- lists that are equal have equal heads and tails
 heads : {a b : ℕ} {l m : List ℕ} → a ∷ l ≡ b ∷ m → (a ≡ b) × (l ≡ m)
 heads e = (cc, cc)
 
+-- the flags of the first record and of those after it
 first-flags : (s : List ℕ) (k : ℕ) → flagsOf (recordsFrom s 0 (suc k)) ≡ wordAt s 32 ∷ flagsOf (recordsFrom (drop 40 s) 0 k)
 unfolding recordAt
 first-flags s k = ap (λ (l : List Particle). wordAt s 32 ∷ flagsOf l) (records-drop s 40 k)
 
+-- the first record's bytes, its flags being the bytes f
 first-bytes : (q : Particle) (f l : List ℕ) → f ≡ bytesOf 8 (q .flags) → floatBytes (q .x) ++ floatBytes (q .y) ++ (floatBytes (q .vx) ++ floatBytes (q .vy)) ++ f ++ l ≡ recordBytes q ++ l
 unfolding recordBytes
 first-bytes q f l e = ap (λ (g : List ℕ). floatBytes (q .x) ++ floatBytes (q .y) ++ (floatBytes (q .vx) ++ floatBytes (q .vy)) ++ g ++ l) e

@@ -9,6 +9,7 @@ use lib.Seq.{length-take-le, drop-append-add, take-append-add, drop-drop, drop-a
 use Rattle.rules.specs.Plain.{overwritten}
 
 module _ {A : Type 0} where
+  -- a list of length 0 is empty
   pub length-zero : (l : List A) → length l ≡ 0 → l ≡ []
   length-zero [] e = refl
   length-zero (a ∷ l) e = absurd (omega arith)

@@ -27,6 +27,7 @@ pub record Held (p : Particle) : Type 0 where
   pub vy : T (fits binary64 (p .vy))
   pub flags : p .flags < 2 ^ 64
 
+-- every one of them is held
 abbrev pub AllHeld : List Particle → Type 0
 AllHeld [] = Unit {0}
 AllHeld (p ∷ ps) = Held p × AllHeld ps
@@ -34,10 +35,11 @@ AllHeld (p ∷ ps) = Held p × AllHeld ps
 -- ---- a record alone
 
 -- a record is read the same from the bytes that begin with it
-pub record-drop : (s : List ℕ) (at : ℕ) → recordAt s at ≡ recordAt (drop at s) 0
+record-drop : (s : List ℕ) (at : ℕ) → recordAt s at ≡ recordAt (drop at s) 0
 unfolding recordAt wordAt
 record-drop s at = rw (← drop-drop 8 at s, ← drop-drop 16 at s, ← drop-drop 24 at s, ← drop-drop 32 at s)
 
+-- and so are the records after it
 pub records-drop : (s : List ℕ) (at k : ℕ) → recordsFrom s at k ≡ recordsFrom (drop at s) 0 k
 records-drop s at zero = refl
 records-drop s at (suc k) =
@@ -61,13 +63,12 @@ record-back p q h =
     same-particle (float-back (p .x) (h .x)) (float-back (p .y) (h .y)) (float-back (p .vx) (h .vx)) (float-back (p .vy) (h .vy)) (word-of-bytes 8 (p .flags) (h .flags))
 
 -- the bytes of a number that was read are those that stand there, unless it is a NaN
-pub float-kept : (s : List ℕ) (at : ℕ) → Bytes s → at + 8 ≤ length s → T (not (isNan (floatAt s at))) → floatBytes (floatAt s at) ≡ take 8 (drop at s)
+float-kept : (s : List ℕ) (at : ℕ) → Bytes s → at + 8 ≤ length s → T (not (isNan (floatAt s at))) → floatBytes (floatAt s at) ≡ take 8 (drop at s)
 float-kept s at b h n = ap (bytesOf 8) (toBits-ofBits binary64 (wordAt s at) (word-fits s at b h) n) ∙ word-kept s at b h
 
 -- ---- sheets
 
--- what was read is held
-pub records-held : (s : List ℕ) (at k : ℕ) → Bytes s → at + k * 40 ≤ length s → AllHeld (recordsFrom s at k)
+records-held : (s : List ℕ) (at k : ℕ) → Bytes s → at + k * 40 ≤ length s → AllHeld (recordsFrom s at k)
 unfolding recordAt
 records-held s at zero b h = tt
 records-held s at (suc k) b h = (
@@ -81,6 +82,7 @@ records-held s at (suc k) b h = (
   records-held s (at + 40) k b (omega arith),
 )
 
+-- what was read is held
 pub particles-held : (s : List ℕ) → Bytes s → AllHeld (particlesOf s)
 unfolding particlesOf
 particles-held s b = records-held s 0 (countOf s) b (omega arith)
@@ -89,10 +91,12 @@ record-length : (p : Particle) (q : List ℕ) → length (recordBytes p ++ q) �
 unfolding recordBytes
 record-length p q = omega arith
 
+-- a sheet has 40 bytes for each particle
 pub sheet-length : (ps : List Particle) → length (sheetOf ps) ≡ length ps * 40
 sheet-length [] = refl
 sheet-length (p ∷ ps) = record-length p (sheetOf ps) ∙ omega (arith, sheet-length ps)
 
+-- what stands after a record
 record-past : (p : Particle) (q : List ℕ) → drop 40 (recordBytes p ++ q) ≡ q
 unfolding recordBytes
 record-past p q = refl
@@ -122,6 +126,7 @@ five s = rw (← take-add 8 8 s, ← take-add 16 8 s, ← take-add 24 8 s, ← t
 same-words : {a a' b b' c c' d d' e e' : List ℕ} → a ≡ a' → b ≡ b' → c ≡ c' → d ≡ d' → e ≡ e' → a ++ b ++ c ++ d ++ e ≡ a' ++ b' ++ c' ++ d' ++ e'
 same-words p q r s t = cc
 
+-- a sound record's bytes are those that it was read from
 record-kept : (s : List ℕ) → Bytes s → 40 ≤ length s → Sound (recordAt s 0) → recordBytes (recordAt s 0) ≡ take 40 s
 unfolding recordAt recordBytes
 record-kept s b room h =
@@ -133,6 +138,7 @@ record-kept s b room h =
     (word-kept s 32 b (omega arith))
     ∙ five s
 
+-- k records that pass the check
 records-kept : (k i : ℕ) (s : List ℕ) → Bytes s → length s ≡ k * 40 → checkFrom recordCheck i (recordsFrom s 0 k) ≡ fine → sheetOf (recordsFrom s 0 k) ≡ s
 records-kept zero i s b e h = sym (length-zero s e)
 records-kept (suc k) i s b e h =

@@ -10,8 +10,6 @@ use Rattle.rules.specs.declared.Particle.{Particle}
 
 -- n numbers are whole pairs, and all of them lie in the bytes s: the last begins one stride before `offset + n / 2 * stride`
 pub record Room (s : List ℕ) (stride offset n : ℕ) : Type 0 where
-  pub least : 16 ≤ stride
-  pub most : stride ≤ 40
   pub even : n % 2 ≡ 0
   pub reach : offset + n / 2 * stride + 16 ≤ length s + stride
 
