@@ -9,9 +9,11 @@ use lib.ListN.{length, getD, take, drop, set, length-set, drop-of-length-le}
 use lib.Seq.{drop-cons, take-suc-set, take-all, append-snoc}
 use lib.Ieee.{Float, nan}
 use Rattle.rules.specs.Plain.{overwritten}
+use Rattle.rules.specs.Number.{bitsOf}
 use Rattle.rules.specs.Outcome.{fine, _>>=_, refusalOf, checkFrom}
-use Rattle.rules.specs.Sheet.{wordAt, floatAt, floatBytes, recordAt, recordsFrom, recordCheck, pairsFrom}
+use Rattle.rules.specs.Sheet.{bytesOf, wordAt, floatAt, floatBytes, recordAt, recordsFrom, recordCheck, pairsFrom}
 use Rattle.sheet.specs.Columns.{Room, putPairs, flagsOf}
+use Rattle.sheet.proofs.Lists.{overwritten-next}
 use Rattle.sheet.proofs.Checked.{stays, record-fine}
 
 -- ---- filling a list from the front
@@ -73,6 +75,16 @@ module _ (stride : ℕ) (s : List ℕ) (offset : ℕ) where
       e = omega arith
 
 -- ---- writing pairs: what is left to write
+
+-- two words written one after the other are a pair
+pub pair-put : (s s1 s2 : List ℕ) (at a b : ℕ) (x y : Float) → s1 ≡ overwritten s at (bytesOf 8 a) → a ≡ bitsOf x → s2 ≡ overwritten s1 (at + 8) (bytesOf 8 b) → b ≡ bitsOf y
+    → at + 16 ≤ length s
+    → s2 ≡ overwritten s at (floatBytes x ++ floatBytes y)
+pair-put s s1 s2 at a b x y e1 ea e2 eb h =
+    e2
+    ∙ ap (λ (l : List ℕ). overwritten l (at + 8) (bytesOf 8 b)) (e1 ∙ ap (λ (n : ℕ). overwritten s at (bytesOf 8 n)) ea)
+    ∙ ap (λ (n : ℕ). overwritten (overwritten s at (floatBytes x)) (at + 8) (bytesOf 8 n)) eb
+    ∙ overwritten-next s at (floatBytes x) (floatBytes y) (omega arith)
 
 module _ (stride offset : ℕ) (xs : List Float) where
   pub write-turn : (s : List ℕ) (j : ℕ) → j * 2 + 1 < length xs

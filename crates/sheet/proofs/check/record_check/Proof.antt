@@ -18,7 +18,7 @@ unfolding recordCheck
 returns-2 c =
     let a = c .before .before .before .args in
     rw (le-leb (a .p .flags) 3 (omega arith))
-    (then-stays _ (coordinateCheck (a .i) (a .p .x) (a .p .y)) (velocityCheck (a .i) (a .p .vx) (a .p .vy)) (cc) (c .if2 .taken))
+    (then-stays _ (coordinateCheck (a .i) (a .p .x) (a .p .y)) (velocityCheck (a .i) (a .p .vx) (a .p .vy)) (search needs) (c .if2 .taken))
 
 returns-3 : tie.Need-returns-3
 unfolding recordCheck

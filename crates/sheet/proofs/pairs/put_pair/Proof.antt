@@ -1,14 +1,18 @@
 use borrow.Author.Needs.{needs}
 use native.Mathlib.Omega.{arith}
 use Rattle.rules.specs.Sheet.{floatBytes}
-use Rattle.sheet.proofs.Lists.{overwritten-next}
+use Rattle.sheet.proofs.Turns.{pair-put}
 use Rattle.sheet.proofs.pairs.put_pair.Statement.{statement}
 use Rattle.sheet.proofs.pairs.put_pair.Tie as tie
 
 returns : tie.Need-returns
 returns c =
-    let a = c .before .before .before .before .before .before .before .before .before .before .before .args in
-    cc (overwritten-next (a .s .now) (a .at) (floatBytes (a .x)) (floatBytes (a .y)) (omega arith))
+    let first = c .before .before .before .before .before .before .before in
+    let second = c .before .before in
+    let a = first .before .before .before .before .args in
+    pair-put
+    (a .s .now) (first .put-word .last .0) (second .put-word2 .last .0) (a .at) (first .before .bits-of .result) (second .before .bits-of2 .result) (a .x) (a .y)
+    (first .put-word .ensures) (first .before .bits-of .ensures) (second .put-word2 .ensures) (second .before .bits-of2 .ensures) (omega arith)
 
 pub put-pair-spec : {M : Type 1} → statement M
 put-pair-spec =
