@@ -1,0 +1,6 @@
+pub mod Lists
+pub mod Bytes
+pub mod Checked
+pub mod Sheets
+pub mod Columns
+mod Turns

@@ -1,0 +1,39 @@
+// Records of 40 bytes: x, y, vx, vy and flags, read from any bytes.
+use crate::words::word_at;
+use number::float_of;
+use rules::Particle;
+ghost use mathlib.Core.Path.{_≡_};
+ghost use Prim.Native.Nat.{_+_, _≤_};
+ghost use lib.ListN.{length};
+ghost use Rattle.rules.specs.Sheet.{recordSize, recordAt, countOf, particlesOf};
+ghost use Rattle.sheet.specs.Columns.{flagsOf};
+
+pub fn record_at(s: &[u8], at: usize) -> Particle
+    requires { ⌜ at + recordSize ≤ length (now s) ⌝ }
+    ensures { λ r. ⌜ r ≡ recordAt (now (s .entry)) at ⌝ }
+{
+    let x = float_of(word_at(s, at));
+    let y = float_of(word_at(s, at + 8));
+    let vx = float_of(word_at(s, at + 16));
+    let vy = float_of(word_at(s, at + 24));
+    let flags = word_at(s, at + 32);
+    Particle {
+        x,
+        y,
+        vx,
+        vy,
+        flags,
+    }
+}
+
+// The flags of each record.
+pub fn read_flags(s: &[u8], out: &mut [u64])
+    requires { ⌜ length (now out) ≡ countOf (now s) ⌝ }
+    ensures { λ _. ⌜ now (out .exit) ≡ flagsOf (particlesOf (now (s .entry))) ⌝ }
+{
+    let mut i: usize = 0;
+    while i < out.len() {
+        out[i] = word_at(s, i * 40 + 32);
+        i = i + 1;
+    }
+}
