@@ -10,3 +10,15 @@ pub mod CoverSquare
 pub mod CoverReach
 pub mod CoverAll
 pub mod Cover
+pub mod CellFloat
+pub mod CellList
+pub mod CellPoints
+pub mod CellIs
+pub mod CellDeep
+pub mod CellCount
+pub mod CellInsert
+pub mod CellMore
+pub mod CellChain
+pub mod CellRule
+pub mod CellInside
+pub mod CellWrap
