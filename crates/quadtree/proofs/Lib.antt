@@ -1,1 +1,3 @@
 pub mod Fill
+pub mod CoverEnds
+pub mod CoverDoublings
