@@ -1,16 +1,15 @@
 -- Each particle of a leaf lies in the leaf's cell, which is half-open, if all points lie in the root's cell and the root's ends are finite.
 use mathlib.Core.Path.{_≡_, refl, sym, ap, ap₂, _∙_, subst}
-use mathlib.Core.Logic.{_⊎_, inl, inr, _≢_}
-use mathlib.Core.Bool.{Bool, true, false, not, cond, _&&_, _||_, Bool·beq, true≢false, false≢true, or-true}
-use mathlib.Core.List.{List, [], _∷_}
+use mathlib.Core.Logic.{inl, inr, _≢_}
+use mathlib.Core.Bool.{Bool, true, false, cond, _&&_, _||_, Bool·beq, true≢false, false≢true}
+use mathlib.Core.List.{List}
 use Prim.Native.Nat.{ℕ, zero, suc, _+_, _-_, _*_, _^_, _≤_, _<_}
 use native.Mathlib.Omega.{arith}
 use lib.IntN.{ℤ, pos}
 use lib.Dec.{ltb, eqb}
-use lib.Ieee.{Float, nan, inf, fin, Format, binary64, prec, emax, low, up, down, unlike, odd, units, round, sum, add, div, ofBits, lt, le, eq, below, level}
-use borrow.Author.Tests.{ltb-true, ltb-false, lt-ltb, eqb-true, eq-eqb}
+use lib.Ieee.{Float, nan, inf, fin, Format, binary64, prec, emax, low, up, down, unlike, odd, units, round, sum, add, div, lt, le, eq, below, level}
+use borrow.Author.Tests.{ltb-true, ltb-false, lt-ltb}
 use Rattle.rules.specs.declared.Extent.{Extent}
-use Rattle.rules.specs.Plain.{keep}
 use Rattle.rules.specs.Number.{_⊕_, _⊘_, 2·, finite, xAt, yAt}
 use Rattle.rules.specs.Cell.{middle, xm, ym, quadrant, quarter}
 use Rattle.rules.specs.Opened.{opened}
