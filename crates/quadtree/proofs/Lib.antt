@@ -1,3 +1,4 @@
 pub mod Fill
 pub mod CoverEnds
 pub mod CoverDoublings
+pub mod CoverLaws
