@@ -1,1 +1,7 @@
 pub mod Fill
+pub mod CoverEnds
+pub mod CoverDoublings
+mod CoverRounding
+pub mod CoverMiddles
+pub mod CoverCells
+pub mod CoverLaws
