@@ -1,0 +1,11 @@
+-- What writing a text into a buffer does. Definitions only.
+use mathlib.Core.Path.{_≡_}
+use mathlib.Core.List.{List}
+use Prim.Native.Nat.{ℕ, _+_}
+use lib.ListN.{length}
+use Rattle.rules.specs.Plain.{overwritten}
+
+-- the list l with the text t at a place is k, and r is the place behind it
+pub record Wrote (l : List ℕ) (at : ℕ) (t : List ℕ) (k : List ℕ) (r : ℕ) : Type 0 where
+  pub list : k ≡ overwritten l at t
+  pub next : r ≡ at + length t

@@ -1,0 +1,5 @@
+// The lister's text: what is written for a sheet, as bytes.
+mod text;
+
+pub use text::put_decimal;
+pub use text::put_text;
