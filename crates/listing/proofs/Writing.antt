@@ -67,9 +67,16 @@ pub record Left (l : List ℕ) (at : ℕ) (whole k : List ℕ) (next : ℕ) (res
 pub left-all : (l : List ℕ) (at : ℕ) (whole : List ℕ) → at + length whole ≤ length l → Left l at whole l at whole
 left-all l at whole h = record { list = refl; end = refl; fits = h; same = refl }
 
+-- of a text that is given by what is to be written
+pub left-as : (l : List ℕ) (at : ℕ) (whole rest : List ℕ) → whole ≡ rest → at + length whole ≤ length l → Left l at whole l at rest
+left-as l at whole rest e h = subst (λ (t : List ℕ). Left l at whole l at t) e (left-all l at whole h)
+
 module _ {l : List ℕ} {at : ℕ} {whole k : List ℕ} {next : ℕ} where
   pub left-none : Left l at whole k next [] → Wrote l at whole k next
   left-none d = record { list = sym (over-nothing k next) ∙ d .list; next = sym (add-zero next) ∙ d .end }
+
+  pub left-last : {s j : List ℕ} {q : ℕ} → Left l at whole k next s → Wrote k next s j q → Wrote l at whole j q
+  left-last d w = record { list = w .list ∙ d .list; next = w .next ∙ d .end }
 
   pub left-room : (s t : List ℕ) → Left l at whole k next (s ++ t) → next + length s ≤ length k
   left-room s t d = let e : length (s ++ t) ≡ length s + length t = length-append s t in omega (arith, d .fits)

@@ -3,3 +3,4 @@ mod text;
 
 pub use text::put_decimal;
 pub use text::put_text;
+pub use text::put_whole;
