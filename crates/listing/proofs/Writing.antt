@@ -78,17 +78,26 @@ module _ {l : List ℕ} {at : ℕ} {whole k : List ℕ} {next : ℕ} where
   pub left-last : {s j : List ℕ} {q : ℕ} → Left l at whole k next s → Wrote k next s j q → Wrote l at whole j q
   left-last d w = record { list = w .list ∙ d .list; next = w .next ∙ d .end }
 
-  pub left-room : (s t : List ℕ) → Left l at whole k next (s ++ t) → next + length s ≤ length k
-  left-room s t d = let e : length (s ++ t) ≡ length s + length t = length-append s t in omega (arith, d .fits)
+-- s is next, and then that is left
+pub record Next (l : List ℕ) (at : ℕ) (whole k : List ℕ) (next : ℕ) (s rest : List ℕ) : Type 0 where
+  pub room : next + length s ≤ length k
+  pub after : {j : List ℕ} {q : ℕ} → Wrote k next s j q → Left l at whole j q rest
 
-  pub left-after : (s t : List ℕ) {j : List ℕ} {q : ℕ} → Left l at whole k next (s ++ t) → Wrote k next s j q → Left l at whole j q t
-  left-after s t {j} {q} d w =
-      let room = left-room s t d in
-      let e : length (s ++ t) ≡ length s + length t = length-append s t in
-      let n : length j ≡ length k = ap length (w .list) ∙ over-length k next s room in
-      record {
-        list = ap₂ (λ (a : List ℕ) (n : ℕ). overwritten a n t) (w .list) (w .next) ∙ over-append k next s room t ∙ d .list;
-        end = let f = w .next in let g = d .end in omega arith;
-        fits = let f = w .next in let g = d .fits in omega arith;
-        same = n ∙ d .same;
-      }
+pub left-next : {l : List ℕ} {at : ℕ} {whole k : List ℕ} {next : ℕ} (s rest : List ℕ) → Left l at whole k next (s ++ rest) → Next l at whole k next s rest
+left-next {l} {at} {whole} {k} {next} s rest d = record { room = room; after = after }
+  where
+    both : length (s ++ rest) ≡ length s + length rest
+    both = length-append s rest
+
+    room : next + length s ≤ length k
+    room = omega (arith, both, d .fits)
+
+    after : {j : List ℕ} {q : ℕ} → Wrote k next s j q → Left l at whole j q rest
+    after {j} {q} w =
+        let n : length j ≡ length k = ap length (w .list) ∙ over-length k next s room in
+        record {
+          list = ap₂ (λ (a : List ℕ) (n : ℕ). overwritten a n rest) (w .list) (w .next) ∙ over-append k next s room rest ∙ d .list;
+          end = omega (arith, both, w .next, d .end);
+          fits = omega (arith, both, w .next, d .fits);
+          same = n ∙ d .same;
+        }

@@ -1,4 +1,5 @@
 // The lister's text: what is written for a sheet, as bytes.
+mod lines;
 mod text;
 
 pub use text::put_decimal;

@@ -3,7 +3,7 @@ use mathlib.Core.List.{List, [], _∷_}
 use Prim.Native.Nat.{ℕ, _+_, _-_}
 use native.Mathlib.Omega.{arith}
 use lib.ListN.{length, drop, getD, drop-of-length-le}
-use Rattle.listing.proofs.Writing.{Left, from-index, left-all, left-none, left-room, left-after}
+use Rattle.listing.proofs.Writing.{Left, Next, from-index, left-all, left-none, left-next}
 use Rattle.listing.proofs.text.put_text.Statement.{statement}
 use Rattle.listing.proofs.text.put_text.Tie as tie
 use Rattle.listing.proofs.text.put_text.Reads as reads
@@ -20,17 +20,17 @@ abbrev μ-loop : tie.MeasureT-loop
 loop-holds : tie.Need-loop-holds Inv-loop μ-loop
 loop-holds c = left-all _ _ _ (c .before .before .pre)
 
-one-left : (c : tie.In-loop Inv-loop μ-loop)
-    → let text = c .before .before .before .before .args .text .now in
+byte-left : (c : tie.In-loop Inv-loop μ-loop)
+    → let e = c .before .before .before .before .args in
     let i = c .before .loop .i in
-    Left (c .before .before .before .before .args .out .now) (c .before .before .before .before .args .at) text (c .before .loop .out) (c .before .loop .next) (getD text i 0 ∷ drop (i + 1) text)
-one-left c = rw (from-index _ _ (c .loop-test .taken)) at (c .before .loop .inv)
+    Next (e .out .now) (e .at) (e .text .now) (c .before .loop .out) (c .before .loop .next) (getD (e .text .now) i 0 ∷ []) (drop (i + 1) (e .text .now))
+byte-left c = left-next _ _ (rw (from-index _ _ (c .loop-test .taken)) at (c .before .loop .inv))
 
 put-byte-requires : tie.Need-put-byte-requires Inv-loop μ-loop
-put-byte-requires c κs = left-room (_ ∷ []) _ (one-left (c .before .before))
+put-byte-requires c κs = byte-left (c .before .before) .room
 
 loop-again : tie.Need-loop-again Inv-loop μ-loop
-loop-again c = left-after (_ ∷ []) _ (one-left (c .before .before .before .before .before)) (c .before .before .put-byte .ensures)
+loop-again c = byte-left (c .before .before .before .before .before) .after (c .before .before .put-byte .ensures)
 
 returns : tie.Need-returns Inv-loop μ-loop
 returns c = left-none (rw (drop-of-length-le _ (c .loop-test .left)) at (c .before .loop .inv))

@@ -4,7 +4,7 @@ use Prim.Native.Nat.{ℕ}
 use lib.Ieee.{neg, toUnsigned}
 use Rattle.rules.specs.Listing.{decimal, signed}
 use Rattle.listing.specs.Told.{integer}
-use Rattle.listing.proofs.Writing.{Left, left-as, left-room, left-after, left-last}
+use Rattle.listing.proofs.Writing.{Left, Next, left-as, left-next, left-last}
 use Rattle.listing.proofs.Whole.{Cast, above, below}
 use Rattle.listing.proofs.text.put_whole.Statement.{statement}
 use Rattle.listing.proofs.text.put_whole.Tie as tie
@@ -16,16 +16,16 @@ minus c = below (c .before .before .args .x) (c .before .before .pre .0) (c .if1
 
 minus-left : (c : tie.Then1)
     → let e = c .before .before .args in
-    Left (e .out .now) (e .at) (signed (integer (e .x))) (e .out .now) (e .at) (45 ∷ decimal (toUnsigned 64 (neg (e .x))))
-minus-left c = left-as (c .before .before .args .out .now) _ _ _ (minus c .is) (c .before .before .pre .1)
+    Next (e .out .now) (e .at) (signed (integer (e .x))) (e .out .now) (e .at) (45 ∷ []) (decimal (toUnsigned 64 (neg (e .x))))
+minus-left c = left-next _ _ (left-as (c .before .before .args .out .now) _ _ _ (minus c .is) (c .before .before .pre .1))
 
 put-byte-requires : tie.Need-put-byte-requires
-put-byte-requires c κs = left-room (45 ∷ []) _ (minus-left (c .before))
+put-byte-requires c κs = minus-left (c .before) .room
 
 digits-left : (c : tie.After-put-byte)
     → let e = c .before .before .before .before .args in
     Left (e .out .now) (e .at) (signed (integer (e .x))) (c .put-byte .last .0) (c .put-byte .result) (decimal (toUnsigned 64 (neg (e .x))))
-digits-left c = left-after (45 ∷ []) _ (minus-left (c .before .before)) (c .put-byte .ensures)
+digits-left c = minus-left (c .before .before) .after (c .put-byte .ensures)
 
 put-decimal-requires : tie.Need-put-decimal-requires
 put-decimal-requires c κs = (minus (c .before .before .before .before .before .before) .small, digits-left (c .before .before .before .before) .fits)
