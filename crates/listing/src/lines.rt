@@ -3,14 +3,33 @@ ghost use mathlib.Core.List.{[], _∷_, map};
 ghost use Prim.Native.Nat.{_+_, _*_, _^_, _≤_, _<_};
 ghost use lib.ListN.{length};
 ghost use Rattle.rules.specs.Cover.{holds, nothing};
-ghost use Rattle.rules.specs.Listing.{ascii, decimal, line, extentLine, kindWord, rowLines};
+ghost use Rattle.rules.specs.Listing.{ascii, decimal, signed, line, extentLine, kindWord, rowLines};
 ghost use Rattle.listing.specs.Text.{Wrote, others};
-ghost use Rattle.listing.specs.Told.{WholeEnds, squareOf, rowsAt, chained};
+ghost use Rattle.listing.specs.Told.{IsWhole, integer, WholeEnds, squareOf, rowsAt, chained};
 use crate::text::put_byte;
 use crate::text::put_decimal;
 use crate::text::put_text;
 use crate::text::put_whole;
 use rules::Extent;
+
+// A space and a number.
+fn put_number(out: &mut [u8], at: usize, n: u64) -> usize
+    requires { ⌜ (n < 10 ^ 14) × (at + length (32 ∷ decimal n) ≤ length (now out)) ⌝ }
+    ensures { λ r. ⌜ Wrote (now (out .entry)) at (32 ∷ decimal n) (now (out .exit)) r ⌝ }
+{
+    let next = put_byte(out, at, b' ');
+    put_decimal(out, next, n)
+}
+
+// A space and an end of an extent.
+fn put_end(out: &mut [u8], at: usize, x: f64) -> usize
+    requires { ⌜ IsWhole x ⌝ }
+    requires { ⌜ at + length (32 ∷ signed (integer x)) ≤ length (now out) ⌝ }
+    ensures { λ r. ⌜ Wrote (now (out .entry)) at (32 ∷ signed (integer x)) (now (out .exit)) r ⌝ }
+{
+    let next = put_byte(out, at, b' ');
+    put_whole(out, next, x)
+}
 
 pub fn put_empty(out: &mut [u8], at: usize) -> usize
     requires { ⌜ at + 6 ≤ length (now out) ⌝ }
@@ -23,8 +42,8 @@ pub fn put_refused(out: &mut [u8], at: usize, number: u64) -> usize
     requires { ⌜ (number < 10 ^ 14) × (at + length (line (ascii "refused" ∷ decimal number ∷ [])) ≤ length (now out)) ⌝ }
     ensures { λ r. ⌜ Wrote (now (out .entry)) at (line (ascii "refused" ∷ decimal number ∷ [])) (now (out .exit)) r ⌝ }
 {
-    let mut next = put_text(out, at, b"refused ");
-    next = put_decimal(out, next, number);
+    let mut next = put_text(out, at, b"refused");
+    next = put_number(out, next, number);
     put_byte(out, next, b'\n')
 }
 
@@ -33,14 +52,11 @@ pub fn put_extent(out: &mut [u8], at: usize, e: Extent) -> usize
     requires { ⌜ at + length (extentLine (holds (squareOf e))) ≤ length (now out) ⌝ }
     ensures { λ r. ⌜ Wrote (now (out .entry)) at (extentLine (holds (squareOf e))) (now (out .exit)) r ⌝ }
 {
-    let mut next = put_text(out, at, b"extent ");
-    next = put_whole(out, next, e.x0);
-    next = put_byte(out, next, b' ');
-    next = put_whole(out, next, e.y0);
-    next = put_byte(out, next, b' ');
-    next = put_whole(out, next, e.x1);
-    next = put_byte(out, next, b' ');
-    next = put_whole(out, next, e.y1);
+    let mut next = put_text(out, at, b"extent");
+    next = put_end(out, next, e.x0);
+    next = put_end(out, next, e.y0);
+    next = put_end(out, next, e.x1);
+    next = put_end(out, next, e.y1);
     put_byte(out, next, b'\n')
 }
 
@@ -66,8 +82,7 @@ fn put_chain(out: &mut [u8], at: usize, chain: &[u32]) -> usize
     let mut next = at;
     let mut i: usize = 0;
     while i < chain.len() {
-        next = put_byte(out, next, b' ');
-        next = put_decimal(out, next, chain[i] as u64);
+        next = put_number(out, next, chain[i] as u64);
         i += 1;
     }
     put_byte(out, next, b'\n')
@@ -79,8 +94,7 @@ fn put_row(out: &mut [u8], at: usize, level: u32, quadrant: u32, kind: u32, chai
     ensures { λ r. ⌜ Wrote (now (out .entry)) at (line (decimal level ∷ decimal quadrant ∷ kindWord kind ∷ map decimal (now (chain .entry)))) (now (out .exit)) r ⌝ }
 {
     let mut next = put_decimal(out, at, level as u64);
-    next = put_byte(out, next, b' ');
-    next = put_decimal(out, next, quadrant as u64);
+    next = put_number(out, next, quadrant as u64);
     next = put_byte(out, next, b' ');
     next = put_kind(out, next, kind);
     put_chain(out, next, chain)

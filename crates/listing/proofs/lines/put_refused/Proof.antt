@@ -7,16 +7,16 @@ use Rattle.listing.proofs.lines.put_refused.Tie as tie
 
 number-left : (c : tie.After-put-text)
     → let e = c .before .before .before .before .args in
-    Next (e .out .now) (e .at) (line (ascii "refused" ∷ decimal (e .number) ∷ [])) (c .put-text .last .0) (c .put-text .result) (decimal (e .number)) (10 ∷ [])
-number-left c = left-next _ _ (left-next (ascii "refused ") _ (left-all _ _ _ (c .before .before .before .before .pre .1)) .after (c .put-text .ensures))
+    Next (e .out .now) (e .at) (line (ascii "refused" ∷ decimal (e .number) ∷ [])) (c .put-text .last .0) (c .put-text .result) (32 ∷ decimal (e .number)) (10 ∷ [])
+number-left c = left-next _ _ (left-next (ascii "refused") _ (left-all _ _ _ (c .before .before .before .before .pre .1)) .after (c .put-text .ensures))
 
-put-decimal-requires : tie.Need-put-decimal-requires
-put-decimal-requires c κs = (c .before .before .before .before .before .before .before .pre .0, number-left (c .before .before .before) .room)
+put-number-requires : tie.Need-put-number-requires
+put-number-requires c κs = (c .before .before .before .before .before .before .before .pre .0, number-left (c .before .before .before) .room)
 
-end-left : (c : tie.After-put-decimal)
+end-left : (c : tie.After-put-number)
     → let e = c .before .before .before .before .before .before .before .before .args in
-    Left (e .out .now) (e .at) (line (ascii "refused" ∷ decimal (e .number) ∷ [])) (c .put-decimal .last .0) (c .put-decimal .result) (10 ∷ [])
-end-left c = number-left (c .before .before .before .before) .after (c .put-decimal .ensures)
+    Left (e .out .now) (e .at) (line (ascii "refused" ∷ decimal (e .number) ∷ [])) (c .put-number .last .0) (c .put-number .result) (10 ∷ [])
+end-left c = number-left (c .before .before .before .before) .after (c .put-number .ensures)
 
 put-byte-requires : tie.Need-put-byte-requires
 put-byte-requires c κs = end-left (c .before .before .before) .fits
@@ -25,4 +25,4 @@ returns : tie.Need-returns
 returns c = left-last (end-left (c .before .before .before .before .before .before)) (c .before .before .put-byte .ensures)
 
 pub put-refused-spec : {M : Type 1} → statement M
-put-refused-spec = tie.close (tie.spec (λ c. search needs) (λ c κs. search needs) put-decimal-requires put-byte-requires (λ c. search needs) returns)
+put-refused-spec = tie.close (tie.spec (λ c. search needs) (λ c κs. search needs) put-number-requires put-byte-requires (λ c. search needs) returns)
