@@ -1,3 +1,4 @@
 pub mod Writing
 pub mod Decimal
 pub mod Whole
+pub mod Rows
