@@ -2,3 +2,5 @@ pub mod Writing
 pub mod Decimal
 pub mod Whole
 pub mod Rows
+pub mod Sizes
+pub mod Reading

@@ -1,13 +1,15 @@
--- What the tree call's numbers stand for: whole ends, rows of four numbers. Definitions only.
+-- What the tree call's numbers stand for: whole ends, rows of four numbers, a tree. Definitions only.
 use mathlib.Core.Path.{_≡_}
-use mathlib.Core.List.{List, [], _∷_}
-use Prim.Native.Nat.{ℕ, zero, suc, _+_, _^_, _≤_}
+use mathlib.Core.List.{List, [], _∷_, List·Memᴰ}
+use Prim.Native.Nat.{ℕ, zero, suc, _+_, _^_, _≤_, _<_}
 use lib.IntN.{ℤ, natAbs}
-use lib.ListN.{getD, drop}
+use lib.ListN.{length, getD, drop}
 use lib.Ieee.{Float, toSigned}
 use Rattle.rules.specs.declared.Extent.{Extent}
-use Rattle.rules.specs.Cover.{Square, square, whole}
-use Rattle.rules.specs.Tree.{Row, row}
+use Rattle.rules.specs.Plain.{padded}
+use Rattle.rules.specs.Cover.{Square, square, whole, Covered, nothing, holds, extentOf}
+use Rattle.rules.specs.Tree.{Tree, nodes, Row, row, rowsOf, flat, chainsOf}
+use Rattle.rules.specs.Listing.{mostListed, listerSlots}
 
 -- ---- ends
 
@@ -40,3 +42,37 @@ rowsAt (suc n) l = row (getD l 0 0) (getD l 1 0) (getD l 2 0) (getD l 3 0) ∷ r
 abbrev pub chained : List Row → ℕ
 chained [] = 0
 chained (r ∷ rs) = r .chain + chained rs
+
+-- ---- a tree, and what covers its points
+
+pub record Near (s : Square) : Type 0 where
+  pub x0 : natAbs (s .x0) ≤ 2 ^ 44
+  pub y0 : natAbs (s .y0) ≤ 2 ^ 44
+  pub x1 : natAbs (s .x1) ≤ 2 ^ 44
+  pub y1 : natAbs (s .y1) ≤ 2 ^ 44
+
+-- without a node nothing is covered, and else a square whose ends are near
+abbrev pub Covers : Covered → ℕ → Type 0
+Covers nothing n = n ≡ 0
+Covers (holds s) n = (0 < n) × Near s
+
+-- within the lister's limits
+pub record Listed (c : Covered) (t : Tree Extent) : Type 0 where
+  pub covers : Covers c (nodes t)
+  pub few : nodes t ≤ listerSlots
+  pub short : length (chainsOf t) ≤ mostListed
+  pub low : (i : ℕ) → List·Memᴰ i (chainsOf t) → i < mostListed
+
+-- the extent, the number of nodes, their rows and the chains are those of a tree
+pub record Told (c : Covered) (t : Tree Extent) (e : Extent) (n : ℕ) (rows chains : List ℕ) : Type 0 where
+  pub listed : Listed c t
+  pub extent-is : e ≡ extentOf c
+  pub count-is : n ≡ nodes t
+  pub rows-are : rows ≡ padded (length rows) 0 (flat (rowsOf t))
+  pub chains-are : chains ≡ padded (length chains) 0 (chainsOf t)
+
+-- there is such a tree
+pub record SomeTree (e : Extent) (n : ℕ) (rows chains : List ℕ) : Type 0 where
+  pub covered : Covered
+  pub tree : Tree Extent
+  pub told : Told covered tree e n rows chains
