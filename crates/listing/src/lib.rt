@@ -1,7 +1,7 @@
 // The lister's text: what is written for a sheet, as bytes.
 mod lines;
+mod list;
 mod text;
 
-pub use text::put_decimal;
-pub use text::put_text;
-pub use text::put_whole;
+pub use lines::put_refused;
+pub use list::write_listing;
