@@ -74,6 +74,20 @@ digits-length (suc j) (suc k) n after h =
 pub decimal-length : (k n : ℕ) → n < 10 ^ suc k → length (decimal n) ≤ suc k
 decimal-length k n h = let e : length (digits 14 n []) ≤ suc k + 0 = digits-length k 14 n [] h in omega arith
 
+digits-most : (k n : ℕ) (after : List ℕ) → length (digits k n after) ≤ k + length after
+digits-most zero n after = omega arith
+digits-most (suc k) n after =
+    one-digit-or-more n
+    (λ small. let e : length (digits (suc k) n after) ≡ suc (length after) = ap length (digits-small k n after small) in omega arith)
+    (λ large.
+    let e : length (digits (suc k) n after) ≡ length (digits k (n / 10) (digit n ∷ after)) = ap length (digits-large k n after large) in
+    let f : length (digits k (n / 10) (digit n ∷ after)) ≤ k + suc (length after) = digits-most k (n / 10) (digit n ∷ after) in
+    omega arith)
+
+-- there are never more than 14 digits
+pub decimal-most : (n : ℕ) → length (decimal n) ≤ 14
+decimal-most n = digits-most 14 n []
+
 -- ---- a number written, digit by digit
 
 module _ (l : List ℕ) (at n : ℕ) (small : n < 10) where

@@ -4,3 +4,4 @@ pub mod Whole
 pub mod Rows
 pub mod Sizes
 pub mod Reading
+pub mod Accepted

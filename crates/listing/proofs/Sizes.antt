@@ -1,6 +1,6 @@
 -- How long the lines of a listing are. Assumes nothing.
 use mathlib.Core.Path.{_≡_, refl, sym, ap, ap₂, _∙_}
-use mathlib.Core.List.{List, [], _∷_, _++_, map, List·Memᴰ, List·Memᴰ·head, List·Memᴰ·tail}
+use mathlib.Core.List.{List, [], _∷_, _++_, map}
 use Prim.Native.Nat.{ℕ, zero, suc, _+_, _*_, _^_, _≤_, _<_, min}
 use native.Mathlib.Nat.{le-trans, lt-of-le-of-lt}
 use native.Mathlib.Omega.{arith}
@@ -10,21 +10,20 @@ use lib.ListN.{length, take, drop, length-append, length-take}
 use Rattle.rules.specs.declared.Extent.{Extent}
 use Rattle.rules.specs.Cover.{Square, Covered, nothing, holds}
 use Rattle.rules.specs.Tree.{Tree, none, leaf, node, nodes, Row, rowsFrom, rowsOf, chainsOf}
-use Rattle.rules.specs.Listing.{ascii, decimal, signed, kindWord, extentLine, rowLines}
+use Rattle.rules.specs.Listing.{ascii, decimal, signed, kindWord, extentLine, rowLines, mostListed}
 use Rattle.listing.specs.Text.{others}
-use Rattle.listing.specs.Told.{chained, Near, Covers, Listed}
+use Rattle.listing.specs.Told.{chained, Near, Covers, AllBelow, Listed}
 use Rattle.listing.proofs.Decimal.{decimal-length}
 use Rattle.listing.proofs.Rows.{rowLine}
 
 -- ---- numbers of at most four digits
 
 abbrev Low : List ℕ → Type 0
-Low [] = Unit
-Low (n ∷ l) = (n < 10 ^ 4) × Low l
+Low l = AllBelow (10 ^ 4) l
 
-low-all : (l : List ℕ) → ((i : ℕ) → List·Memᴰ i l → i < 10 ^ 4) → Low l
-low-all [] h = tt
-low-all (n ∷ l) h = (h n (List·Memᴰ·head refl), low-all l (λ i m. h i (List·Memᴰ·tail m)))
+pub below-more : (m n : ℕ) → m ≤ n → (l : List ℕ) → AllBelow m l → AllBelow n l
+below-more m n h [] b = tt
+below-more m n h (i ∷ l) b = (le-trans (b .0) h, below-more m n h l (b .1))
 
 low-take : (k : ℕ) (l : List ℕ) → Low l → Low (take k l)
 low-take zero l h = tt
@@ -159,7 +158,7 @@ pub listing-length : (c : Covered) (t : Tree Extent) → Listed c t → length (
 listing-length c t h =
     let e : length (extentLine c ++ rowLines (rowsOf t) (chainsOf t)) ≡ length (extentLine c) + length (rowLines (rowsOf t) (chainsOf t)) = length-append (extentLine c) (rowLines (rowsOf t) (chainsOf t)) in
     let f : length (rowLines (rowsOf t) (chainsOf t)) ≤ 10 * length (rowsOf t) + 5 * chained (rowsOf t) =
-    lines-length (rowsOf t) (chainsOf t) (rows-slim 0 0 t (omega (arith, h .few)) (lit< tt)) (low-all (chainsOf t) (λ i m. le-trans (h .low i m) (lit≤ tt))) in
+    lines-length (rowsOf t) (chainsOf t) (rows-slim 0 0 t (omega (arith, h .few)) (lit< tt)) (below-more mostListed (10 ^ 4) (lit≤ tt) (chainsOf t) (h .low)) in
     let g : length (rowsOf t) ≡ nodes t = rows-count 0 0 t in
     let i : chained (rowsOf t) ≡ length (chainsOf t) = rows-chained 0 0 t in
     let j : length (extentLine c) ≤ 71 = cover-length c (nodes t) (h .covers) in

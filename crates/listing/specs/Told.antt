@@ -1,6 +1,6 @@
 -- What the tree call's numbers stand for: whole ends, rows of four numbers, a tree. Definitions only.
 use mathlib.Core.Path.{_≡_}
-use mathlib.Core.List.{List, [], _∷_, List·Memᴰ}
+use mathlib.Core.List.{List, [], _∷_}
 use Prim.Native.Nat.{ℕ, zero, suc, _+_, _^_, _≤_, _<_}
 use lib.IntN.{ℤ, natAbs}
 use lib.ListN.{length, getD, drop}
@@ -56,12 +56,17 @@ abbrev pub Covers : Covered → ℕ → Type 0
 Covers nothing n = n ≡ 0
 Covers (holds s) n = (0 < n) × Near s
 
+-- each number of a list is below n
+abbrev pub AllBelow : ℕ → List ℕ → Type 0
+AllBelow n [] = Unit
+AllBelow n (i ∷ l) = (i < n) × AllBelow n l
+
 -- within the lister's limits
 pub record Listed (c : Covered) (t : Tree Extent) : Type 0 where
   pub covers : Covers c (nodes t)
   pub few : nodes t ≤ listerSlots
   pub short : length (chainsOf t) ≤ mostListed
-  pub low : (i : ℕ) → List·Memᴰ i (chainsOf t) → i < mostListed
+  pub low : AllBelow mostListed (chainsOf t)
 
 -- the extent, the number of nodes, their rows and the chains are those of a tree
 pub record Told (c : Covered) (t : Tree Extent) (e : Extent) (n : ℕ) (rows chains : List ℕ) : Type 0 where
