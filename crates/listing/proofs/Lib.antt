@@ -5,3 +5,4 @@ pub mod Rows
 pub mod Sizes
 pub mod Reading
 pub mod Accepted
+pub mod Sheets

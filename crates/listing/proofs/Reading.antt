@@ -36,8 +36,8 @@ lines-more (r ∷ rs) chains more h =
     ap₂ (λ (a b : List ℕ). rowLine r a ++ rowLines rs b) (take-append-le n chains more l) (drop-append-le n chains more l)
     ∙ ap (λ (b : List ℕ). rowLine r (take n chains) ++ b) (lines-more rs (drop n chains) more m)
 
-pad-room : (l m : List ℕ) → l ≡ padded (length l) 0 m → length m ≤ length l
-pad-room l m e = let a = ap length e ∙ length-append m (replicate (length l - length m) 0) in omega arith
+pad-room : (k : ℕ) (l m : List ℕ) → l ≡ padded k 0 m → length m ≤ length l
+pad-room k l m e = let a = ap length e ∙ length-append m (replicate (k - length m) 0) in omega arith
 
 -- ---- the extent
 
@@ -79,18 +79,18 @@ module _ (c : Covered) (t : Tree Extent) (e : Extent) (n : ℕ) (rows chains : L
   count = h .count-is ∙ sym (rows-count 0 0 t)
 
   rows-told : rowsAt n rows ≡ rowsOf t
-  rows-told = ap₂ rowsAt count (h .rows-are) ∙ rows-flat (rowsOf t) (replicate (length rows - length (flat (rowsOf t))) 0)
+  rows-told = ap₂ rowsAt count (h .rows-are) ∙ rows-flat (rowsOf t) (replicate (h .rows-length - length (flat (rowsOf t))) 0)
 
   pub rows-room : 4 * n ≤ length rows
-  rows-room = omega (arith, pad-room rows (flat (rowsOf t)) (h .rows-are), flat-length (rowsOf t), count)
+  rows-room = omega (arith, pad-room (h .rows-length) rows (flat (rowsOf t)) (h .rows-are), flat-length (rowsOf t), count)
 
   pub chains-room : chained (rowsAt n rows) ≤ length chains
-  chains-room = let e : chained (rowsAt n rows) ≡ length (chainsOf t) = ap chained rows-told ∙ rows-chained 0 0 t in omega (arith, pad-room chains (chainsOf t) (h .chains-are))
+  chains-room = let e : chained (rowsAt n rows) ≡ length (chainsOf t) = ap chained rows-told ∙ rows-chained 0 0 t in omega (arith, pad-room (h .chains-length) chains (chainsOf t) (h .chains-are))
 
   lines-told : rowLines (rowsAt n rows) chains ≡ rowLines (rowsOf t) (chainsOf t)
   lines-told =
       ap₂ rowLines rows-told (h .chains-are)
-      ∙ lines-more (rowsOf t) (chainsOf t) (replicate (length chains - length (chainsOf t)) 0) (let a = rows-chained 0 0 t in omega arith)
+      ∙ lines-more (rowsOf t) (chainsOf t) (replicate (h .chains-length - length (chainsOf t)) 0) (let a = rows-chained 0 0 t in omega arith)
 
 -- ---- the text
 

@@ -73,8 +73,10 @@ pub record Told (c : Covered) (t : Tree Extent) (e : Extent) (n : ℕ) (rows cha
   pub listed : Listed c t
   pub extent-is : e ≡ extentOf c
   pub count-is : n ≡ nodes t
-  pub rows-are : rows ≡ padded (length rows) 0 (flat (rowsOf t))
-  pub chains-are : chains ≡ padded (length chains) 0 (chainsOf t)
+  pub rows-length : ℕ
+  pub rows-are : rows ≡ padded rows-length 0 (flat (rowsOf t))
+  pub chains-length : ℕ
+  pub chains-are : chains ≡ padded chains-length 0 (chainsOf t)
 
 -- there is such a tree
 pub record SomeTree (e : Extent) (n : ℕ) (rows chains : List ℕ) : Type 0 where

@@ -1,0 +1,90 @@
+-- The lister's text from what the tree call answers for a sheet. Assumes nothing.
+use mathlib.Core.Path.{_≡_, refl, sym, ap, ap₂, _∙_, subst}
+use mathlib.Core.Bool.{Bool, true, false, cond}
+use mathlib.Core.List.{List, [], _∷_, _++_}
+use Prim.Native.Nat.{ℕ, _%_, _≤_, _<_}
+use native.Mathlib.Nat.{le-trans}
+use borrow.Author.Tests.{le-leb, lt-leb, eq-eqb, ne-eqb}
+use lib.Dec.{leb, lit≤}
+use lib.ListN.{length}
+use Rattle.rules.specs.declared.Extent.{Extent}
+use Rattle.rules.specs.declared.Refusal.{Refusal}
+use Rattle.rules.specs.Plain.{padded}
+use Rattle.rules.specs.Outcome.{Outcome, done, refused, _>>=_, Check, fine, require, _then_, ifDone, refusal}
+use Rattle.rules.specs.Refusal.{mostParticles, countCheck}
+use Rattle.rules.specs.Sheet.{recordSize, lengthCheck, countOf, particlesOf, recordsCheck, placesOf}
+use Rattle.rules.specs.Cell.{nowhere}
+use Rattle.rules.specs.Cover.{Covered, extentOf}
+use Rattle.rules.specs.Tree.{Tree, nodes, treeOf, treeCheck, rowsOf, flat, chainsOf}
+use Rattle.rules.specs.Calls.{slotsOf, treeOfSheet, coverSheet, TreeInput, treeLengths, treeResult, treeAnswer, rowsAfter, chainsAfter}
+use Rattle.rules.specs.Listing.{ascii, decimal, line, extentLine, rowLines, mostListed, listerSlots, listing, lister}
+use Rattle.listing.specs.Told.{Listed, Told}
+use Rattle.listing.proofs.Accepted.{accepted}
+
+-- the tree of a sheet after these checks of its length, its count and the lent lists
+abbrev after : List ℕ → Check → Check → Check → ℕ → Outcome (Tree Extent)
+after sheet whole count lengths slots =
+    whole then count then lengths then recordsCheck (particlesOf sheet) >>= λ _.
+    treeCheck (placesOf (particlesOf sheet)) (countOf sheet) slots >>= λ _.
+    done (treeOf (placesOf (particlesOf sheet)) (countOf sheet))
+
+tree-after : (sheet : List ℕ) (most slots : ℕ) (lengths : Check) → treeOfSheet most slots lengths sheet ≡ after sheet (lengthCheck sheet) (countCheck most (countOf sheet)) lengths slots
+unfolding treeOfSheet
+tree-after sheet most slots lengths = refl
+
+count-in : (most n : ℕ) → n ≤ most → countCheck most n ≡ fine
+count-in most n h = ap (λ (ok : Bool). require ok 1 0) (le-leb n most h)
+
+-- ---- up to 512 records: the tree call's own answer
+
+module _ (l : TreeInput) (few : countOf (l .sheet) ≤ mostListed) (slots : slotsOf (l .work) ≡ listerSlots) (lengths : treeLengths l ≡ fine) where
+  same-tree : treeOfSheet mostListed listerSlots fine (l .sheet) ≡ treeResult l
+  unfolding treeResult
+  same-tree =
+      let n = countOf (l .sheet) in
+      tree-after (l .sheet) mostListed listerSlots fine
+      ∙ ap (λ (c : Check). after (l .sheet) (lengthCheck (l .sheet)) c fine listerSlots) (count-in mostListed n few ∙ sym (count-in mostParticles n (le-trans few (lit≤ tt))))
+      ∙ ap₂ (λ (c : Check) (k : ℕ). after (l .sheet) (lengthCheck (l .sheet)) (countCheck mostParticles n) c k) (sym lengths) (sym slots)
+      ∙ sym (tree-after (l .sheet) mostParticles (slotsOf (l .work)) (treeLengths l))
+
+  lister-of : lister (l .sheet) ≡ listing (l .sheet) (treeResult l)
+  unfolding lister
+  lister-of = ap (listing (l .sheet)) same-tree
+
+  -- refused: the line with the number
+  pub lister-refused : (r : Refusal) → treeResult l ≡ refused r → lister (l .sheet) ≡ line (ascii "refused" ∷ decimal (r .number) ∷ [])
+  lister-refused r e = lister-of ∙ ap (listing (l .sheet)) e
+
+  module _ (t : Tree Extent) (e : treeResult l ≡ done t) where
+    -- accepted: the extent and the nodes
+    pub lister-done : lister (l .sheet) ≡ extentLine (coverSheet (l .sheet)) ++ rowLines (rowsOf t) (chainsOf t)
+    lister-done = lister-of ∙ ap (listing (l .sheet)) e
+
+    -- and what the call leaves tells of that tree
+    pub told : Told (coverSheet (l .sheet)) t (treeAnswer l .extent) (treeAnswer l .nodes) (rowsAfter l) (chainsAfter l)
+    unfolding treeAnswer rowsAfter chainsAfter
+    told = record {
+      listed = accepted (l .sheet) t (same-tree ∙ e);
+      extent-is = ap (λ (o : Outcome (Tree Extent)). ifDone o (λ _. extentOf (coverSheet (l .sheet))) nowhere) e;
+      count-is = ap (λ (o : Outcome (Tree Extent)). ifDone o nodes 0) e;
+      rows-length = length (l .rows);
+      rows-are = ap (λ (o : Outcome (Tree Extent)). ifDone o (λ t. padded (length (l .rows)) 0 (flat (rowsOf t))) (l .rows)) e;
+      chains-length = length (l .chains);
+      chains-are = ap (λ (o : Outcome (Tree Extent)). ifDone o (λ t. padded (length (l .chains)) 0 (chainsOf t)) (l .chains)) e;
+    }
+
+-- ---- a bad length, and else over 512 records
+
+pub lister-bad : (sheet : List ℕ) → (length sheet % recordSize ≡ 0 → ⊥) → lister sheet ≡ line (ascii "refused" ∷ decimal 10 ∷ [])
+unfolding lister lengthCheck
+lister-bad sheet bad =
+    ap (listing sheet)
+    (tree-after sheet mostListed listerSlots fine
+    ∙ ap (λ (ok : Bool). after sheet (require ok 10 0) (countCheck mostListed (countOf sheet)) fine listerSlots) (ne-eqb (length sheet % recordSize) 0 bad))
+
+pub lister-many : (sheet : List ℕ) → length sheet % recordSize ≡ 0 → mostListed < countOf sheet → lister sheet ≡ line (ascii "refused" ∷ decimal 1 ∷ [])
+unfolding lister lengthCheck
+lister-many sheet whole many =
+    ap (listing sheet)
+    (tree-after sheet mostListed listerSlots fine
+    ∙ ap₂ (λ (ok few : Bool). after sheet (require ok 10 0) (require few 1 0) fine listerSlots) (eq-eqb (length sheet % recordSize) 0 whole) (lt-leb (countOf sheet) mostListed many))
