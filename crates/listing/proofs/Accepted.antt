@@ -1,21 +1,21 @@
 -- A sheet that the lister accepts is within its limits. Assumes nothing.
 use mathlib.Core.Path.{_≡_, refl, sym, ap, ap₂, _∙_, subst}
 use mathlib.Core.Logic.{⊎-elim, inl, inr}
-use mathlib.Core.Bool.{Bool, true, false, cond, _&&_}
+use mathlib.Core.Bool.{Bool, true, false}
 use mathlib.Core.List.{List, [], _∷_, _++_, map, List·Memᴰ, List·Memᴰ·not-nil, List·Memᴰ·cases-cons, cons≢nil}
 use Prim.Native.Nat.{ℕ, zero, suc, _+_, _*_, _^_, _≤_, _<_}
+use native.Mathlib.Nat.{le-trans}
 use native.Mathlib.Omega.{arith}
 use borrow.Author.Tests.{leb-true}
 use lib.IntN.{ℤ}
-use lib.Dec.{T, leb}
+use lib.Dec.{T, leb, lit≤}
 use lib.ListN.{length, getD, length-append}
 use lib.Ieee.{Float, nan}
 use Rattle.rules.specs.declared.Extent.{Extent}
 use Rattle.rules.specs.declared.Particle.{Particle}
 use Rattle.rules.specs.Plain.{countFrom, upTo}
-use Rattle.rules.specs.Outcome.{Outcome, done, refused, _>>=_, Check, fine, require, _then_, checkFrom, refusal}
+use Rattle.rules.specs.Outcome.{Outcome, done, refused, _>>=_, Check, fine, require, _then_, checkFrom}
 use Rattle.rules.specs.Number.{within, placeRange, speedRange, xAt, yAt}
-use Rattle.rules.specs.Floor.{floor}
 use Rattle.rules.specs.Sheet.{lengthCheck, recordCheck, recordsCheck, placesOf, particlesOf, recordsFrom, countOf}
 use Rattle.rules.specs.Cover.{Square, Covered, nothing, holds, coverAll, coverFirst, extentOf}
 use Rattle.rules.specs.Tree.{Tree, none, leaf, node, depth, nodes, treeIn, treeOf, fitsCheck, treeCheck, chainsOf}
@@ -29,8 +29,7 @@ use Rattle.rules.proofs.CellIs.{Is}
 use Rattle.rules.proofs.CellRule.{grow-none, tree-whole, chains-in, chains-length}
 use Rattle.number.proofs.Flooring.{floor-within}
 use Rattle.listing.specs.Told.{AllBelow, Covers, Near, Listed}
-use Rattle.listing.proofs.Sizes.{below-more, listing-length}
-use Rattle.listing.proofs.Decimal.{decimal-most}
+use Rattle.listing.proofs.Sizes.{below-more, refused-length, listing-length}
 
 -- ---- outcomes
 
@@ -209,7 +208,4 @@ lister-length sheet = go (treeOfSheet mostListed listerSlots fine sheet) refl
   where
     go : (o : Outcome (Tree Extent)) → treeOfSheet mostListed listerSlots fine sheet ≡ o → length (listing sheet o) ≤ 2 ^ 14
     go (done t) e = listing-length (coverSheet sheet) t (accepted sheet t e)
-    go (refused r) e =
-        let a : length (decimal (r .number) ++ (10 ∷ [])) ≡ length (decimal (r .number)) + 1 = length-append (decimal (r .number)) (10 ∷ []) in
-        let b = decimal-most (r .number) in
-        omega arith
+    go (refused r) e = le-trans (refused-length (r .number)) (lit≤ tt)

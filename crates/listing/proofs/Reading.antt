@@ -1,7 +1,7 @@
 -- What a tree call told, read back: the rows, the chains, the extent and so the text. Assumes nothing.
-use mathlib.Core.Path.{_≡_, refl, sym, ap, ap₂, _∙_, subst}
+use mathlib.Core.Path.{_≡_, refl, sym, ap, ap₂, _∙_}
 use mathlib.Core.List.{List, [], _∷_, _++_}
-use Prim.Native.Nat.{ℕ, zero, suc, _+_, _-_, _*_, _^_, _≤_, _<_}
+use Prim.Native.Nat.{ℕ, _-_, _*_, _^_, _≤_}
 use native.Mathlib.Omega.{arith}
 use lib.IntN.{ℤ, natAbs}
 use lib.Ieee.{Float}
@@ -10,9 +10,9 @@ use lib.Seq.{take-append-le, drop-append-le}
 use Rattle.rules.specs.declared.Extent.{Extent}
 use Rattle.rules.specs.Plain.{padded}
 use Rattle.rules.specs.Cover.{Square, square, whole, Covered, nothing, holds, extentOf}
-use Rattle.rules.specs.Tree.{Tree, nodes, Row, rowsOf, flat, chainsOf}
+use Rattle.rules.specs.Tree.{Tree, Row, rowsOf, flat, chainsOf}
 use Rattle.rules.specs.Listing.{extentLine, rowLines}
-use Rattle.listing.specs.Told.{integer, squareOf, WholeEnds, rowsAt, chained, Near, Covers, Told}
+use Rattle.listing.specs.Told.{integer, squareOf, WholeEnds, rowsAt, chained, Near, Told}
 use Rattle.listing.proofs.Whole.{integer-whole, is-whole}
 use Rattle.listing.proofs.Rows.{rowLine}
 use Rattle.listing.proofs.Sizes.{rows-count, rows-chained}

@@ -1,5 +1,5 @@
 -- How long the lines of a listing are. Assumes nothing.
-use mathlib.Core.Path.{_≡_, refl, sym, ap, ap₂, _∙_}
+use mathlib.Core.Path.{_≡_, refl, ap, _∙_}
 use mathlib.Core.List.{List, [], _∷_, _++_, map}
 use Prim.Native.Nat.{ℕ, zero, suc, _+_, _*_, _^_, _≤_, _<_, min}
 use native.Mathlib.Nat.{le-trans, lt-of-le-of-lt}
@@ -10,10 +10,10 @@ use lib.ListN.{length, take, drop, length-append, length-take}
 use Rattle.rules.specs.declared.Extent.{Extent}
 use Rattle.rules.specs.Cover.{Square, Covered, nothing, holds}
 use Rattle.rules.specs.Tree.{Tree, none, leaf, node, nodes, Row, rowsFrom, rowsOf, chainsOf}
-use Rattle.rules.specs.Listing.{ascii, decimal, signed, kindWord, extentLine, rowLines, mostListed}
+use Rattle.rules.specs.Listing.{ascii, decimal, signed, kindWord, line, extentLine, rowLines, mostListed}
 use Rattle.listing.specs.Text.{others}
 use Rattle.listing.specs.Told.{chained, Near, Covers, AllBelow, Listed}
-use Rattle.listing.proofs.Decimal.{decimal-length}
+use Rattle.listing.proofs.Decimal.{decimal-length, decimal-most}
 use Rattle.listing.proofs.Rows.{rowLine}
 
 -- ---- numbers of at most four digits
@@ -150,6 +150,14 @@ extent-length s h =
     let c : length (signed (s .x1)) ≤ 15 = signed-length (s .x1) (h .x1) in
     let d : length (signed (s .y1)) ≤ 15 = signed-length (s .y1) (h .y1) in
     simp length-append (omega arith)
+
+-- ---- the line of a refusal
+
+pub refused-length : (n : ℕ) → length (line (ascii "refused" ∷ decimal n ∷ [])) ≤ 23
+refused-length n =
+    let e : length (decimal n ++ (10 ∷ [])) ≡ length (decimal n) + 1 = length-append (decimal n) (10 ∷ []) in
+    let f : length (decimal n) ≤ 14 = decimal-most n in
+    omega arith
 
 -- ---- the whole listing
 

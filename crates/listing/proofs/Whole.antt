@@ -11,7 +11,7 @@ use lib.Ieee.Back.{unsigned-back, positive-back, negative-back}
 use Rattle.rules.specs.Number.{0·}
 use Rattle.rules.specs.Cover.{whole}
 use Rattle.rules.specs.Listing.{decimal, signed}
-use Rattle.number.proofs.Integers.{HasInt, Within, ofInt-has, lt-int}
+use Rattle.number.proofs.Integers.{HasInt, ofInt-has, lt-int}
 use Rattle.listing.specs.Told.{integer, IsWhole}
 
 -- ---- the float of an integer, read back

@@ -39,7 +39,7 @@ pub fn put_empty(out: &mut [u8], at: usize) -> usize
 }
 
 pub fn put_refused(out: &mut [u8], at: usize, number: u64) -> usize
-    requires { ⌜ (number < 10 ^ 14) × (at + length (line (ascii "refused" ∷ decimal number ∷ [])) ≤ length (now out)) ⌝ }
+    requires { ⌜ (number < 10 ^ 14) × (at + 23 ≤ length (now out)) ⌝ }
     ensures { λ r. ⌜ Wrote (now (out .entry)) at (line (ascii "refused" ∷ decimal number ∷ [])) (now (out .exit)) r ⌝ }
 {
     let mut next = put_text(out, at, b"refused");

@@ -1,6 +1,6 @@
 // Text put into a buffer at a place. Each function answers the place behind what it wrote, and changes nothing else.
 ghost use mathlib.Core.List.{[], _∷_};
-ghost use Prim.Native.Nat.{_+_, _*_, _^_, _≤_, _<_};
+ghost use Prim.Native.Nat.{_+_, _^_, _≤_, _<_};
 ghost use lib.ListN.{length};
 ghost use Rattle.rules.specs.Listing.{decimal, signed};
 ghost use Rattle.listing.specs.Text.{Wrote};

@@ -1,10 +1,8 @@
 use borrow.Author.Needs.{needs}
 use mathlib.Core.Path.{_≡_, refl, ap}
-use mathlib.Core.List.{List, [], _∷_}
-use Prim.Native.Nat.{ℕ, zero, suc, _+_, _≤_}
-use lib.ListN.{length}
+use mathlib.Core.List.{[], _∷_}
+use Prim.Native.Nat.{ℕ, zero, suc}
 use Rattle.rules.specs.Listing.{kindWord}
-use Rattle.listing.specs.Text.{Wrote}
 use Rattle.listing.proofs.Writing.{Left, left-as, left-none, left-last}
 use Rattle.listing.proofs.lines.put_kind.Statement.{statement}
 use Rattle.listing.proofs.lines.put_kind.Tie as tie

@@ -1,11 +1,7 @@
-use borrow.Author.Needs.{needs}
-use Prim.Native.Nat.{ℕ, _+_, _-_, _*_, _≤_}
+use Prim.Native.Nat.{_+_, _-_, _*_, _≤_}
 use native.Mathlib.Omega.{arith}
-use lib.ListN.{length, take, drop, getD}
-use Rattle.listing.specs.Told.{rowsAt}
-use Rattle.rules.specs.Listing.{rowLines}
-use Rattle.listing.proofs.Writing.{Next}
-use Rattle.listing.proofs.Rows.{Going, rowsFrom, rowAt, rowLine, going-start, going-chain, going-row, going-next, going-end}
+use lib.ListN.{length, getD}
+use Rattle.listing.proofs.Rows.{Going, going-start, going-chain, going-row, going-next, going-end}
 use Rattle.listing.proofs.lines.put_rows.Statement.{statement}
 use Rattle.listing.proofs.lines.put_rows.Tie as tie
 

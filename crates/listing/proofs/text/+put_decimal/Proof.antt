@@ -1,13 +1,8 @@
 use borrow.Author.Needs.{needs}
-use mathlib.Core.Path.{_≡_, sym, subst}
-use mathlib.Core.List.{List, [], _∷_, _++_}
-use Prim.Native.Nat.{ℕ, _<_, _/_}
+use Prim.Native.Nat.{ℕ, _<_}
 use native.Mathlib.Omega.{arith}
-use lib.ListN.{length, length-append}
 use borrow.Fn.Kinds.{In}
 use borrow.Fn.PlainCycle.{Measures, is, falls, and}
-use Rattle.rules.specs.Listing.{decimal}
-use Rattle.listing.specs.Text.{Wrote}
 use Rattle.listing.proofs.Decimal.{room-small, wrote-small, room-tenth, room-digit, wrote-digit}
 use Rattle.listing.proofs.text.put_decimal.Reads as put-decimal
 use Rattle.listing.proofs.text.put_decimal.Kinds as put-decimal-kinds

@@ -1,14 +1,10 @@
-use mathlib.Core.Path.{_≡_, subst}
-use mathlib.Core.List.{List, [], _∷_}
-use Prim.Native.Nat.{ℕ, _+_, _-_}
+use mathlib.Core.List.{[], _∷_}
+use Prim.Native.Nat.{_+_, _-_}
 use native.Mathlib.Omega.{arith}
 use lib.ListN.{length, drop, getD, drop-of-length-le}
 use Rattle.listing.proofs.Writing.{Left, Next, from-index, left-all, left-none, left-next}
 use Rattle.listing.proofs.text.put_text.Statement.{statement}
 use Rattle.listing.proofs.text.put_text.Tie as tie
-use Rattle.listing.proofs.text.put_text.Reads as reads
-use Rattle.listing.proofs.text.put_text.Lts as lts
-use Rattle.listing.proofs.text.put_byte.Reads as put-byte-reads
 
 -- what is left is the text from i on
 abbrev Inv-loop : tie.InvT-loop

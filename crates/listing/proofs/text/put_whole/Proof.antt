@@ -1,6 +1,5 @@
 use borrow.Author.Needs.{needs}
-use mathlib.Core.List.{List, [], _∷_}
-use Prim.Native.Nat.{ℕ}
+use mathlib.Core.List.{[], _∷_}
 use lib.Ieee.{neg, toUnsigned}
 use Rattle.rules.specs.Listing.{decimal, signed}
 use Rattle.listing.specs.Told.{integer}
