@@ -2,14 +2,14 @@
 use mathlib.Core.Path.{_≡_, refl, sym, ap, ap₂, _∙_, subst}
 use mathlib.Core.Logic.{⊎-elim, inl, inr}
 use mathlib.Core.Bool.{Bool, true, false}
-use mathlib.Core.List.{List, [], _∷_, _++_, map, List·Memᴰ, List·Memᴰ·not-nil, List·Memᴰ·cases-cons, cons≢nil}
+use mathlib.Core.List.{List, [], _∷_, map, List·Memᴰ, List·Memᴰ·not-nil, List·Memᴰ·cases-cons, cons≢nil}
 use Prim.Native.Nat.{ℕ, zero, suc, _+_, _*_, _^_, _≤_, _<_}
 use native.Mathlib.Nat.{le-trans}
 use native.Mathlib.Omega.{arith}
 use borrow.Author.Tests.{leb-true}
 use lib.IntN.{ℤ}
 use lib.Dec.{T, leb, lit≤}
-use lib.ListN.{length, getD, length-append}
+use lib.ListN.{length, getD}
 use lib.Ieee.{Float, nan}
 use Rattle.rules.specs.declared.Extent.{Extent}
 use Rattle.rules.specs.declared.Particle.{Particle}
@@ -20,7 +20,7 @@ use Rattle.rules.specs.Sheet.{lengthCheck, recordCheck, recordsCheck, placesOf,
 use Rattle.rules.specs.Cover.{Square, Covered, nothing, holds, coverAll, coverFirst, extentOf}
 use Rattle.rules.specs.Tree.{Tree, none, leaf, node, depth, nodes, treeIn, treeOf, fitsCheck, treeCheck, chainsOf}
 use Rattle.rules.specs.Calls.{treeOfSheet, coverSheet}
-use Rattle.rules.specs.Listing.{decimal, mostListed, listerSlots, listing, lister}
+use Rattle.rules.specs.Listing.{mostListed, listerSlots, listing, lister}
 use Rattle.rules.proofs.CoverTerms.{AllNear, Held, Reached, floors}
 use Rattle.rules.proofs.Cover.{cover-all, held-ends}
 use Rattle.rules.proofs.CellList.{In, left, right}
