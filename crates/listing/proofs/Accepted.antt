@@ -1,0 +1,211 @@
+-- A sheet that the lister accepts is within its limits. Assumes nothing.
+use mathlib.Core.Path.{_≡_, refl, sym, ap, ap₂, _∙_, subst}
+use mathlib.Core.Logic.{⊎-elim, inl, inr}
+use mathlib.Core.Bool.{Bool, true, false}
+use mathlib.Core.List.{List, [], _∷_, map, List·Memᴰ, List·Memᴰ·not-nil, List·Memᴰ·cases-cons, cons≢nil}
+use Prim.Native.Nat.{ℕ, zero, suc, _+_, _*_, _^_, _≤_, _<_}
+use native.Mathlib.Nat.{le-trans}
+use native.Mathlib.Omega.{arith}
+use borrow.Author.Tests.{leb-true}
+use lib.IntN.{ℤ}
+use lib.Dec.{T, leb, lit≤}
+use lib.ListN.{length, getD}
+use lib.Ieee.{Float, nan}
+use Rattle.rules.specs.declared.Extent.{Extent}
+use Rattle.rules.specs.declared.Particle.{Particle}
+use Rattle.rules.specs.Plain.{countFrom, upTo}
+use Rattle.rules.specs.Outcome.{Outcome, done, refused, _>>=_, Check, fine, require, _then_, checkFrom}
+use Rattle.rules.specs.Number.{within, placeRange, speedRange, xAt, yAt}
+use Rattle.rules.specs.Sheet.{lengthCheck, recordCheck, recordsCheck, placesOf, particlesOf, recordsFrom, countOf}
+use Rattle.rules.specs.Cover.{Square, Covered, nothing, holds, coverAll, coverFirst, extentOf}
+use Rattle.rules.specs.Tree.{Tree, none, leaf, node, depth, nodes, treeIn, treeOf, fitsCheck, treeCheck, chainsOf}
+use Rattle.rules.specs.Calls.{treeOfSheet, coverSheet}
+use Rattle.rules.specs.Listing.{mostListed, listerSlots, listing, lister}
+use Rattle.rules.proofs.CoverTerms.{AllNear, Held, Reached, floors}
+use Rattle.rules.proofs.Cover.{cover-all, held-ends}
+use Rattle.rules.proofs.CellList.{In, left, right}
+use Rattle.rules.proofs.CellCount.{length-upTo}
+use Rattle.rules.proofs.CellIs.{Is}
+use Rattle.rules.proofs.CellRule.{grow-none, tree-whole, chains-in, chains-length}
+use Rattle.number.proofs.Flooring.{floor-within}
+use Rattle.listing.specs.Told.{AllBelow, Covers, Near, Listed}
+use Rattle.listing.proofs.Sizes.{below-more, refused-length, listing-length}
+
+-- ---- outcomes
+
+abbrev Accepts : {A : Type 0} → Outcome A → Type 0
+Accepts (done a) = Unit
+Accepts (refused r) = ⊥
+
+accepts-then : (a b : Check) → Accepts (a then b) → Accepts a × Accepts b
+accepts-then (done u) b h = (tt, h)
+accepts-then (refused r) b h = absurd h
+
+accepts-bind : {A B : Type 0} (o : Outcome A) (f : A → Outcome B) → Accepts (o >>= f) → Accepts o × ((a : A) × Accepts (f a))
+accepts-bind (done a) f h = (tt, (a, h))
+accepts-bind (refused r) f h = absurd h
+
+accepts-require : (ok : Bool) (n p : ℕ) → Accepts (require ok n p) → ok ≡ true
+accepts-require true n p h = refl
+accepts-require false n p h = absurd h
+
+-- each element's check, by its number
+accepts-at : {A : Type 0} (f : ℕ → A → Check) (i : ℕ) (l : List A) (k : ℕ) → k < length l → Accepts (checkFrom f i l) → (a : A) × Accepts (f (i + k) a)
+accepts-at f i [] k h c = absurd (omega arith)
+accepts-at f i (a ∷ l) zero h c = let e : i ≡ i + 0 = omega arith in (a, subst (λ (n : ℕ). Accepts (f n a)) e (accepts-bind (f i a) (λ _. checkFrom f (i + 1) l) c .0))
+accepts-at f i (a ∷ l) (suc k) h c =
+    let (b, r) = accepts-at f (i + 1) l k (omega arith) (accepts-bind (f i a) (λ _. checkFrom f (i + 1) l) c .1 .1) in
+    let e : i + 1 + k ≡ i + suc k = omega arith in
+    (b, subst (λ (n : ℕ). Accepts (f n b)) e r)
+
+-- ---- the records: every place is in range
+
+record-in : (i : ℕ) (p : Particle) → Accepts (recordCheck i p) → placeRange (p .x) (p .y) ≡ true
+unfolding recordCheck
+record-in i p c =
+    let flags = require (leb (p .flags) 3) 10 i in
+    let place = require (placeRange (p .x) (p .y)) 4 i in
+    let speed = require (speedRange (p .vx) (p .vy)) 5 i in
+    accepts-require (placeRange (p .x) (p .y)) 4 i (accepts-then flags place (accepts-then (flags then place) speed c .0) .1)
+
+places-in : (i : ℕ) (ps : List Particle) → Accepts (checkFrom recordCheck i ps) → (k : ℕ) → k < length ps → placeRange (xAt (placesOf ps) k) (yAt (placesOf ps) k) ≡ true
+places-in i [] c k h = absurd (omega arith)
+places-in i (p ∷ ps) c zero h = record-in i p (accepts-bind (recordCheck i p) (λ _. checkFrom recordCheck (i + 1) ps) c .0)
+places-in i (p ∷ ps) c (suc k) h =
+    let e : suc k * 2 ≡ suc (suc (k * 2)) = omega arith in
+    let f : suc k * 2 + 1 ≡ suc (suc (k * 2 + 1)) = omega arith in
+    ap₂ (λ (a b : ℕ). placeRange (getD (placesOf (p ∷ ps)) a nan) (getD (placesOf (p ∷ ps)) b nan)) e f
+    ∙ places-in (i + 1) ps (accepts-bind (recordCheck i p) (λ _. checkFrom recordCheck (i + 1) ps) c .1 .1) k (omega arith)
+
+records-count : (s : List ℕ) (at k : ℕ) → length (recordsFrom s at k) ≡ k
+records-count s at zero = refl
+records-count s at (suc k) = ap suc (records-count s (at + 40) k)
+
+particles-count : (s : List ℕ) → length (particlesOf s) ≡ countOf s
+unfolding particlesOf
+particles-count s = records-count s 0 (countOf s)
+
+-- ---- numbers up to n
+
+count-less : (i a k : ℕ) → List·Memᴰ i (countFrom a k) → i < a + k
+count-less i a zero m = absurd (List·Memᴰ·not-nil m)
+count-less i a (suc k) m = ⊎-elim (λ e. omega arith) (λ r. let l : i < a + 1 + k = count-less i (a + 1) k r in omega arith) (List·Memᴰ·cases-cons m)
+
+in-count-less : (i a k : ℕ) → In i (countFrom a k) → i < a + k
+in-count-less i a zero m = absurd m
+in-count-less i a (suc k) m = ⊎-elim (λ e. omega arith) (λ r. let l : i < a + 1 + k = in-count-less i (a + 1) k r in omega arith) m
+
+below-in : (n : ℕ) (l : List ℕ) → ((i : ℕ) → In i l → i < n) → AllBelow n l
+below-in n [] h = tt
+below-in n (i ∷ l) h = (h i (inl refl), below-in n l (λ j m. h j (inr m)))
+
+-- ---- the tree
+
+module _ (at : List Float) where
+  tree-none : treeOf at 0 ≡ none
+  unfolding treeOf treeIn
+  tree-none = grow-none at 66 (extentOf (coverFirst at 0))
+
+  -- an accepted tree is neither too deep nor too large
+  tree-fits : (n slots : ℕ) → Accepts (treeCheck at n slots) → (depth (treeOf at n) ≤ 65) × (nodes (treeOf at n) ≤ slots)
+  unfolding treeCheck fitsCheck
+  tree-fits zero slots c = rw tree-none (omega arith, omega arith)
+  tree-fits (suc n) slots c =
+      let (_, r) = accepts-at (λ i _. fitsCheck slots i (treeOf at (i + 1))) 0 (upTo (suc n)) n (let e = length-upTo (suc n) in omega arith) c in
+      let e : 0 + n + 1 ≡ suc n = omega arith in
+      let u = treeOf at (0 + n + 1) in
+      let both = accepts-then (require (leb (depth u) 65) 6 (0 + n)) (require (leb (nodes u) slots) 7 (0 + n)) r in
+      subst (λ (m : ℕ). (depth (treeOf at m) ≤ 65) × (nodes (treeOf at m) ≤ slots)) e
+      (leb-true (depth u) 65 (accepts-require (leb (depth u) 65) 6 (0 + n) (both .0)), leb-true (nodes u) slots (accepts-require (leb (nodes u) slots) 7 (0 + n) (both .1)))
+
+  -- it is the tree of its points
+  tree-is : (n : ℕ) → depth (treeOf at n) ≤ 65 → Is at (extentOf (coverFirst at n)) (treeOf at n) (upTo n)
+  unfolding treeOf
+  tree-is n l = tree-whole at (extentOf (coverFirst at n)) (upTo n) l
+
+  chains-count : (n : ℕ) → depth (treeOf at n) ≤ 65 → length (chainsOf (treeOf at n)) ≡ n
+  chains-count n l = chains-length at (treeOf at n) (extentOf (coverFirst at n)) (upTo n) (tree-is n l) ∙ length-upTo n
+
+  chains-below : (n : ℕ) → depth (treeOf at n) ≤ 65 → AllBelow n (chainsOf (treeOf at n))
+  chains-below n l =
+      below-in n (chainsOf (treeOf at n))
+      (λ i m. let r = in-count-less i 0 n (chains-in at (treeOf at n) (extentOf (coverFirst at n)) (upTo n) i (tree-is n l) .0 m) in omega arith)
+
+  -- where there is a particle there is a node
+  nodes-some : (t : Tree Extent) → 0 < length (chainsOf t) → 0 < nodes t
+  nodes-some none h = h
+  nodes-some (leaf c is) h = omega arith
+  nodes-some (node c t0 t1 t2 t3) h = omega arith
+
+  near-all : (n : ℕ) → ((k : ℕ) → k < n → placeRange (xAt at k) (yAt at k) ≡ true) → AllNear at (upTo n)
+  near-all n h i m =
+      let r = h i (let l = count-less i 0 n m in omega arith) in (
+        floor-within (xAt at i) (subst T (sym (left (within (xAt at i)) (within (yAt at i)) r)) tt) .within,
+        floor-within (yAt at i) (subst T (sym (right (within (xAt at i)) (within (yAt at i)) r)) tt) .within,
+      )
+
+  cover-none : (s : Square) → coverFirst at 0 ≡ holds s → ⊥
+  unfolding coverAll
+  cover-none s e = let z : _≡_ {A = ℕ} 0 1 = cc in omega arith
+
+  near-square : {s : Square} {fs : List (ℤ × ℤ)} → Held s fs → Near s
+  near-square h = let e = held-ends h in record { x0 = e .x0; y0 = e .y0; x1 = e .x1; y1 = e .y1 }
+
+  -- what covers it has ends that are near, if there is a particle
+  covers : (n : ℕ) → AllNear at (upTo n) → depth (treeOf at n) ≤ 65 → Covers (coverFirst at n) (nodes (treeOf at n))
+  covers n h l = go n (coverFirst at n) (cover-all at (upTo n) h) refl (chains-count n l)
+    where
+      go : (n : ℕ) (c : Covered) → Reached c (map (floors at) (upTo n)) → coverFirst at n ≡ c → length (chainsOf (treeOf at n)) ≡ n → Covers c (nodes (treeOf at n))
+      go zero nothing r e k = ap nodes tree-none
+      go (suc n) nothing r e k = absurd (cons≢nil r)
+      go zero (holds s) r e k = absurd (cover-none s e)
+      go (suc n) (holds s) r e k = (nodes-some (treeOf at (suc n)) (omega arith), near-square r)
+
+-- ---- an accepted sheet
+
+module _ (sheet : List ℕ) where
+  at : List Float
+  at = placesOf (particlesOf sheet)
+
+  n : ℕ
+  n = countOf sheet
+
+  accepted-tree : Accepts (recordsCheck (particlesOf sheet)) → n ≤ mostListed → Accepts (treeCheck at n listerSlots) → Listed (coverSheet sheet) (treeOf at n)
+  unfolding at n recordsCheck
+  accepted-tree r m f =
+      let fits = tree-fits at n listerSlots f in
+      let near = near-all at n (λ k h. places-in 0 (particlesOf sheet) r k (let e = particles-count sheet in omega arith)) in
+      let e = chains-count at n (fits .0) in
+      record {
+        covers = covers at n near (fits .0);
+        few = fits .1;
+        short = omega arith;
+        low = below-more n mostListed m (chainsOf (treeOf at n)) (chains-below at n (fits .0));
+      }
+
+done-tree : {A : Type 0} (a b : Check) (t u : A) → (a >>= λ _. b >>= λ _. done t) ≡ done u → Accepts a × (Accepts b × (t ≡ u))
+done-tree (done _) (done _) t u e = (tt, (tt, cc))
+done-tree (done _) (refused r) t u e = absurd (let z : _≡_ {A = ℕ} 0 1 = cc in omega arith)
+done-tree (refused r) b t u e = absurd (let z : _≡_ {A = ℕ} 0 1 = cc in omega arith)
+
+-- A sheet that the lister accepts has a tree within the limits.
+pub accepted : (sheet : List ℕ) (t : Tree Extent) → treeOfSheet mostListed listerSlots fine sheet ≡ done t → Listed (coverSheet sheet) t
+unfolding treeOfSheet at n
+accepted sheet t e =
+    let ps = particlesOf sheet in
+    let counts = require (leb (countOf sheet) mostListed) 1 0 in
+    let first = lengthCheck sheet then counts in
+    let d = done-tree (first then fine then recordsCheck ps) (treeCheck (placesOf ps) (countOf sheet) listerSlots) (treeOf (placesOf ps) (countOf sheet)) t e in
+    let checks = accepts-then (first then fine) (recordsCheck ps) (d .0) in
+    let count = accepts-then (lengthCheck sheet) counts (accepts-then first fine (checks .0) .0) .1 in
+    subst (λ (u : Tree Extent). Listed (coverSheet sheet) u) (d .1 .1)
+    (accepted-tree sheet (checks .1) (leb-true (countOf sheet) mostListed (accepts-require (leb (countOf sheet) mostListed) 1 0 count)) (d .1 .0))
+
+-- So no listing is longer than 2 ^ 14 bytes.
+pub lister-length : (sheet : List ℕ) → length (lister sheet) ≤ 2 ^ 14
+unfolding lister
+lister-length sheet = go (treeOfSheet mostListed listerSlots fine sheet) refl
+  where
+    go : (o : Outcome (Tree Extent)) → treeOfSheet mostListed listerSlots fine sheet ≡ o → length (listing sheet o) ≤ 2 ^ 14
+    go (done t) e = listing-length (coverSheet sheet) t (accepted sheet t e)
+    go (refused r) e = le-trans (refused-length (r .number)) (lit≤ tt)

@@ -1,0 +1,7 @@
+// The lister's text: what is written for a sheet, as bytes.
+mod lines;
+mod list;
+mod text;
+
+pub use lines::put_refused;
+pub use list::write_listing;
