@@ -1,1 +1,4 @@
 pub mod Fill
+pub mod Slots
+pub mod SlotsTree
+pub mod AddWay

@@ -1,0 +1,65 @@
+-- Insertion into a tree in slots: where a point's way down ends, what is written there, and the chains. Definitions only.
+use mathlib.Core.Path.{_≡_}
+use mathlib.Core.Bool.{true}
+use mathlib.Core.List.{List, [], _∷_}
+use mathlib.Core.Logic.{_⊎_}
+use Prim.Native.Nat.{ℕ, zero, suc, _+_, _-_, _*_, _≤_, _<_}
+use lib.Dec.{eqb}
+use lib.ListN.{length, getD, set}
+use lib.Ieee.{Float}
+use Rattle.rules.specs.declared.Extent.{Extent}
+use Rattle.rules.specs.Plain.{branch, upTo}
+use Rattle.rules.specs.Number.{xAt, yAt}
+use Rattle.rules.specs.Cell.{quadrant, quarter}
+use Rattle.rules.specs.Tree.{Tree, none, leaf, node, nodes, depth, same, inQuarter, treeIn, greatestLevel}
+use Rattle.quadtree.specs.declared.Quadtree.{Quadtree}
+use Rattle.quadtree.specs.Slots.{word, kids, first, putInternal, putLeaf, EachSlot, Once, inCells}
+
+-- ---- trees in slots, whatever their chains
+
+-- the number that leads to a tree
+abbrev pub lead : Tree ℕ → ℕ
+lead none = 0
+lead (leaf s is) = s + 1
+lead (node s t0 t1 t2 t3) = s + 1
+
+-- the slots hold the tree; of a leaf's chain only the first is there
+abbrev pub Lies : List ℕ → Tree ℕ → Type 0
+Lies m none = Unit {0}
+Lies m (leaf s is) = word m s 0 ≡ first is + 1
+Lies m (node s t0 t1 t2 t3) =
+    (word m s 0 ≡ 0) × (kids m s ≡ lead t0 ∷ lead t1 ∷ lead t2 ∷ lead t3 ∷ []) × Lies m t0 × Lies m t1 × Lies m t2 × Lies m t3
+
+-- the slots hold the tree of these points in the extent of q
+pub record Holds (at : List Float) (is m : List ℕ) (q : Quadtree) : Type 0 where
+  pub tree : Tree ℕ
+  pub root : q .root ≡ lead tree
+  pub lies : Lies m tree
+  pub cells : inCells (q .extent) tree ≡ treeIn at (q .extent) is
+  pub most : depth tree ≤ greatestLevel + 1
+  pub deepest : depth tree - 1 ≡ q .deepest
+  pub count : nodes tree ≡ q .nodes
+  pub below : EachSlot (λ s. s < q .nodes) tree
+  pub once : Once tree
+  pub room : q .nodes * 8 ≤ length m
+
+-- one of four, by its number
+abbrev pub pick : {A : Type 0} → A → A → A → A → ℕ → A
+pick a b c d zero = a
+pick a b c d (suc zero) = b
+pick a b c d (suc (suc zero)) = c
+pick a b c d (suc (suc (suc q))) = d
+
+-- ---- the way of a point down a tree
+
+module _ (at : List Float) (p : ℕ) where
+  -- the quadrant of the point p
+  abbrev pub side : Extent → ℕ
+  side c = quadrant c (xAt at p) (yAt at p)
+
+  -- n levels below the tree t of the cell c, the way of p comes to the tree u of the cell d
+  abbrev pub Reaches : ℕ → Extent → Tree ℕ → Extent → Tree ℕ → Type 0
+  Reaches zero c t d u = (c ≡ d) × (t ≡ u)
+  Reaches (suc n) c none d u = ⊥
+  Reaches (suc n) c (leaf s is) d u = ⊥
+  Reaches (suc n) c (node s t0 t1 t2 t3) d u = Reaches n (quarter (side c) c) (pick t0 t1 t2 t3 (side c)) d u
