@@ -43,6 +43,10 @@ pub record Holds (at : List Float) (is m : List ℕ) (q : Quadtree) : Type 0 whe
   pub once : Once tree
   pub room : q .nodes * 8 ≤ length m
 
+-- no child
+abbrev pub childless : List ℕ
+childless = 0 ∷ 0 ∷ 0 ∷ 0 ∷ []
+
 -- one of four, by its number
 abbrev pub pick : {A : Type 0} → A → A → A → A → ℕ → A
 pick a b c d zero = a
@@ -63,3 +67,20 @@ module _ (at : List Float) (p : ℕ) where
   Reaches (suc n) c none d u = ⊥
   Reaches (suc n) c (leaf s is) d u = ⊥
   Reaches (suc n) c (node s t0 t1 t2 t3) d u = Reaches n (quarter (side c) c) (pick t0 t1 t2 t3 (side c)) d u
+
+  -- how many levels from the cell c on, n at the most, the point i shares the quadrant of p
+  abbrev pub gap : ℕ → Extent → ℕ → ℕ
+  gap zero c i = 0
+  gap (suc n) c i = branch (inQuarter at c (side c) i) (λ _. suc (gap n (quarter (side c) c) i)) (λ _. 0)
+
+  -- ---- what is written where it ends
+
+  -- a leaf of p in slot x, as child k of slot s
+  unfoldable pub hung : List ℕ → ℕ → ℕ → ℕ → List ℕ
+  hung m s k x = putLeaf (putInternal m s (set (kids m s) k (x + 1))) x p
+
+  -- The leaf of f in slot s is split: internal nodes for the g + 1 levels from the cell c on, the first in slot s and the others from slot x on, then the leaves of f and p.
+  abbrev pub splitted : ℕ → ℕ → Extent → ℕ → ℕ → List ℕ → List ℕ
+  splitted f zero c s x m =
+      putLeaf (putLeaf (putInternal m s (set (set childless (quadrant c (xAt at f) (yAt at f)) (x + 1)) (side c) (x + 2))) x f) (x + 1) p
+  splitted f (suc g) c s x m = splitted f g (quarter (side c) c) x (x + 1) (putInternal m s (set childless (side c) (x + 1)))
