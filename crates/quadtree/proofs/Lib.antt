@@ -3,3 +3,4 @@ pub mod Slots
 pub mod SlotsTree
 pub mod AddWay
 pub mod AddSplit
+pub mod AddChain

@@ -84,3 +84,28 @@ module _ (at : List Float) (p : ℕ) where
   splitted f zero c s x m =
       putLeaf (putLeaf (putInternal m s (set (set childless (quadrant c (xAt at f) (yAt at f)) (x + 1)) (side c) (x + 2))) x f) (x + 1) p
   splitted f (suc g) c s x m = splitted f g (quarter (side c) c) x (x + 1) (putInternal m s (set childless (side c) (x + 1)))
+
+-- ---- chains
+
+module _ (at : List Float) where
+  -- v is the link of i among the first p particles: 0 where no later one has the same point, else j + 1 for the next that has
+  abbrev pub Link : ℕ → ℕ → ℕ → Type 0
+  Link p i v =
+      ((v ≡ 0) × ((j : ℕ) → i < j → j < p → same at i j ≡ true → ⊥))
+      ⊎ ((j : ℕ) × (v ≡ j + 1) × (i < j) × (j < p) × (same at i j ≡ true) × ((h : ℕ) → i < h → h < j → same at i h ≡ true → ⊥))
+
+  -- no particle before i has its point
+  abbrev pub Earliest : ℕ → Type 0
+  Earliest i = (j : ℕ) → j < i → same at j i ≡ true → ⊥
+
+  -- l is the last of the first p particles that has the point of i
+  pub record Last (p i l : ℕ) : Type 0 where
+    pub low : i ≤ l
+    pub less : l < p
+    pub point : same at i l ≡ true
+    pub last : (j : ℕ) → l < j → j < p → same at i j ≡ true → ⊥
+
+  -- Every link of the first p particles, and for the first of each chain its last.
+  pub record Linked (next tail : List ℕ) (p : ℕ) : Type 0 where
+    pub links : (i : ℕ) → i < p → Link p i (getD next i 0)
+    pub tails : (i : ℕ) → i < p → Earliest i → Last p i (getD tail i 0)
