@@ -19,7 +19,7 @@ use Rattle.quadtree.specs.Slots.{word, kids, first, putInternal, putLeaf
 use Rattle.quadtree.specs.Add.{lead, Lies, pick, side, Reaches, childless, gap, hung, splitted}
 use Rattle.quadtree.proofs.Slots.{Same, Small, same-trans, internal-length, internal-same, internal-tag, internal-kids, leaf-length, leaf-same, leaf-tag}
 use Rattle.quadtree.proofs.SlotsTree.{each-map, each-both, each-true, apart-sym, lead-each, lead-le, over, upd, bare, leads, upd-all, upd-below, each-over, lies-over, leads-upd, leads-small, depth-upd, nodes-upd, depth-child, once-over, pair-upd, frame}
-use Rattle.quadtree.proofs.AddWay.{quadrant-lt, pick-ap, side-lt, Renews}
+use Rattle.quadtree.proofs.AddWay.{quadrant-lt, pick-ap, side-lt}
 
 module _ (at : List Float) (p : ℕ) where
   -- the leaf of the chain `is` and the new leaf of p below g + 1 internal nodes, the first in slot s, the others from slot x on

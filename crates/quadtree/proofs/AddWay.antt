@@ -130,29 +130,29 @@ module _ (at : List Float) (p : ℕ) where
 
   -- ---- no slot twice
 
-  -- What holds of the slots of u and of those from x on holds of the slots of v.
-  abbrev pub Renews : ℕ → Tree ℕ → Tree ℕ → Type 1
-  Renews x u v = (P : ℕ → Type 0) → EachSlot P u → ((j : ℕ) → x ≤ j → P j) → EachSlot P v
+  -- What holds of the slots of u and of those from x to y holds of the slots of v.
+  abbrev pub Renews : ℕ → ℕ → Tree ℕ → Tree ℕ → Type 1
+  Renews x y u v = (P : ℕ → Type 0) → EachSlot P u → ((j : ℕ) → x ≤ j → j < y → P j) → EachSlot P v
 
-  pub plug-renews : (x n : ℕ) (c : Extent) (t : Tree ℕ) (d : Extent) (u v : Tree ℕ) → Reaches at p n c t d u → Renews x u v → Renews x t (plug n c t v)
-  plug-renews x n c t d u v r f P h new = plug-each P n c t v h (f P (reach-each n c t d u r P h) new)
+  pub plug-renews : (x y n : ℕ) (c : Extent) (t : Tree ℕ) (d : Extent) (u v : Tree ℕ) → Reaches at p n c t d u → Renews x y u v → Renews x y t (plug n c t v)
+  plug-renews x y n c t d u v r f P h new = plug-each P n c t v h (f P (reach-each n c t d u r P h) new)
 
-  pub plug-once : (x n : ℕ) (c : Extent) (t : Tree ℕ) (d : Extent) (u v : Tree ℕ) → Reaches at p n c t d u → Renews x u v → Once v → EachSlot (λ j. j < x) t → Once t → Once (plug n c t v)
-  plug-once x zero c t d u v r f o b h = o
-  plug-once x (suc n) c none d u v r f o b h = tt
-  plug-once x (suc n) c (leaf s is) d u v r f o b h = tt
-  plug-once x (suc n) c (node s t0 t1 t2 t3) d u v r f o b h =
+  pub plug-once : (x y n : ℕ) (c : Extent) (t : Tree ℕ) (d : Extent) (u v : Tree ℕ) → Reaches at p n c t d u → Renews x y u v → Once v → EachSlot (λ j. j < x) t → Once t → Once (plug n c t v)
+  plug-once x y zero c t d u v r f o b h = o
+  plug-once x y (suc n) c none d u v r f o b h = tt
+  plug-once x y (suc n) c (leaf s is) d u v r f o b h = tt
+  plug-once x y (suc n) c (node s t0 t1 t2 t3) d u v r f o b h =
       let q : ℕ = side at p c in
       let k : ℕ → Tree ℕ = pick t0 t1 t2 t3 in
       let w : Tree ℕ = plug n (quarter q c) (k q) v in
-      let renews : Renews x (k q) w = plug-renews x n (quarter q c) (k q) d u v r f in
+      let renews : Renews x y (k q) w = plug-renews x y n (quarter q c) (k q) d u v r f in
       let apart : (i : ℕ) → i < 4 → (i ≡ q → ⊥) → Apart w (k i) = λ i l ne.
           renews (λ j. EachSlot (λ z. z ≡ j → ⊥) (k i)) (once-apart s t0 t1 t2 t3 h q i (side-lt c) l (λ e. ne (sym e)))
-          (λ j g. each-map (λ z. z < x) (λ z. z ≡ j → ⊥) (λ z y e. omega arith) (k i) (each-child t0 t1 t2 t3 s (λ j. j < x) b i)) in
+          (λ j g _. each-map (λ z. z < x) (λ z. z ≡ j → ⊥) (λ z y e. omega arith) (k i) (each-child t0 t1 t2 t3 s (λ j. j < x) b i)) in
       once-over s (upd k q w)
-      (upd-below (λ i u. EachSlot (λ j. j ≡ s → ⊥) u) k q w (renews (λ j. j ≡ s → ⊥) (once-out s t0 t1 t2 t3 h q) (λ j g e. omega (arith, b .0))) (λ i l ne. once-out s t0 t1 t2 t3 h i))
+      (upd-below (λ i u. EachSlot (λ j. j ≡ s → ⊥) u) k q w (renews (λ j. j ≡ s → ⊥) (once-out s t0 t1 t2 t3 h q) (λ j g _ e. omega (arith, b .0))) (λ i l ne. once-out s t0 t1 t2 t3 h i))
       (pair-upd Apart k q w (once-apart s t0 t1 t2 t3 h) apart (λ i l ne. apart-sym w (k i) (apart i l ne)))
-      (upd-below (λ i u. Once u) k q w (plug-once x n (quarter q c) (k q) d u v r f o (each-child t0 t1 t2 t3 s (λ j. j < x) b q) (once-child s t0 t1 t2 t3 h q)) (λ i l ne. once-child s t0 t1 t2 t3 h i))
+      (upd-below (λ i u. Once u) k q w (plug-once x y n (quarter q c) (k q) d u v r f o (each-child t0 t1 t2 t3 s (λ j. j < x) b q) (once-child s t0 t1 t2 t3 h q)) (λ i l ne. once-child s t0 t1 t2 t3 h i))
 
   -- ---- the slots hold it
 
@@ -179,7 +179,7 @@ module _ (at : List Float) (p : ℕ) where
   -- ---- the tree of the cell rule
 
   -- one child of a node: changed, if p lies there
-  into-upd : (c : Extent) (k : ℕ) (h : ℕ → Tree ℕ) (w : Tree ℕ) → inCells (quarter (side at p c) c) w ≡ insertT at p (quarter (side at p c) c) k (inCells (quarter (side at p c) c) (h (side at p c)))
+  pub into-upd : (c : Extent) (k : ℕ) (h : ℕ → Tree ℕ) (w : Tree ℕ) → inCells (quarter (side at p c) c) w ≡ insertT at p (quarter (side at p c) c) k (inCells (quarter (side at p c) c) (h (side at p c)))
       → (i : ℕ) → inCells (quarter i c) (upd h (side at p c) w i) ≡ into at p c k i (inCells (quarter i c) (h i))
   unfolding inQuarter
   into-upd c k h w e i = go (eqb i (side at p c)) refl

@@ -4,3 +4,4 @@ pub mod SlotsTree
 pub mod AddWay
 pub mod AddSplit
 pub mod AddChain
+pub mod AddHold
