@@ -5,3 +5,6 @@ pub mod AddWay
 pub mod AddSplit
 pub mod AddChain
 pub mod AddHold
+pub mod CoverEnds
+pub mod CoverDoublings
+pub mod CoverLaws

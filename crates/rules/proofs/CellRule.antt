@@ -22,6 +22,8 @@ use Rattle.rules.proofs.CellCount as Count
 use Rattle.rules.proofs.CellCount.{leaves, Fruitful, times, distinct, in-times, times-in, length-total, length-upTo, times-upTo, upTo-snoc}
 use Rattle.rules.proofs.CellInsert as Insert
 use Rattle.rules.proofs.CellInsert.{insertT, into, ends, below}
+use Rattle.rules.proofs.CellSize as Size
+use Rattle.rules.proofs.CellSize.{childAt, gap}
 use Rattle.rules.proofs.CellWrap as Wrap
 use Rattle.rules.proofs.CellWrap.{wrapT}
 use Rattle.rules.proofs.CellMore.{NoLarger, no-larger}
@@ -31,7 +33,7 @@ use Rattle.rules.proofs.CellChain.{EachLeaf, Points, Chain}
 
 -- ==== theorems
 
--- A tree of at most k + 1 levels in which every internal node has a leaf below it has at most 1 + k nodes a leaf.
+-- A tree of at most k + 1 levels in which every internal node has a leaf below it has at most one node, and k more for each leaf.
 pub nodes-leaves : {A : Type 0} (k : ℕ) (t : Tree A) → Fruitful t → depth t ≤ suc k → nodes t ≤ 1 + k * leaves t
 nodes-leaves k t h l = Count.nodes-root k t h l
 
@@ -151,7 +153,7 @@ module _ (at : List Float) where
   pub nodes-points : (t : Tree Extent) (c : Extent) (is : List ℕ) → Is at c t is → depth t ≤ 65 → nodes t ≤ 1 + 64 * length is
   nodes-points t c is h l = omega (arith, nodes-distinct t c is h l, Count.distinct-le at is)
 
-  -- So of an accepted tree of n particles.
+  -- So has an accepted tree of n particles.
   pub tree-nodes : (n : ℕ) → depth (treeOf at n) ≤ 65 → (nodes (treeOf at n) ≤ 1 + 64 * distinct at (upTo n)) × (nodes (treeOf at n) ≤ 1 + 64 * n)
   unfolding treeOf
   tree-nodes n l =
@@ -169,7 +171,7 @@ module _ (at : List Float) where
   pub more : (k : ℕ) (c : Extent) (js rest : List ℕ) → NoLarger (grow at k c js) (grow at k c (js ++ rest))
   more k c js rest = no-larger at k c js (js ++ rest) (prefix-sublist js rest)
 
-  -- So of the rule's tree.
+  -- So it is with the rule's tree.
   pub tree-more : (c : Extent) (js rest : List ℕ) → NoLarger (treeIn at c js) (treeIn at c (js ++ rest))
   unfolding treeIn
   tree-more c js rest = more 66 c js rest
@@ -199,6 +201,25 @@ module _ (at : List Float) where
     pub insert-node : (c d : Extent) (k : ℕ) (t0 t1 t2 t3 : Tree Extent)
         → insertT at p c (suc k) (node d t0 t1 t2 t3) ≡ node c (into at p c k 0 t0) (into at p c k 1 t1) (into at p c k 2 t2) (into at p c k 3 t3)
     insert-node c d k t0 t1 t2 t3 = Insert.insert-node at p c d k t0 t1 t2 t3
+
+    -- Where a leaf that differs shares a quarter with p for some more levels, the split has two levels more than those, unless it passes the k.
+    pub split-depth : (k : ℕ) (c d : Extent) (i : ℕ) (js : List ℕ) → same at i p ≡ false → depth (insertT at p c k (leaf d (i ∷ js))) ≡ min (gap at c k i p + 2) (k + 1)
+    split-depth k c d i js e = Size.split-depth at p k c d i js e
+
+    -- And it has an internal node for each of those levels, one more, and two leaves.
+    pub split-nodes : (k : ℕ) (c d : Extent) (i : ℕ) (js : List ℕ) → same at i p ≡ false → gap at c k i p < k → nodes (insertT at p c k (leaf d (i ∷ js))) ≡ gap at c k i p + 3
+    split-nodes k c d i js e l = Size.split-nodes at p k c d i js e l
+
+    -- An internal node gains the nodes that the child of p's quarter gains.
+    pub node-nodes : (c d : Extent) (k : ℕ) (t0 t1 t2 t3 : Tree Extent)
+        → nodes (insertT at p c (suc k) (node d t0 t1 t2 t3)) + nodes (childAt (quarterOf at c p) (node d t0 t1 t2 t3))
+        ≡ nodes (node d t0 t1 t2 t3) + nodes (insertT at p (quarter (quarterOf at c p) c) k (childAt (quarterOf at c p) (node d t0 t1 t2 t3)))
+    node-nodes c d k t0 t1 t2 t3 = Size.node-nodes at p c d k t0 t1 t2 t3
+
+    -- And it passes its levels exactly where that child does.
+    pub node-depth : (c d : Extent) (k : ℕ) (t0 t1 t2 t3 : Tree Extent) → depth (node d t0 t1 t2 t3) ≤ suc k
+        → (depth (insertT at p c (suc k) (node d t0 t1 t2 t3)) ≤ suc k) ↔ (depth (insertT at p (quarter (quarterOf at c p) c) k (childAt (quarterOf at c p) (node d t0 t1 t2 t3))) ≤ k)
+    node-depth c d k t0 t1 t2 t3 l = Size.node-depth at p c d k t0 t1 t2 t3 l
 
     -- The result is the tree of the points and p, if it has no more than k levels.
     pub inserted : (t : Tree Extent) (k : ℕ) (c : Extent) (is : List ℕ) → Is at c t is → depth (insertT at p c k t) ≤ k → Is at c (insertT at p c k t) (is ++ (p ∷ []))

@@ -1,19 +1,18 @@
 -- A larger root cell, of which the old one is a quarter: the old tree becomes that quarter's, and a leaf is not wrapped.
-use mathlib.Core.Path.{_≡_, refl, sym, ap, _∙_, subst}
+use mathlib.Core.Path.{_≡_, refl, sym, _∙_, subst}
 use mathlib.Core.Logic.{inl, inr}
 use mathlib.Core.Bool.{Bool, true, false, not}
 use mathlib.Core.List.{List, [], _∷_}
-use Prim.Native.Nat.{ℕ, zero, suc, _+_, _<_, max}
-use native.Mathlib.Omega.{arith}
+use Prim.Native.Nat.{ℕ, _<_}
 use lib.Dec.{eqb}
 use lib.Ieee.{Float}
-use borrow.Author.Tests.{eqb-true, eqb-false, ne-eqb}
+use borrow.Author.Tests.{eqb-true, eqb-false}
 use Rattle.rules.specs.declared.Extent.{Extent}
 use Rattle.rules.specs.Plain.{branch, all}
 use Rattle.rules.specs.Cell.{quarter}
-use Rattle.rules.specs.Tree.{Tree, none, leaf, node, depth, nodes, inQuarter, pointsIn}
+use Rattle.rules.specs.Tree.{Tree, none, leaf, node, inQuarter, pointsIn}
 use Rattle.rules.proofs.CellList.{In, both, all-map, keep-all, keep-none}
-use Rattle.rules.proofs.CellDeep.{quarterOf, inQuarter-is}
+use Rattle.rules.proofs.CellDeep.{inQuarter-is}
 use Rattle.rules.proofs.CellIs.{Is}
 use Rattle.rules.proofs.CellInside.{Inside, inside-quarter}
 

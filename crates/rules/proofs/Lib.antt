@@ -16,9 +16,10 @@ pub mod CellPoints
 pub mod CellIs
 pub mod CellDeep
 pub mod CellCount
-pub mod CellInsert
-pub mod CellMore
 pub mod CellChain
-pub mod CellRule
 pub mod CellInside
+pub mod CellInsert
+pub mod CellSize
 pub mod CellWrap
+pub mod CellMore
+pub mod CellRule
