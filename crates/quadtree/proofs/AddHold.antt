@@ -23,11 +23,11 @@ use Rattle.rules.proofs.CellInsert.{insertT, into}
 use Rattle.rules.proofs.CellRule.{tree-whole, chains, nodes-points, insert-tree, insert-refused, insert-none, insert-same, insert-node}
 use Rattle.quadtree.specs.declared.Quadtree.{Quadtree}
 use Rattle.quadtree.specs.Slots.{word, kids, first, putInternal, putLeaf, EachSlot, Apart, Once, inCells}
-use Rattle.quadtree.specs.Add.{lead, Lies, Holds, pick, side, Reaches, gap, hung, splitted}
+use Rattle.quadtree.specs.Add.{lead, Stored, Holds, pick, side, Reaches, gap, hung, splitted}
 use Rattle.quadtree.proofs.Slots.{Same, same-trans as slot-trans, internal-length, internal-same, internal-tag, internal-kids, leaf-length, leaf-same, leaf-tag}
-use Rattle.quadtree.proofs.SlotsTree.{each-map, each-both, lead-le, over, upd, leads, upd-all, upd-below, each-child, each-over, lies-over, lies-child, leads-upd, leads-small, depth-upd, nodes-upd, once-out, once-apart, once-child, once-over, pair-upd, frame, apart-sym, nodes-pos}
-use Rattle.quadtree.proofs.AddWay.{up, up-is, side-lt, reach-all, reach-each, reach-lies, reach-once, reach-depth, plug, plug-each, plug-nodes, plug-depth, Renews, plug-renews, plug-once, plug-lies, into-upd, plug-cells, plug-deep}
-use Rattle.quadtree.proofs.AddSplit.{splitT, split-lead, split-each, split-once, split-depth, split-nodes, split-length, split-same, split-lies, split-cells, split-deep, gap-le}
+use Rattle.quadtree.proofs.SlotsTree.{each-map, each-both, lead-le, over, upd, leads, upd-all, upd-below, each-child, each-over, stored-over, stored-child, leads-upd, leads-small, depth-upd, nodes-upd, once-out, once-apart, once-child, once-over, pair-upd, frame, apart-sym, nodes-pos}
+use Rattle.quadtree.proofs.AddWay.{up, up-is, side-lt, reach-all, reach-each, reach-stored, reach-once, reach-depth, plug, plug-each, plug-nodes, plug-depth, Renews, plug-renews, plug-once, plug-stored, into-upd, plug-cells, plug-deep}
+use Rattle.quadtree.proofs.AddSplit.{splitT, split-lead, split-each, split-once, split-depth, split-nodes, split-length, split-same, split-stored, split-cells, split-deep, gap-le}
 
 -- ---- levels, nodes and leaves with cells for slots
 
@@ -177,14 +177,14 @@ module _ (at : List Float) where
           subst (λ (t : Tree Extent). length m < nodes t * 8) after-cells (subst (λ (k : ℕ). length m < k * 8) (sym (cells-nodes (q .extent) after ∙ after-nodes)) lt))
 
       -- once v is written, the slots hold it
-      pub next-holds : (b : List ℕ) (r' : Quadtree) → Lies b v → ((j : ℕ) → j < q .nodes → (lead u ≡ j + 1 → ⊥) → Same m b j) → y * 8 ≤ length b
+      pub next-holds : (b : List ℕ) (r' : Quadtree) → Stored b v → ((j : ℕ) → j < q .nodes → (lead u ≡ j + 1 → ⊥) → Same m b j) → y * 8 ≤ length b
           → r' .extent ≡ q .extent → r' .root ≡ q .root → r' .nodes ≡ y → r' .deepest ≡ max (q .deepest) (l + e - 1) → Holds at (upTo (p + 1)) b r'
-      next-holds b r' lies keeps room ex ro nn de =
-          let o = plug-lies at p m b (q .nodes) l (q .extent) (h .tree) d u v r (w .top) lies keeps (h .below) (h .once) (h .lies) in
+      next-holds b r' stored keeps room ex ro nn de =
+          let o = plug-stored at p m b (q .nodes) l (q .extent) (h .tree) d u v r (w .top) stored keeps (h .below) (h .once) (h .stored) in
           record {
             tree = after;
             root = ro ∙ h .root ∙ sym (o .1);
-            lies = o .0;
+            stored = o .0;
             cells = subst (λ (c : Extent). inCells c after ≡ treeIn at c (upTo (p + 1))) (sym ex) after-cells;
             most = after-most;
             deepest = ap (λ (k : ℕ). k - 1) after-depth ∙ less (depth (h .tree)) (q .deepest) (l + e) (h .deepest) ∙ sym de;
@@ -290,8 +290,8 @@ module _ (at : List Float) where
       -- ---- and what is written
 
       -- nothing, for a chain
-      pub joined-lies : (s i : ℕ) (js : List ℕ) → Reaches at p l (q .extent) (h .tree) d (leaf s (i ∷ js)) → Lies m (leaf s (i ∷ js ++ (p ∷ [])))
-      joined-lies s i js r = reach-lies at p l (q .extent) (h .tree) d (leaf s (i ∷ js)) r m (h .lies)
+      pub joined-stored : (s i : ℕ) (js : List ℕ) → Reaches at p l (q .extent) (h .tree) d (leaf s (i ∷ js)) → Stored m (leaf s (i ∷ js ++ (p ∷ [])))
+      joined-stored s i js r = reach-stored at p l (q .extent) (h .tree) d (leaf s (i ∷ js)) r m (h .stored)
 
       module _ (s : ℕ) (u0 u1 u2 u3 : Tree ℕ) (r : Reaches at p l (q .extent) (h .tree) d (node s u0 u1 u2 u3)) (room : (q .nodes + 1) * 8 ≤ length m) (small : q .nodes + 1 < 2 ^ 32) where
         abbrev hangs-in : ℕ → List ℕ
@@ -305,15 +305,15 @@ module _ (at : List Float) where
         unfolding hung
         hung-same k j lt n = slot-trans m _ _ j (internal-same m s _ j (λ e. n (omega arith))) (leaf-same _ (q .nodes) p j (omega arith))
 
-        pub hung-lies : Lies (hangs-in (side at p d)) (over s (upd (pick u0 u1 u2 u3) (side at p d) (leaf (q .nodes) (p ∷ []))))
+        pub hung-stored : Stored (hangs-in (side at p d)) (over s (upd (pick u0 u1 u2 u3) (side at p d) (leaf (q .nodes) (p ∷ []))))
         unfolding hung
-        hung-lies =
+        hung-stored =
             let u : Tree ℕ = node s u0 u1 u2 u3 in
             let x : ℕ = q .nodes in
             let i : ℕ = side at p d in
             let k : ℕ → Tree ℕ = pick u0 u1 u2 u3 in
             let t : Tree ℕ = leaf x (p ∷ []) in
-            let g : Lies m u = reach-lies at p l (q .extent) (h .tree) d u r m (h .lies) in
+            let g : Stored m u = reach-stored at p l (q .extent) (h .tree) d u r m (h .stored) in
             let b : EachSlot (λ j. j < x) u = reach-each at p l (q .extent) (h .tree) d u r (λ j. j < x) (h .below) in
             let o : Once u = reach-once at p l (q .extent) (h .tree) d u r (h .once) in
             let ks : List ℕ = set (kids m s) i (x + 1) in
@@ -321,10 +321,10 @@ module _ (at : List Float) where
             let m1 : List ℕ = putInternal m s ks in
             let w : List ℕ = putLeaf m1 x p in
             let own : Same m1 w s = leaf-same m1 x p s (omega (arith, b .0)) in
-            lies-over w s (upd k i t) (own .0 ∙ internal-tag m s ks (omega (arith, b .0)))
+            stored-over w s (upd k i t) (own .0 ∙ internal-tag m s ks (omega (arith, b .0)))
             (own .1 ∙ ap (λ (y : List ℕ). kids (putInternal m s y) s) numbers
             ∙ internal-kids m s (leads (upd k i t)) (omega (arith, b .0))
             (leads-small (x + 1) (upd k i t) small (upd-below (λ r u. lead u ≤ x + 1) k i t (omega arith) (λ r l n. omega (arith, lead-le x (k r) (each-child u0 u1 u2 u3 s (λ j. j < x) b r))))))
-            (upd-below (λ r u. Lies w u) k i t (leaf-tag m1 x p (simp internal-length (omega arith)))
+            (upd-below (λ r u. Stored w u) k i t (leaf-tag m1 x p (simp internal-length (omega arith)))
             (λ y z n. frame m w (λ j. (j < x) × (j ≡ s → ⊥)) (λ j e. slot-trans m m1 w j (internal-same m s ks j (e .1)) (leaf-same m1 x p j (omega (arith, e .0)))) (k y)
-            (each-both (λ j. j < x) (λ j. j ≡ s → ⊥) (k y) (each-child u0 u1 u2 u3 s (λ j. j < x) b y) (once-out s u0 u1 u2 u3 o y)) (lies-child u0 u1 u2 u3 s m g y)))
+            (each-both (λ j. j < x) (λ j. j ≡ s → ⊥) (k y) (each-child u0 u1 u2 u3 s (λ j. j < x) b y) (once-out s u0 u1 u2 u3 o y)) (stored-child u0 u1 u2 u3 s m g y)))

@@ -16,9 +16,9 @@ use Rattle.rules.specs.Tree.{Tree, none, leaf, node, depth, nodes, same, inQuar
 use Rattle.rules.proofs.CellInsert.{insertT, into, moved, ends, below, insert-apart, insert-together, insert-other, insert-node}
 use Rattle.rules.proofs.CellDeep.{quarterOf, inQuarter-is, inQuarter-own}
 use Rattle.quadtree.specs.Slots.{word, kids, first, putInternal, putLeaf, EachSlot, Apart, Once, inCells}
-use Rattle.quadtree.specs.Add.{lead, Lies, pick, side, Reaches, childless, gap, hung, splitted}
+use Rattle.quadtree.specs.Add.{lead, Stored, pick, side, Reaches, childless, gap, hung, splitted}
 use Rattle.quadtree.proofs.Slots.{Same, Small, same-trans, internal-length, internal-same, internal-tag, internal-kids, leaf-length, leaf-same, leaf-tag}
-use Rattle.quadtree.proofs.SlotsTree.{each-map, each-both, each-true, apart-sym, lead-each, lead-le, over, upd, bare, leads, upd-all, upd-below, each-over, lies-over, leads-upd, leads-small, depth-upd, nodes-upd, depth-child, once-over, pair-upd, frame}
+use Rattle.quadtree.proofs.SlotsTree.{each-map, each-both, each-true, apart-sym, lead-each, lead-le, over, upd, bare, leads, upd-all, upd-below, each-over, stored-over, leads-upd, leads-small, depth-upd, nodes-upd, depth-child, once-over, pair-upd, frame}
 use Rattle.quadtree.proofs.AddWay.{quadrant-lt, pick-ap, side-lt}
 
 module _ (at : List Float) (p : ℕ) where
@@ -135,8 +135,8 @@ module _ (at : List Float) (p : ℕ) where
       same-trans m _ _ j (same-trans m _ _ j (internal-same m s _ j n) (leaf-same _ x f j (omega arith))) (leaf-same _ (x + 1) p j (omega arith))
   split-same f (suc g) c s x m j n l = same-trans m _ _ j (internal-same m s _ j n) (split-same f g (quarter (side at p c) c) x (x + 1) _ j (omega arith) (omega arith))
 
-  pub split-lies : (is : List ℕ) (f g : ℕ) (c : Extent) (s x : ℕ) (m : List ℕ) → f ≡ first is → s < x → (x + g + 2) * 8 ≤ length m → x + g + 2 < 2 ^ 32 → Lies (splitted at p f g c s x m) (splitT is g c s x)
-  split-lies is f zero c s x m e lt room small =
+  pub split-stored : (is : List ℕ) (f g : ℕ) (c : Extent) (s x : ℕ) (m : List ℕ) → f ≡ first is → s < x → (x + g + 2) * 8 ≤ length m → x + g + 2 < 2 ^ 32 → Stored (splitted at p f g c s x m) (splitT is g c s x)
+  split-stored is f zero c s x m e lt room small =
       let q : ℕ = quadrant c (xAt at f) (yAt at f) in
       let k0 : ℕ → Tree ℕ = upd bare q (leaf x is) in
       let k : ℕ → Tree ℕ = upd k0 (side at p c) (leaf (x + 1) (p ∷ [])) in
@@ -149,13 +149,13 @@ module _ (at : List Float) (p : ℕ) where
       let own : Same m1 w s = same-trans m1 m2 w s (leaf-same m1 x f s (omega arith)) (leaf-same m2 (x + 1) p s (omega arith)) in
       let fits : Small (leads k) = leads-small (x + 2) k (omega arith)
           (upd-below (λ r u. lead u ≤ x + 2) k0 (side at p c) (leaf (x + 1) (p ∷ [])) (omega arith) (λ r l n. upd-all (λ r u. lead u ≤ x + 2) bare q (leaf x is) (omega arith) (λ r n. omega arith) r)) in
-      let old : Lies w (leaf x is) = leaf-same m2 (x + 1) p x (omega arith) .0 ∙ leaf-tag m1 x f (simp internal-length (omega arith)) ∙ ap (λ (i : ℕ). i + 1) e in
-      let new : Lies w (leaf (x + 1) (p ∷ [])) = leaf-tag m2 (x + 1) p (simp (leaf-length, internal-length) (omega arith)) in
-      subst (λ (i : ℕ). Lies w (over s (upd (upd bare (quadrant c (xAt at i) (yAt at i)) (leaf x is)) (side at p c) (leaf (x + 1) (p ∷ []))))) e
-      (lies-over w s k (own .0 ∙ internal-tag m s ks (omega arith))
+      let old : Stored w (leaf x is) = leaf-same m2 (x + 1) p x (omega arith) .0 ∙ leaf-tag m1 x f (simp internal-length (omega arith)) ∙ ap (λ (i : ℕ). i + 1) e in
+      let new : Stored w (leaf (x + 1) (p ∷ [])) = leaf-tag m2 (x + 1) p (simp (leaf-length, internal-length) (omega arith)) in
+      subst (λ (i : ℕ). Stored w (over s (upd (upd bare (quadrant c (xAt at i) (yAt at i)) (leaf x is)) (side at p c) (leaf (x + 1) (p ∷ []))))) e
+      (stored-over w s k (own .0 ∙ internal-tag m s ks (omega arith))
       (own .1 ∙ ap (λ (l : List ℕ). kids (putInternal m s l) s) numbers ∙ internal-kids m s (leads k) (omega arith) fits)
-      (upd-below (λ r u. Lies w u) k0 (side at p c) (leaf (x + 1) (p ∷ [])) new (λ r l n. upd-all (λ r u. Lies w u) bare q (leaf x is) old (λ r n. tt) r)))
-  split-lies is f (suc g) c s x m e lt room small =
+      (upd-below (λ r u. Stored w u) k0 (side at p c) (leaf (x + 1) (p ∷ [])) new (λ r l n. upd-all (λ r u. Stored w u) bare q (leaf x is) old (λ r n. tt) r)))
+  split-stored is f (suc g) c s x m e lt room small =
       let t : Tree ℕ = splitT is g (quarter (side at p c) c) x (x + 1) in
       let k : ℕ → Tree ℕ = upd bare (side at p c) t in
       let ks : List ℕ = set childless (side at p c) (x + 1) in
@@ -165,9 +165,9 @@ module _ (at : List Float) (p : ℕ) where
       let own : Same m1 w s = split-same f g (quarter (side at p c) c) x (x + 1) m1 s (omega arith) (omega arith) in
       let fits : Small (leads k) = leads-small (x + 1) k (omega arith)
           (upd-below (λ r u. lead u ≤ x + 1) bare (side at p c) t (omega (arith, split-lead is g (quarter (side at p c) c) x (x + 1))) (λ r l n. omega arith)) in
-      lies-over w s k (own .0 ∙ internal-tag m s ks (omega arith))
+      stored-over w s k (own .0 ∙ internal-tag m s ks (omega arith))
       (own .1 ∙ ap (λ (l : List ℕ). kids (putInternal m s l) s) numbers ∙ internal-kids m s (leads k) (omega arith) fits)
-      (upd-below (λ r u. Lies w u) bare (side at p c) t (split-lies is f g (quarter (side at p c) c) x (x + 1) m1 e (omega arith) (simp internal-length (omega arith)) (omega arith)) (λ r l n. tt))
+      (upd-below (λ r u. Stored w u) bare (side at p c) t (split-stored is f g (quarter (side at p c) c) x (x + 1) m1 e (omega arith) (simp internal-length (omega arith)) (omega arith)) (λ r l n. tt))
 
   -- ---- the tree of the cell rule
 

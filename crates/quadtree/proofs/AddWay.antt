@@ -15,9 +15,9 @@ use Rattle.rules.specs.Tree.{Tree, none, leaf, node, depth, nodes, inQuarter}
 use Rattle.rules.proofs.CellInsert.{insertT, into, insert-node}
 use Rattle.rules.proofs.CellDeep.{inQuarter-own}
 use Rattle.quadtree.specs.Slots.{word, kids, EachSlot, Apart, Once, inCells}
-use Rattle.quadtree.specs.Add.{lead, Lies, pick, side, Reaches}
+use Rattle.quadtree.specs.Add.{lead, Stored, pick, side, Reaches}
 use Rattle.quadtree.proofs.Slots.{Same}
-use Rattle.quadtree.proofs.SlotsTree.{each-map, each-both, apart-sym, lead-each, over, upd, leads, each-child, lies-child, upd-all, upd-below, each-over, lies-over, leads-keep, depth-upd, nodes-upd, depth-child, once-out, once-apart, once-child, once-over, pair-upd, frame}
+use Rattle.quadtree.proofs.SlotsTree.{each-map, each-both, apart-sym, lead-each, over, upd, leads, each-child, stored-child, upd-all, upd-below, each-over, stored-over, leads-keep, depth-upd, nodes-upd, depth-child, once-out, once-apart, once-child, once-over, pair-upd, frame}
 
 pub quadrant-lt : (c : Extent) (x y : Float) → quadrant c x y < 4
 unfolding quadrant
@@ -65,8 +65,8 @@ module _ (at : List Float) (p : ℕ) where
     pub reach-each : (P : ℕ → Type 0) → EachSlot P t → EachSlot P u
     reach-each P h = reach-all (EachSlot P) (λ s t0 t1 t2 t3 h. each-child t0 t1 t2 t3 s P h) n c t d u r h
 
-    pub reach-lies : (m : List ℕ) → Lies m t → Lies m u
-    reach-lies m h = reach-all (Lies m) (λ s t0 t1 t2 t3 h. lies-child t0 t1 t2 t3 s m h) n c t d u r h
+    pub reach-stored : (m : List ℕ) → Stored m t → Stored m u
+    reach-stored m h = reach-all (Stored m) (λ s t0 t1 t2 t3 h. stored-child t0 t1 t2 t3 s m h) n c t d u r h
 
     pub reach-once : Once t → Once u
     reach-once h = reach-all Once (λ s t0 t1 t2 t3 h. once-child s t0 t1 t2 t3 h) n c t d u r h
@@ -156,29 +156,29 @@ module _ (at : List Float) (p : ℕ) where
 
   -- ---- the slots hold it
 
-  pub plug-lies : (m w : List ℕ) (x n : ℕ) (c : Extent) (t : Tree ℕ) (d : Extent) (u v : Tree ℕ) → Reaches at p n c t d u → lead v ≡ lead u → Lies w v
-      → ((j : ℕ) → j < x → (lead u ≡ j + 1 → ⊥) → Same m w j) → EachSlot (λ j. j < x) t → Once t → Lies m t → Lies w (plug n c t v) × (lead (plug n c t v) ≡ lead t)
-  plug-lies m w x zero c t d u v r e o f b h g = (o, e ∙ ap lead (sym (r .1)))
-  plug-lies m w x (suc n) c none d u v r e o f b h g = absurd r
-  plug-lies m w x (suc n) c (leaf s is) d u v r e o f b h g = absurd r
-  plug-lies m w x (suc n) c (node s t0 t1 t2 t3) d u v r e o f b h g =
+  pub plug-stored : (m w : List ℕ) (x n : ℕ) (c : Extent) (t : Tree ℕ) (d : Extent) (u v : Tree ℕ) → Reaches at p n c t d u → lead v ≡ lead u → Stored w v
+      → ((j : ℕ) → j < x → (lead u ≡ j + 1 → ⊥) → Same m w j) → EachSlot (λ j. j < x) t → Once t → Stored m t → Stored w (plug n c t v) × (lead (plug n c t v) ≡ lead t)
+  plug-stored m w x zero c t d u v r e o f b h g = (o, e ∙ ap lead (sym (r .1)))
+  plug-stored m w x (suc n) c none d u v r e o f b h g = absurd r
+  plug-stored m w x (suc n) c (leaf s is) d u v r e o f b h g = absurd r
+  plug-stored m w x (suc n) c (node s t0 t1 t2 t3) d u v r e o f b h g =
       let q : ℕ = side at p c in
       let k : ℕ → Tree ℕ = pick t0 t1 t2 t3 in
       let z : Tree ℕ = plug n (quarter q c) (k q) v in
-      let rest = plug-lies m w x n (quarter q c) (k q) d u v r e o f (each-child t0 t1 t2 t3 s (λ j. j < x) b q) (once-child s t0 t1 t2 t3 h q) (lies-child t0 t1 t2 t3 s m g q) in
+      let rest = plug-stored m w x n (quarter q c) (k q) d u v r e o f (each-child t0 t1 t2 t3 s (λ j. j < x) b q) (once-child s t0 t1 t2 t3 h q) (stored-child t0 t1 t2 t3 s m g q) in
       let own : Same m w s = f s (b .0) (λ y. lead-each (λ j. j ≡ s → ⊥) u s y (reach-each n (quarter q c) (k q) d u r (λ j. j ≡ s → ⊥) (once-out s t0 t1 t2 t3 h q)) refl) in
-      (lies-over w s (upd k q z) (own .0 ∙ g .0) (own .1 ∙ g .1 ∙ sym (leads-keep k q z (rest .1)))
-      (upd-below (λ i u. Lies w u) k q z (rest .0)
+      (stored-over w s (upd k q z) (own .0 ∙ g .0) (own .1 ∙ g .1 ∙ sym (leads-keep k q z (rest .1)))
+      (upd-below (λ i u. Stored w u) k q z (rest .0)
       (λ i l ne. frame m w (λ j. (j < x) × (lead u ≡ j + 1 → ⊥)) (λ j y. f j (y .0) (y .1)) (k i)
       (each-both (λ j. j < x) (λ j. lead u ≡ j + 1 → ⊥) (k i) (each-child t0 t1 t2 t3 s (λ j. j < x) b i)
       (each-map (λ j. EachSlot (λ y. y ≡ j → ⊥) (k q)) (λ j. lead u ≡ j + 1 → ⊥)
       (λ j y a. lead-each (λ y. y ≡ j → ⊥) u j a (reach-each n (quarter q c) (k q) d u r (λ y. y ≡ j → ⊥) y) refl) (k i) (once-apart s t0 t1 t2 t3 h i q l (side-lt c) ne)))
-      (lies-child t0 t1 t2 t3 s m g i))),
+      (stored-child t0 t1 t2 t3 s m g i))),
       refl)
 
   -- ---- the tree of the cell rule
 
-  -- one child of a node: changed, if p lies there
+  -- one child of a node: changed, if p stored there
   pub into-upd : (c : Extent) (k : ℕ) (h : ℕ → Tree ℕ) (w : Tree ℕ) → inCells (quarter (side at p c) c) w ≡ insertT at p (quarter (side at p c) c) k (inCells (quarter (side at p c) c) (h (side at p c)))
       → (i : ℕ) → inCells (quarter i c) (upd h (side at p c) w i) ≡ into at p c k i (inCells (quarter i c) (h i))
   unfolding inQuarter

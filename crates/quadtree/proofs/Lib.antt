@@ -8,3 +8,4 @@ pub mod AddHold
 pub mod CoverEnds
 pub mod CoverDoublings
 pub mod CoverLaws
+pub mod AddWrap

@@ -7,7 +7,7 @@ use lib.ListN.{length, getD, set, length-set}
 use lib.Seq.{getD-set-same, getD-set-other}
 use Rattle.rules.specs.Tree.{Tree, none, leaf, node}
 use Rattle.quadtree.specs.Slots.{word, put, kid, kids, first, putInternal, putLeaf, Follows, Leads, EachSlot, Apart, Once}
-use Rattle.quadtree.specs.Add.{lead, Lies}
+use Rattle.quadtree.specs.Add.{lead, Stored}
 
 -- ---- words
 

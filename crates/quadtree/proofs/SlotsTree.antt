@@ -11,7 +11,7 @@ use Rattle.rules.specs.Plain.{branch}
 use Rattle.rules.specs.Tree.{Tree, none, leaf, node, depth, nodes}
 use Rattle.rules.proofs.CellChain.{EachLeaf}
 use Rattle.quadtree.specs.Slots.{word, kids, first, Follows, Leads, EachSlot, Apart, Once}
-use Rattle.quadtree.specs.Add.{lead, Lies, pick}
+use Rattle.quadtree.specs.Add.{lead, Stored, pick}
 use Rattle.quadtree.proofs.Slots.{Same, Small}
 
 -- ---- each slot
@@ -84,8 +84,8 @@ module _ (t0 t1 t2 t3 : Tree ℕ) where
   pub each-child : (s : ℕ) (P : ℕ → Type 0) → EachSlot P (node s t0 t1 t2 t3) → (r : ℕ) → EachSlot P (pick t0 t1 t2 t3 r)
   each-child s P h = pick-all (EachSlot P) (h .1) (h .2) (h .3) (h .4)
 
-  pub lies-child : (s : ℕ) (m : List ℕ) → Lies m (node s t0 t1 t2 t3) → (r : ℕ) → Lies m (pick t0 t1 t2 t3 r)
-  lies-child s m h = pick-all (Lies m) (h .2) (h .3) (h .4) (h .5)
+  pub stored-child : (s : ℕ) (m : List ℕ) → Stored m (node s t0 t1 t2 t3) → (r : ℕ) → Stored m (pick t0 t1 t2 t3 r)
+  stored-child s m h = pick-all (Stored m) (h .2) (h .3) (h .4) (h .5)
 
 -- what holds of a new child and of each other old one holds of each
 pub upd-all : (P : ℕ → Tree ℕ → Type 0) (k : ℕ → Tree ℕ) (q : ℕ) (t : Tree ℕ) → P q t → ((r : ℕ) → (r ≡ q → ⊥) → P r (k r)) → (r : ℕ) → P r (upd k q t r)
@@ -102,8 +102,8 @@ upd-below P k q t a b r = upd-all (λ r u. r < 4 → P r u) k q t (λ l. a) (λ 
 pub each-over : (P : ℕ → Type 0) (s : ℕ) (k : ℕ → Tree ℕ) → P s → ((r : ℕ) → r < 4 → EachSlot P (k r)) → EachSlot P (over s k)
 each-over P s k h f = (h, f 0 (omega arith), f 1 (omega arith), f 2 (omega arith), f 3 (omega arith))
 
-pub lies-over : (m : List ℕ) (s : ℕ) (k : ℕ → Tree ℕ) → word m s 0 ≡ 0 → kids m s ≡ leads k → ((r : ℕ) → r < 4 → Lies m (k r)) → Lies m (over s k)
-lies-over m s k e f h = (e, f, h 0 (omega arith), h 1 (omega arith), h 2 (omega arith), h 3 (omega arith))
+pub stored-over : (m : List ℕ) (s : ℕ) (k : ℕ → Tree ℕ) → word m s 0 ≡ 0 → kids m s ≡ leads k → ((r : ℕ) → r < 4 → Stored m (k r)) → Stored m (over s k)
+stored-over m s k e f h = (e, f, h 0 (omega arith), h 1 (omega arith), h 2 (omega arith), h 3 (omega arith))
 
 -- one number replaced
 pub leads-upd : (k : ℕ → Tree ℕ) (q v : ℕ) (t : Tree ℕ) → q < 4 → v ≡ lead t → set (leads k) q v ≡ leads (upd k q t)
@@ -214,7 +214,7 @@ pair-upd R k q t h a b i j =
 
 -- ---- a tree lives on where its slots keep their words
 
-pub frame : (m w : List ℕ) (P : ℕ → Type 0) → ((j : ℕ) → P j → Same m w j) → (t : Tree ℕ) → EachSlot P t → Lies m t → Lies w t
+pub frame : (m w : List ℕ) (P : ℕ → Type 0) → ((j : ℕ) → P j → Same m w j) → (t : Tree ℕ) → EachSlot P t → Stored m t → Stored w t
 frame m w P f none a h = tt
 frame m w P f (leaf s is) a h = f s a .0 ∙ h
 frame m w P f (node s t0 t1 t2 t3) a h =
@@ -223,18 +223,18 @@ frame m w P f (node s t0 t1 t2 t3) a h =
 
 -- ---- with and without the chains
 
-pub leads-lies : (m next : List ℕ) (p : ℕ) (t : Tree ℕ) → Leads m next p t → (p ≡ lead t) × Lies m t
-leads-lies m next p none h = (h, tt)
-leads-lies m next p (leaf s is) h = (h .0, h .1)
-leads-lies m next p (node s t0 t1 t2 t3) h =
-    let a = leads-lies m next _ t0 (h .2) in
-    let b = leads-lies m next _ t1 (h .3) in
-    let c = leads-lies m next _ t2 (h .4) in
-    let d = leads-lies m next _ t3 (h .5) in
+pub leads-stored : (m next : List ℕ) (p : ℕ) (t : Tree ℕ) → Leads m next p t → (p ≡ lead t) × Stored m t
+leads-stored m next p none h = (h, tt)
+leads-stored m next p (leaf s is) h = (h .0, h .1)
+leads-stored m next p (node s t0 t1 t2 t3) h =
+    let a = leads-stored m next _ t0 (h .2) in
+    let b = leads-stored m next _ t1 (h .3) in
+    let c = leads-stored m next _ t2 (h .4) in
+    let d = leads-stored m next _ t3 (h .5) in
     (h .0, (h .1, rw (a .0, b .0, c .0, d .0), a .1, b .1, c .1, d .1))
 
-pub lies-leads : (m next : List ℕ) (p : ℕ) (t : Tree ℕ) → p ≡ lead t → Lies m t → EachLeaf (λ _. Follows next) t → Leads m next p t
-lies-leads m next p none e h f = e
-lies-leads m next p (leaf s is) e h f = (e, h, f)
-lies-leads m next p (node s t0 t1 t2 t3) e h f =
-    (e, h .0, lies-leads m next _ t0 (cc) (h .2) (f .0), lies-leads m next _ t1 (cc) (h .3) (f .1), lies-leads m next _ t2 (cc) (h .4) (f .2), lies-leads m next _ t3 (cc) (h .5) (f .3))
+pub stored-leads : (m next : List ℕ) (p : ℕ) (t : Tree ℕ) → p ≡ lead t → Stored m t → EachLeaf (λ _. Follows next) t → Leads m next p t
+stored-leads m next p none e h f = e
+stored-leads m next p (leaf s is) e h f = (e, h, f)
+stored-leads m next p (node s t0 t1 t2 t3) e h f =
+    (e, h .0, stored-leads m next _ t0 (cc) (h .2) (f .0), stored-leads m next _ t1 (cc) (h .3) (f .1), stored-leads m next _ t2 (cc) (h .4) (f .2), stored-leads m next _ t3 (cc) (h .5) (f .3))

@@ -24,17 +24,17 @@ lead (leaf s is) = s + 1
 lead (node s t0 t1 t2 t3) = s + 1
 
 -- the slots hold the tree; of a leaf's chain only the first is there
-abbrev pub Lies : List ℕ → Tree ℕ → Type 0
-Lies m none = Unit {0}
-Lies m (leaf s is) = word m s 0 ≡ first is + 1
-Lies m (node s t0 t1 t2 t3) =
-    (word m s 0 ≡ 0) × (kids m s ≡ lead t0 ∷ lead t1 ∷ lead t2 ∷ lead t3 ∷ []) × Lies m t0 × Lies m t1 × Lies m t2 × Lies m t3
+abbrev pub Stored : List ℕ → Tree ℕ → Type 0
+Stored m none = Unit {0}
+Stored m (leaf s is) = word m s 0 ≡ first is + 1
+Stored m (node s t0 t1 t2 t3) =
+    (word m s 0 ≡ 0) × (kids m s ≡ lead t0 ∷ lead t1 ∷ lead t2 ∷ lead t3 ∷ []) × Stored m t0 × Stored m t1 × Stored m t2 × Stored m t3
 
 -- the slots hold the tree of these points in the extent of q
 pub record Holds (at : List Float) (is m : List ℕ) (q : Quadtree) : Type 0 where
   pub tree : Tree ℕ
   pub root : q .root ≡ lead tree
-  pub lies : Lies m tree
+  pub stored : Stored m tree
   pub cells : inCells (q .extent) tree ≡ treeIn at (q .extent) is
   pub most : depth tree ≤ greatestLevel + 1
   pub deepest : depth tree - 1 ≡ q .deepest
