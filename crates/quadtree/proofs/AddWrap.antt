@@ -146,3 +146,140 @@ module _ (at : List Float) where
 
         positive : (t : Tree ℕ) → t ≡ node s t0 t1 t2 t3 → 0 < depth t
         positive t z = subst (λ (t : Tree ℕ). 0 < depth t) (sym z) (omega arith)
+
+  -- ---- all wraps, before anything is written
+
+  abbrev Internal : Tree Extent → Type 0
+  Internal none = ⊥
+  Internal (leaf d js) = ⊥
+  Internal (node d t0 t1 t2 t3) = Unit {0}
+
+  single-size : (e : Extent) (i : ℕ) (t : Tree Extent) → i < 4 → (depth (node e (onlyAt i t 0) (onlyAt i t 1) (onlyAt i t 2) (onlyAt i t 3)) ≡ suc (depth t)) × (nodes (node e (onlyAt i t 0) (onlyAt i t 1) (onlyAt i t 2) (onlyAt i t 3)) ≡ suc (nodes t))
+  single-size e zero t l = (omega arith, omega arith)
+  single-size e (suc zero) t l = (omega arith, omega arith)
+  single-size e (suc (suc zero)) t l = (omega arith, omega arith)
+  single-size e (suc (suc (suc zero))) t l = (omega arith, omega arith)
+  single-size e (suc (suc (suc (suc i)))) t l = absurd (omega arith)
+
+  wrap-size : (e : Extent) (i : ℕ) (t : Tree Extent) → i < 4 → Internal t → (depth (wrapT e i t) ≡ suc (depth t)) × (nodes (wrapT e i t) ≡ suc (nodes t)) × Internal (wrapT e i t)
+  wrap-size e i none l h = absurd h
+  wrap-size e i (leaf d js) l h = absurd h
+  wrap-size e i (node d t0 t1 t2 t3) l h = let z = single-size e i (node d t0 t1 t2 t3) l in (z .0, z .1, tt)
+
+  -- any quarter but the old root's is empty
+  wrap-hole : (e : Extent) (i : ℕ) (t : Tree Extent) (q : ℕ) → q < 4 → (q ≡ i → ⊥) → childAt q (wrapT e i t) ≡ none
+  wrap-hole e i none q l n = refl
+  wrap-hole e i (leaf d js) q l n = refl
+  wrap-hole e i (node d t0 t1 t2 t3) zero l n = rw (ne-eqb 0 i n)
+  wrap-hole e i (node d t0 t1 t2 t3) (suc zero) l n = rw (ne-eqb 1 i n)
+  wrap-hole e i (node d t0 t1 t2 t3) (suc (suc zero)) l n = rw (ne-eqb 2 i n)
+  wrap-hole e i (node d t0 t1 t2 t3) (suc (suc (suc zero))) l n = rw (ne-eqb 3 i n)
+  wrap-hole e i (node d t0 t1 t2 t3) (suc (suc (suc (suc q)))) l n = absurd (omega arith)
+
+  module _ (p : ℕ) (is : List ℕ) (range : (i : ℕ) → In i is → T (within (xAt at i)) × T (within (yAt at i))) where
+    abbrev x : Float
+    x = xAt at p
+
+    abbrev y : Float
+    y = yAt at p
+
+    -- The tree of the points in an extent that n wraps lead to: it has n levels and n nodes more, and p's quarter is empty.
+    record Wraps (t : Tree Extent) (n : ℕ) (to : Square) : Type 0 where
+      extent : Extent
+      tree : Tree Extent
+      square : squareOf extent ≡ to
+      reachable : Reachable extent
+      internal : Internal tree
+      rule : Is at extent tree is
+      hole : childAt (side at p extent) tree ≡ none
+      levels : depth tree ≡ depth t + n
+      count : nodes tree ≡ nodes t + n
+
+    grows-none : {n : ℕ} {s t : Square} → Grows (floor x) (floor y) n s t → n ≡ 0 → (s ≡ t) × (inside t (floor x) (floor y) ≡ true)
+    grows-none (done e) z = (refl, e)
+    grows-none (more e g) z = absurd (omega arith)
+
+    module _ (e : Extent) (near : Near e x y) (w : Within is e) (out : inside (squareOf e) (floor x) (floor y) ≡ false) where
+      abbrev answer : Doubled
+      answer = record { extent = extentOf (holds (next (squareOf e) (floor x) (floor y))); quadrant = oldQuadrant (squareOf e) (floor x) (floor y) }
+
+      doubles : DoubledTo e (floor x) (floor y) answer
+      doubles = doubled-to near out answer refl refl
+
+      pub next-near : {r : Doubled} → DoubledTo e (floor x) (floor y) r → Near (r .extent) x y
+      next-near d = record { reachable = d .reachable; across = near .across; along = near .along }
+
+      pub next-within : {r : Doubled} → DoubledTo e (floor x) (floor y) r → Within is (r .extent)
+      next-within d i m = doubled-lies near out d (record { reachable = near .reachable; across = range i m .0; along = range i m .1 }) (w i m)
+
+      pub next-less : {r : Doubled} → DoubledTo e (floor x) (floor y) r → r .quadrant < 4
+      next-less d = subst (λ (q : ℕ). q < 4) (sym (d .quadrant)) (old-quadrant-less (squareOf e) (floor x) (floor y))
+
+      next-is : (t : Tree Extent) → Is at e t is → Is at (answer .extent) (wrapT (answer .extent) (answer .quadrant) t) is
+      next-is t h =
+          wrapped at (answer .extent) (answer .quadrant) t is (next-less doubles) (λ i m. subst (λ (c : Extent). Inside at c i) (sym (doubles .old)) (within-inside is e w i m))
+          (subst (λ (c : Extent). Is at c t is) (sym (doubles .old)) h)
+
+      next-hole : (t : Tree Extent) → inside (squareOf (answer .extent)) (floor x) (floor y) ≡ true → childAt (side at p (answer .extent)) (wrapT (answer .extent) (answer .quadrant) t) ≡ none
+      next-hole t i = wrap-hole (answer .extent) (answer .quadrant) t (side at p (answer .extent)) (side-lt at p (answer .extent)) (other-quadrant near out doubles (inside-lies (next-near doubles) i))
+
+    wraps : {n : ℕ} {s t : Square} → Grows (floor x) (floor y) n s t → (e : Extent) (u : Tree Extent) → squareOf e ≡ s → Near e x y → Within is e → Internal u → Is at e u is → (n ≡ 0 → childAt (side at p e) u ≡ none) → Wraps u n t
+    wraps (done i) e u z near w h g f =
+        record { extent = e; tree = u; square = z; reachable = near .reachable; internal = h; rule = g; hole = f refl; levels = omega arith; count = omega arith }
+    wraps (more {n = n} {t = t} o go) e u z near w h g f =
+        let out : inside (squareOf e) (floor x) (floor y) ≡ false = subst (λ (s : Square). inside s (floor x) (floor y) ≡ false) (sym z) o in
+        let d = doubles e near w out in
+        let r = answer e near w out in
+        let v : Tree Extent = wrapT (r .extent) (r .quadrant) u in
+        let k = wrap-size (r .extent) (r .quadrant) u (next-less e near w out d) h in
+        let to : squareOf (r .extent) ≡ next (squareOf e) (floor x) (floor y) = doubled-square near out d in
+        let next-to = to ∙ ap (λ (s : Square). next s (floor x) (floor y)) z in
+        let rest = wraps go (r .extent) v next-to (next-near e near w out d) (next-within e near w out d) (k .2) (next-is e near w out u g)
+            (λ b. let a = grows-none go b in next-hole e near w out u (subst (λ (s : Square). inside s (floor x) (floor y) ≡ true) (sym (next-to ∙ a .0)) (a .1))) in
+        record {
+          extent = rest .extent;
+          tree = rest .tree;
+          square = rest .square;
+          reachable = rest .reachable;
+          internal = rest .internal;
+          rule = rest .rule;
+          hole = rest .hole;
+          levels = omega (arith, rest .levels, k .0);
+          count = omega (arith, rest .count, k .1);
+        }
+
+    -- one point more in an internal node whose quarter for it is empty
+    hole-more : (e : Extent) (t : Tree Extent) → Internal t → childAt (side at p e) t ≡ none → depth t ≤ 65 → (depth (insertT at p e 65 t) ≤ 65) × (nodes (insertT at p e 65 t) ≡ nodes t + 1)
+    hole-more e none h f l = absurd h
+    hole-more e (leaf d js) h f l = absurd h
+    hole-more e (node d t0 t1 t2 t3) h f l =
+        let t : Tree Extent = node d t0 t1 t2 t3 in
+        let c : Extent = quarter (side at p e) e in
+        let new : insertT at p c 64 (childAt (side at p e) t) ≡ leaf c (p ∷ []) = ap (insertT at p c 64) f ∙ insert-none at p c 64 in
+        (node-depth at p e d 64 t0 t1 t2 t3 l .1 (subst (λ (u : Tree Extent). depth u ≤ 64) (sym new) (omega arith)),
+        omega (arith, node-nodes at p e d 64 t0 t1 t2 t3, ap nodes new, ap nodes f))
+
+    module _ (n : ℕ) (e : Extent) (u : Tree Extent) (near : Near e x y) (w : Within is e) (h : Internal u) (g : Is at e u is) (to : Extent) (re : Reachable to) (go : Grows (floor x) (floor y) (suc n) (squareOf e) (squareOf to)) where
+      all-wraps : Wraps u (suc n) (squareOf to)
+      all-wraps = wraps go e u refl near w h g (λ z. absurd (omega arith))
+
+      at-end : all-wraps .extent ≡ to
+      at-end = all-wraps .reachable .is ∙ ap (λ (s : Square). extentOf (holds s)) (all-wraps .square) ∙ sym (re .is)
+
+      wrapped-is : Is at to (all-wraps .tree) is
+      wrapped-is = subst (λ (c : Extent). Is at c (all-wraps .tree) is) at-end (all-wraps .rule)
+
+      -- the old leaves would pass the last level
+      pub wrap-deep : 65 < depth u + suc n → 65 < depth (treeIn at to (is ++ (p ∷ [])))
+      wrap-deep l =
+          let a : depth (treeIn at to is) ≡ 66 = tree-passes at (all-wraps .tree) to is wrapped-is (subst (λ (d : ℕ). 65 < d) (sym (all-wraps .levels)) l) in
+          omega (arith, tree-more at to is (p ∷ []) .levels)
+
+      -- a node for each wrap, and one for the new leaf
+      pub wrap-full : depth u + suc n ≤ 65 → (depth (treeIn at to (is ++ (p ∷ []))) ≤ 65) × (nodes (treeIn at to (is ++ (p ∷ []))) ≡ nodes u + suc n + 1)
+      wrap-full l =
+          let v : Tree Extent = all-wraps .tree in
+          let f : childAt (side at p to) v ≡ none = subst (λ (c : Extent). childAt (side at p c) v ≡ none) at-end (all-wraps .hole) in
+          let a = hole-more to v (all-wraps .internal) f (subst (λ (d : ℕ). d ≤ 65) (sym (all-wraps .levels)) l) in
+          let b : insertT at p to 65 v ≡ treeIn at to (is ++ (p ∷ [])) = insert-tree at p v to is wrapped-is (a .0) in
+          (subst (λ (t : Tree Extent). depth t ≤ 65) b (a .0), sym (ap nodes b) ∙ a .1 ∙ ap (λ (k : ℕ). k + 1) (all-wraps .count))
