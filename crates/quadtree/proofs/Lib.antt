@@ -9,3 +9,4 @@ pub mod CoverEnds
 pub mod CoverDoublings
 pub mod CoverLaws
 pub mod AddWrap
+pub mod AddTurns

@@ -1,7 +1,10 @@
 // The quadtree in lent slots, after fjadra's src/quadtree and src/extent.rs.
+pub mod add;
+pub mod chain;
 pub mod cover;
 pub mod extent;
 pub mod indexer;
+pub mod place;
 pub mod store;
 
 use rules::Extent;

@@ -1,0 +1,153 @@
+// add.rs: a particle goes into the tree. What it takes is found by reading alone; refusal 6, then 7, is decided before anything is written.
+ghost use mathlib.Core.Path.{_≡_};
+ghost use Prim.Native.Nat.{_+_, _-_, _*_, _/_, _^_, _≤_, _<_, max};
+ghost use lib.ListN.{length, set};
+ghost use Rattle.quadtree.specs.Indexer.{indexer, cellOf};
+ghost use Rattle.quadtree.specs.Add.{childless, hung, gap, forked, splitted, Forks, Splits, Finds, Found};
+use crate::Quadtree;
+use crate::chain;
+use crate::cover;
+use crate::cover::Covered;
+use crate::indexer::Indexer;
+use crate::place;
+use crate::store;
+use rules::Extent;
+
+// Where a point's way down the tree ends.
+pub enum Stop {
+    // A leaf: its slot, its level, its first particle and its cell.
+    Leaf(usize, usize, usize, Extent),
+    // An internal node with no child in the point's quadrant: its slot, the quadrant and its level.
+    Hole(usize, usize, usize),
+}
+
+// The tree with the particle, or refusal 6, or refusal 7.
+pub enum Inserted {
+    Done(Quadtree),
+    Deep,
+    Full,
+}
+
+fn slots(m: &[u64]) -> usize
+    ensures { λ r. ⌜ r ≡ length (now (m .entry)) / 8 ⌝ }
+{
+    m.len() / 8
+}
+
+fn greater(a: usize, b: usize) -> usize
+    ensures { λ r. ⌜ r ≡ max a b ⌝ }
+{
+    if a < b {
+        return b;
+    }
+    a
+}
+
+// One child and no other.
+fn only(k: usize, child: usize) -> [u32; 4]
+    requires { ⌜ (k < 4) × (child < 2 ^ 32) ⌝ }
+    ensures { λ r. ⌜ r ≡ set childless k child ⌝ }
+{
+    let mut children = [0u32; 4];
+    children[k] = child as u32;
+    children
+}
+
+// Where the way of p ends.
+fn find(m: &[u64], at: &[f64], q: Quadtree, p: usize) -> Stop
+    requires { ⌜ Finds (now at) (now m) q p ⌝ }
+    ensures { λ r. ⌜ Found (now (at .entry)) (now (m .entry)) q p r ⌝ }
+{
+    let x = place::x_at(at, p);
+    let y = place::y_at(at, p);
+    let mut s = q.root as usize - 1;
+    let mut ix = Indexer::with_extent(q.extent);
+    let mut l: usize = 0;
+    loop {
+        let tag = store::tag(m, s);
+        if tag != 0 {
+            return Stop::Leaf(s, l, (tag - 1) as usize, ix.cell());
+        }
+        let way = ix.get_and_descend(x, y);
+        let k = way.quadrant;
+        let children = store::children(m, s);
+        let child = children[k];
+        if child == 0 {
+            return Stop::Hole(s, k, l);
+        }
+        s = child as usize - 1;
+        ix = way.indexer;
+        l += 1;
+    }
+}
+
+// For how many levels from that of the cell on the two particles share a quadrant.
+fn meet(at: &[f64], cell: Extent, level: usize, f: usize, p: usize) -> usize
+    requires { ⌜ (level ≤ 64) × (f * 2 + 2 ≤ length (now at)) × (p * 2 + 2 ≤ length (now at)) ⌝ }
+    ensures { λ r. ⌜ r ≡ gap (now (at .entry)) p (64 - level) cell f ⌝ }
+{
+    let x = place::x_at(at, p);
+    let y = place::y_at(at, p);
+    let u = place::x_at(at, f);
+    let v = place::y_at(at, f);
+    let mut ix = Indexer::with_extent(cell);
+    let mut l = level;
+    while l < Quadtree::GREATEST_LEVEL {
+        let other = ix.get(u, v);
+        let way = ix.get_and_descend(x, y);
+        if way.quadrant != other {
+            return l - level;
+        }
+        ix = way.indexer;
+        l += 1;
+    }
+    l - level
+}
+
+// A leaf of p in slot x, as child k of slot s.
+fn hang(m: &mut [u64], s: usize, k: usize, x: usize, p: usize)
+    requires { ⌜ (s * 8 + 8 ≤ length (now m)) × (k < 4) × ((x + 1) * 8 ≤ length (now m)) × (x + 1 < 2 ^ 32) × (p < 4096) ⌝ }
+    ensures { λ _. ⌜ now (m .exit) ≡ hung p (now (m .entry)) s k x ⌝ }
+{
+    let mut children = store::children(m, s);
+    children[k] = (x + 1) as u32;
+    store::put_internal(m, s, children);
+    store::put_leaf(m, x, p);
+}
+
+// Slot s becomes an internal node over two new leaves, from slot x on: of f as child j, of p as child k.
+fn fork(m: &mut [u64], s: usize, j: usize, k: usize, x: usize, f: usize, p: usize)
+    requires { ⌜ Forks (length (now m)) s j k x f p ⌝ }
+    ensures { λ _. ⌜ now (m .exit) ≡ forked f p (now (m .entry)) s j k x ⌝ }
+{
+    let mut children = only(j, x + 1);
+    children[k] = (x + 2) as u32;
+    store::put_internal(m, s, children);
+    store::put_leaf(m, x, f);
+    store::put_leaf(m, x + 1, p);
+}
+
+// The leaf of f in slot s becomes an internal node over g more, new ones, with the leaves of f and p at the end.
+fn split(m: &mut [u64], at: &[f64], s: usize, cell: Extent, g: usize, x: usize, f: usize, p: usize)
+    requires { ⌜ Splits (length (now m)) (length (now at)) s x g f p ⌝ }
+    ensures { λ _. ⌜ now (m .exit) ≡ splitted (now (at .entry)) p f g cell s x (now (m .entry)) ⌝ }
+{
+    let u = place::x_at(at, p);
+    let v = place::y_at(at, p);
+    let mut ix = Indexer::with_extent(cell);
+    let mut slot = s;
+    let mut free = x;
+    let mut left = g;
+    while 0 < left {
+        let way = ix.get_and_descend(u, v);
+        let children = only(way.quadrant, free + 1);
+        store::put_internal(m, slot, children);
+        ix = way.indexer;
+        slot = free;
+        free += 1;
+        left -= 1;
+    }
+    let j = ix.get(place::x_at(at, f), place::y_at(at, f));
+    let k = ix.get(u, v);
+    fork(m, slot, j, k, free, f, p);
+}
