@@ -36,7 +36,26 @@ lead-none none e = refl
 lead-none (leaf s is) e = absurd (omega arith)
 lead-none (node s t0 t1 t2 t3) e = absurd (omega arith)
 
+-- an indexer of a cell
+pub indexed : (i : Indexer) (c : Extent) → i ≡ indexer c → i ≡ indexer (cellOf i)
+indexed i c e = e ∙ ap indexer (sym (ap cellOf e))
+
 module _ (at : List Float) (p : ℕ) where
+  -- ---- one step down
+
+  module _ (c : Extent) (x y : Float) (r : Descent) (d : Descends c x y r) (ex : x ≡ xAt at p) (ey : y ≡ yAt at p) where
+    pub step-side : r .quadrant ≡ side at p c
+    step-side = d .quadrant ∙ ap₂ (quadrant c) ex ey
+
+    pub step-less : r .quadrant < 4
+    step-less = subst (λ (q : ℕ). q < 4) (sym step-side) (side-lt at p c)
+
+    pub step-own : r .indexer ≡ indexer (cellOf (r .indexer))
+    step-own = indexed (r .indexer) (quarter (r .quadrant) c) (d .indexer)
+
+    pub step-cell : cellOf (r .indexer) ≡ quarter (r .quadrant) c
+    step-cell = ap cellOf (d .indexer)
+
   -- ---- the way down
 
   -- the slot s stands l levels down on the way of p, for any tree that begins in slot r of the cell b

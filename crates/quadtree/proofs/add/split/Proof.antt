@@ -1,97 +1,95 @@
+use mathlib.Core.Path.{_≡_, refl, sym, ap, ap₂, _∙_, subst}
+use mathlib.Core.List.{List}
+use Prim.Native.Nat.{ℕ, _+_, _-_, _*_, _≤_, _<_}
+use native.Mathlib.Omega.{arith}
+use lib.ListN.{length}
+use borrow.Author.Needs.{needs}
+use Rattle.rules.specs.declared.Extent.{Extent}
+use Rattle.rules.specs.Number.{xAt, yAt}
+use Rattle.rules.specs.Cell.{quadrant}
+use Rattle.quadtree.specs.Indexer.{indexer, cellOf}
+use Rattle.quadtree.specs.Slots.{putInternal}
+use Rattle.quadtree.specs.Add.{Splits, side, forked, splitted}
+use Rattle.quadtree.proofs.AddWay.{quadrant-lt}
+use Rattle.quadtree.proofs.AddTurns.{indexed, step-side, step-less, step-own, step-cell, split-turn, split-end}
 use Rattle.quadtree.proofs.add.split.Statement.{statement}
 use Rattle.quadtree.proofs.add.split.Tie as tie
-use Rattle.quadtree.proofs.add.split.Reads as reads
-use Rattle.quadtree.proofs.add.split.Lts as lts
-use Rattle.quadtree.proofs.add.fork.Reads as fork-reads
-use Rattle.quadtree.proofs.add.only.Reads as only-reads
-use Rattle.quadtree.proofs.indexer.Indexer.get.Reads as get-reads
-use Rattle.quadtree.proofs.indexer.Indexer.get_and_descend.Reads as get-and-descend-reads
-use Rattle.quadtree.proofs.indexer.Indexer.with_extent.Reads as with-extent-reads
-use Rattle.quadtree.proofs.place.x_at.Reads as x-at-reads
-use Rattle.quadtree.proofs.place.y_at.Reads as y-at-reads
-use Rattle.quadtree.proofs.store.put_internal.Reads as put-internal-reads
 
 abbrev Inv-loop : tie.InvT-loop
-Inv-loop m₀ at s g x f p u v ix₀ slot₀ free₀ left₀ m ix slot free left = ?
+Inv-loop m₀ at s g x f p u v ix₀ slot₀ free₀ left₀ m ix slot free left =
+    (length m ≡ length m₀) × Splits (length m) (length at) slot free left f p × (ix ≡ indexer (cellOf ix)) × (splitted at p f left (cellOf ix) slot free m ≡ splitted at p f g (cellOf ix₀) s x m₀)
 
 abbrev μ-loop : tie.MeasureT-loop
-μ-loop m₀ at s g x f p u v ix₀ slot₀ free₀ left₀ m ix slot free left = ?
+μ-loop m₀ at s g x f p u v ix₀ slot₀ free₀ left₀ m ix slot free left = left
 
--- src/add.rt:135:9
-x-at-requires : tie.Need-x-at-requires Inv-loop μ-loop
-x-at-requires c κs = ?
-
--- src/add.rt:136:9
-y-at-requires : tie.Need-y-at-requires Inv-loop μ-loop
-y-at-requires c κs = ?
-
--- src/add.rt:137:9
-with-extent-requires : tie.Need-with-extent-requires Inv-loop μ-loop
-with-extent-requires c κs = ?
-
--- src/add.rt:141:5
 loop-holds : tie.Need-loop-holds Inv-loop μ-loop
-loop-holds c = ?
+loop-holds c =
+    let s = c .before .before .before .before .before in
+    (refl, s .pre, indexed (c .with-extent .result) (s .args .cell) (c .with-extent .ensures), refl)
 
--- src/add.rt:142:13
-get-and-descend-requires : tie.Need-get-and-descend-requires Inv-loop μ-loop
-get-and-descend-requires c κs = ?
-
--- src/add.rt:143:43
-add-only : tie.Need-add-only Inv-loop μ-loop
-add-only c = ?
-
--- src/add.rt:143:13
 only-requires : tie.Need-only-requires Inv-loop μ-loop
-only-requires c κs = ?
+only-requires c κs =
+    let d = c .before .before in
+    let s = d .before .before .before .before .before .before in
+    (step-less (s .args .at .now) (s .args .p) (cellOf (d .loop .ix)) _ _ (c .get-and-descend .result) (c .get-and-descend .ensures) (d .before .before .before .x-at .ensures) (d .before .before .y-at .ensures), omega (arith, d .loop .inv .1 .small))
 
--- src/add.rt:144:9
-put-internal-requires : tie.Need-put-internal-requires Inv-loop μ-loop
-put-internal-requires c κs = ?
-
--- src/add.rt:147:9
-add-free : tie.Need-add-free Inv-loop μ-loop
-add-free c = ?
-
--- src/add.rt:148:9
-sub-left : tie.Need-sub-left Inv-loop μ-loop
-sub-left c = ?
-
--- src/add.rt:141:5
-loop-less : tie.Need-loop-less Inv-loop μ-loop
-loop-less c = ?
-
--- src/add.rt:141:5
 loop-again : tie.Need-loop-again Inv-loop μ-loop
-loop-again c = ?
+loop-again c =
+    let a = c .before .before .before in
+    let b = a .before .before .before in
+    let d = b .before .before in
+    let s = d .before .before .before .before .before .before in
+    let e = cellOf (d .loop .ix) in
+    let r = b .get-and-descend .result in
+    let x = d .before .before .before .x-at .ensures in
+    let y = d .before .before .y-at .ensures in
+    let at = s .args .at .now in
+    let p = s .args .p in
+    let w = a .put-internal .ensures ∙ ap (putInternal (d .loop .m) (d .loop .slot)) (a .before .before .only .ensures) in
+    (a .put-internal .kept .0 ∙ d .loop .inv .0,
+    search needs,
+    step-own at p e _ _ r (b .get-and-descend .ensures) x y,
+    ap (λ (c : Extent). splitted at p (s .args .f) (d .loop .left - 1) c (d .loop .free) (d .loop .free + 1) (a .put-internal .last .0)) (step-cell at p e _ _ r (b .get-and-descend .ensures) x y)
+    ∙ split-turn at p (s .args .f) (d .loop .left) (r .quadrant) e (d .loop .slot) (d .loop .free) (d .loop .m) (a .put-internal .last .0) (b .before .loop-test .taken) (step-side at p e _ _ r (b .get-and-descend .ensures) x y) w
+    ∙ d .loop .inv .3)
 
--- src/add.rt:150:20
-x-at-requires-2 : tie.Need-x-at-requires-2 Inv-loop μ-loop
-x-at-requires-2 c κs = ?
+-- the quadrants of the two leaves
+first-is : (c : tie.After-get2 Inv-loop μ-loop)
+    → let d = c .before .before .before .before .before in let s = d .before .before .before .before .before .before in c .before .get .result ≡ quadrant (cellOf (d .loop .ix)) (xAt (s .args .at .now) (s .args .f)) (yAt (s .args .at .now) (s .args .f))
+first-is c = let d = c .before .before .before .before .before in c .before .get .ensures ∙ ap₂ (quadrant (cellOf (d .loop .ix))) (c .before .before .before .x-at2 .ensures) (c .before .before .y-at2 .ensures)
 
--- src/add.rt:150:40
-y-at-requires-2 : tie.Need-y-at-requires-2 Inv-loop μ-loop
-y-at-requires-2 c κs = ?
+new-is : (c : tie.After-get2 Inv-loop μ-loop)
+    → let d = c .before .before .before .before .before in let s = d .before .before .before .before .before .before in c .get2 .result ≡ side (s .args .at .now) (s .args .p) (cellOf (d .loop .ix))
+new-is c = let d = c .before .before .before .before .before in c .get2 .ensures ∙ ap₂ (quadrant (cellOf (d .loop .ix))) (d .before .before .before .x-at .ensures) (d .before .before .y-at .ensures)
 
--- src/add.rt:150:9
-get-requires : tie.Need-get-requires Inv-loop μ-loop
-get-requires c κs = ?
-
--- src/add.rt:151:9
-get-requires-2 : tie.Need-get-requires-2 Inv-loop μ-loop
-get-requires-2 c κs = ?
-
--- src/add.rt:152:5
 fork-requires : tie.Need-fork-requires Inv-loop μ-loop
-fork-requires c κs = ?
+fork-requires c κs =
+    let g = c .before in
+    let d = g .before .before .before .before .before in
+    let v = d .loop .inv .1 in
+    let z : d .loop .left ≤ 0 = g .before .before .before .before .loop-test .left in
+    record {
+      own = v .own;
+      first-quadrant = subst (λ (q : ℕ). q < 4) (sym (first-is g)) (quadrant-lt _ _ _);
+      new-quadrant = subst (λ (q : ℕ). q < 4) (sym (new-is g)) (quadrant-lt _ _ _);
+      room = omega (arith, v .room);
+      small = omega (arith, v .small);
+      first = v .first;
+      new = v .new;
+    }
 
--- src/add.rt:131:1
-same-length : tie.Need-same-length Inv-loop μ-loop
-same-length c = ?
-
--- src/add.rt:131:1
 returns : tie.Need-returns Inv-loop μ-loop
-returns c = ?
+returns c =
+    let k = c .before .before in
+    let g = k .before .before in
+    let d = g .before .before .before .before .before in
+    let s = d .before .before .before .before .before .before in
+    let e = cellOf (d .loop .ix) in
+    k .fork .ensures
+    ∙ ap₂ (λ (i j : ℕ). forked (s .args .f) (s .args .p) (d .loop .m) (d .loop .slot) i j (d .loop .free)) (first-is g) (new-is g)
+    ∙ split-end (s .args .at .now) (s .args .p) (s .args .f) (d .loop .left) e (d .loop .slot) (d .loop .free) (d .loop .m) (g .before .before .before .before .loop-test .left)
+    ∙ d .loop .inv .3
+    ∙ ap (λ (c : Extent). splitted (s .args .at .now) (s .args .p) (s .args .f) (s .args .g) c (s .args .s) (s .args .x) (s .args .m .now)) (ap cellOf (d .before .with-extent .ensures))
 
 pub split-spec : {M : Type 1} → statement M
 split-spec =
@@ -99,22 +97,22 @@ split-spec =
     (tie.spec
     Inv-loop
     μ-loop
-    x-at-requires
-    y-at-requires
-    with-extent-requires
+    (λ c κs. search needs)
+    (λ c κs. search needs)
+    (λ c κs. search needs)
     loop-holds
-    get-and-descend-requires
-    add-only
+    (λ c κs. c .before .loop .inv .2)
+    (λ c. search needs)
     only-requires
-    put-internal-requires
-    add-free
-    sub-left
-    loop-less
+    (λ c κs. search needs)
+    (λ c. search needs)
+    (λ c. search needs)
+    (λ c. search needs)
     loop-again
-    x-at-requires-2
-    y-at-requires-2
-    get-requires
-    get-requires-2
+    (λ c κs. search needs)
+    (λ c κs. search needs)
+    (λ c κs. c .before .before .before .loop .inv .2)
+    (λ c κs. c .before .before .before .before .loop .inv .2)
     fork-requires
-    same-length
+    (λ c. search needs)
     returns)
