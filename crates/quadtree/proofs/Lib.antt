@@ -10,3 +10,4 @@ pub mod CoverDoublings
 pub mod CoverLaws
 pub mod AddWrap
 pub mod AddTurns
+pub mod AddPlaced

@@ -3,13 +3,13 @@ ghost use mathlib.Core.Path.{_≡_};
 ghost use Prim.Native.Nat.{_+_, _-_, _*_, _/_, _^_, _≤_, _<_, max};
 ghost use lib.ListN.{length, set};
 ghost use Rattle.quadtree.specs.Indexer.{indexer, cellOf};
-ghost use Rattle.quadtree.specs.Add.{childless, hung, gap, forked, splitted, Forks, Splits, Finds, Found};
+ghost use Rattle.quadtree.specs.Add.{childless, hung, gap, forked, splitted, Forks, Splits, Finds, Found, Puts, FoundLeaf, Placed};
 use crate::Quadtree;
 use crate::chain;
 use crate::cover;
 use crate::cover::Covered;
 use crate::indexer::Indexer;
-use crate::place;
+use crate::point;
 use crate::store;
 use rules::Extent;
 
@@ -58,8 +58,8 @@ fn find(m: &[u64], at: &[f64], q: Quadtree, p: usize) -> Stop
     requires { ⌜ Finds (now at) (now m) q p ⌝ }
     ensures { λ r. ⌜ Found (now (at .entry)) (now (m .entry)) q p r ⌝ }
 {
-    let x = place::x_at(at, p);
-    let y = place::y_at(at, p);
+    let x = point::x_at(at, p);
+    let y = point::y_at(at, p);
     let mut s = q.root as usize - 1;
     let mut ix = Indexer::with_extent(q.extent);
     let mut l: usize = 0;
@@ -86,10 +86,10 @@ fn meet(at: &[f64], cell: Extent, level: usize, f: usize, p: usize) -> usize
     requires { ⌜ (level ≤ 64) × (f * 2 + 2 ≤ length (now at)) × (p * 2 + 2 ≤ length (now at)) ⌝ }
     ensures { λ r. ⌜ r ≡ gap (now (at .entry)) p (64 - level) cell f ⌝ }
 {
-    let x = place::x_at(at, p);
-    let y = place::y_at(at, p);
-    let u = place::x_at(at, f);
-    let v = place::y_at(at, f);
+    let x = point::x_at(at, p);
+    let y = point::y_at(at, p);
+    let u = point::x_at(at, f);
+    let v = point::y_at(at, f);
     let mut ix = Indexer::with_extent(cell);
     let mut l = level;
     while l < Quadtree::GREATEST_LEVEL {
@@ -132,8 +132,8 @@ fn split(m: &mut [u64], at: &[f64], s: usize, cell: Extent, g: usize, x: usize, 
     requires { ⌜ Splits (length (now m)) (length (now at)) s x g f p ⌝ }
     ensures { λ _. ⌜ now (m .exit) ≡ splitted (now (at .entry)) p f g cell s x (now (m .entry)) ⌝ }
 {
-    let u = place::x_at(at, p);
-    let v = place::y_at(at, p);
+    let u = point::x_at(at, p);
+    let v = point::y_at(at, p);
     let mut ix = Indexer::with_extent(cell);
     let mut slot = s;
     let mut free = x;
@@ -147,7 +147,61 @@ fn split(m: &mut [u64], at: &[f64], s: usize, cell: Extent, g: usize, x: usize, 
         free += 1;
         left -= 1;
     }
-    let j = ix.get(place::x_at(at, f), place::y_at(at, f));
+    let j = ix.get(point::x_at(at, f), point::y_at(at, f));
     let k = ix.get(u, v);
     fork(m, slot, j, k, free, f, p);
+}
+
+// The way of p has ended at the leaf of f in slot s, of level l.
+fn at_leaf(m: &mut [u64], at: &[f64], next: &mut [u32], tail: &mut [u32], q: Quadtree, s: usize, l: usize, f: usize, cell: Extent, p: usize) -> Inserted
+    requires { ⌜ Puts (now at) (now m) (now next) (now tail) q p × FoundLeaf (now at) (now m) q p s l f cell ⌝ }
+    ensures { λ r. ⌜ Placed (now (at .entry)) (now (m .exit)) (now (next .exit)) (now (tail .exit)) (q .extent) p r ⌝ }
+{
+    if point::same(at, f, p) {
+        chain::join(next, tail, f, p);
+        return Inserted::Done(q);
+    }
+    let g = meet(at, cell, l, f, p);
+    if g == Quadtree::GREATEST_LEVEL - l {
+        return Inserted::Deep;
+    }
+    let nodes = q.nodes + g + 2;
+    if slots(m) < nodes {
+        return Inserted::Full;
+    }
+    split(m, at, s, cell, g, q.nodes, f, p);
+    chain::begin(next, tail, p);
+    let extent = q.extent;
+    Inserted::Done(Quadtree {
+        extent: extent,
+        root: q.root,
+        nodes: nodes,
+        deepest: greater(q.deepest, l + g + 1),
+    })
+}
+
+// p goes into a tree whose extent holds it.
+fn place(m: &mut [u64], at: &[f64], next: &mut [u32], tail: &mut [u32], q: Quadtree, p: usize) -> Inserted
+    requires { ⌜ Puts (now at) (now m) (now next) (now tail) q p × (0 < q .root) ⌝ }
+    ensures { λ r. ⌜ Placed (now (at .entry)) (now (m .exit)) (now (next .exit)) (now (tail .exit)) (q .extent) p r ⌝ }
+{
+    let stop = find(m, at, q, p);
+    match stop {
+        Stop::Leaf(s, l, f, cell) => at_leaf(m, at, next, tail, q, s, l, f, cell, p),
+        Stop::Hole(s, k, l) => {
+            let nodes = q.nodes + 1;
+            if slots(m) < nodes {
+                return Inserted::Full;
+            }
+            hang(m, s, k, q.nodes, p);
+            chain::begin(next, tail, p);
+            let extent = q.extent;
+            Inserted::Done(Quadtree {
+                extent: extent,
+                root: q.root,
+                nodes: nodes,
+                deepest: greater(q.deepest, l + 1),
+            })
+        }
+    }
 }

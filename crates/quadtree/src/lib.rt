@@ -4,7 +4,7 @@ pub mod chain;
 pub mod cover;
 pub mod extent;
 pub mod indexer;
-pub mod place;
+pub mod point;
 pub mod store;
 
 use rules::Extent;

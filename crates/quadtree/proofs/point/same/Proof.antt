@@ -6,8 +6,8 @@ use lib.Ieee.{Float, eq}
 use borrow.Author.Needs.{needs}
 use Rattle.rules.specs.Number.{xAt, yAt}
 use Rattle.rules.specs.Tree.{same}
-use Rattle.quadtree.proofs.place.same.Statement.{statement}
-use Rattle.quadtree.proofs.place.same.Tie as tie
+use Rattle.quadtree.proofs.point.same.Statement.{statement}
+use Rattle.quadtree.proofs.point.same.Tie as tie
 
 module _ (at : List Float) (i j : ℕ) (x u : Float) (ex : x ≡ xAt at i) (eu : u ≡ xAt at j) where
   apart : eq x u ≡ false → eq x u ≡ same at i j
