@@ -39,7 +39,7 @@ module _ (at : List Float) (m next tail : List ℕ) (q : Quadtree) (p : ℕ) (g 
   few = omega (arith, holds-few at p m q (g .holds), g .few)
 
   -- p has a chain of its own, if no particle before it has its point
-  begun : ((i : ℕ) → In i (upTo p) → same at i p ≡ true → ⊥) → Linked at (set next p 0) (set tail p p) (p + 1)
+  pub begun : ((i : ℕ) → In i (upTo p) → same at i p ≡ true → ⊥) → Linked at (set next p 0) (set tail p p) (p + 1)
   begun new = begin-linked at p next tail (g .linked) (g .in-next) (g .in-tail) own (λ i l e. new i (upTo-in p i l) e)
 
   -- ---- at a leaf

@@ -11,3 +11,4 @@ pub mod CoverLaws
 pub mod AddWrap
 pub mod AddTurns
 pub mod AddPlaced
+pub mod AddInsert

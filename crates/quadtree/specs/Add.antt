@@ -198,6 +198,18 @@ pub record Covers (at : List Float) (q : Quadtree) (c : Covered) (p : ℕ) : Typ
   pub covered : CoveredTo (q .extent) (floor (xAt at p)) (floor (yAt at p)) c
   pub inside : (i : ℕ) → i < p → Inside at (q .extent) i
 
+-- what an insertion asks: with a root there, p is covered from its extent
+pub record Inserts (at : List Float) (m next tail : List ℕ) (q : Quadtree) (c : Covered) (p : ℕ) : Type 0 where
+  pub puts : Puts at m next tail q p
+  pub covers : 0 < q .root → Covers at q c p
+
+-- the root is internal and p lies outside its extent
+pub record Enlarges (at : List Float) (m : List ℕ) (q : Quadtree) (c : Covered) (p : ℕ) : Type 0 where
+  pub rooted : 0 < q .root
+  pub internal : word m (q .root - 1) 0 ≡ 0
+  pub some : 0 < c .doublings
+  pub covers : Covers at q c p
+
 -- An internal root that is to be wrapped n times, once for each doubling towards p that leads to the extent `to`.
 pub record Wraps (at : List Float) (m : List ℕ) (q : Quadtree) (to : Extent) (p n : ℕ) : Type 0 where
   pub holds : Holds at (upTo p) m q
@@ -211,6 +223,13 @@ pub record Wraps (at : List Float) (m : List ℕ) (q : Quadtree) (to : Extent) (
   pub levels : q .deepest + n ≤ greatestLevel
   pub room : (q .nodes + n) * 8 ≤ length m
   pub small : q .nodes + n < 2 ^ 32
+  pub read : p * 2 + 2 ≤ length at
+
+-- the same points in the extent `to`
+pub record Wrapped (at : List Float) (m : List ℕ) (to : Extent) (p : ℕ) (r : Quadtree) : Type 0 where
+  pub holds : Holds at (upTo p) m r
+  pub extent : r .extent ≡ to
+  pub rooted : 0 < r .root
 
 -- the chain of f, and a particle p to join it
 pub record Chains (next tail : List ℕ) (f p : ℕ) : Type 0 where

@@ -3,7 +3,7 @@ ghost use mathlib.Core.Path.{_≡_};
 ghost use Prim.Native.Nat.{_+_, _-_, _*_, _/_, _^_, _≤_, _<_, max};
 ghost use lib.ListN.{length, set};
 ghost use Rattle.quadtree.specs.Indexer.{indexer, cellOf};
-ghost use Rattle.quadtree.specs.Add.{childless, hung, gap, forked, splitted, Forks, Splits, Finds, Found, Puts, FoundLeaf, Placed};
+ghost use Rattle.quadtree.specs.Add.{childless, hung, gap, forked, splitted, Forks, Splits, Finds, Found, Puts, FoundLeaf, Placed, Wraps, Wrapped, Enlarges, Inserts};
 use crate::Quadtree;
 use crate::chain;
 use crate::cover;
@@ -204,4 +204,82 @@ fn place(m: &mut [u64], at: &[f64], next: &mut [u32], tail: &mut [u32], q: Quadt
             })
         }
     }
+}
+
+// An internal root is wrapped once for each doubling: the old root becomes the child of a new one, in the quadrant that its extent takes.
+fn wrap(m: &mut [u64], at: &[f64], q: Quadtree, covered: Covered, p: usize) -> Quadtree
+    requires { ⌜ Wraps (now at) (now m) q (covered .extent) p (covered .doublings) ⌝ }
+    ensures { λ r. ⌜ Wrapped (now (at .entry)) (now (m .exit)) (covered .extent) p r ⌝ }
+{
+    let x = point::x_at(at, p);
+    let y = point::y_at(at, p);
+    let mut wrapped = q;
+    let mut left = covered.doublings;
+    while 0 < left {
+        let nodes = wrapped.nodes;
+        let doubled = cover::double_once(wrapped.extent, x, y);
+        let children = only(doubled.quadrant, wrapped.root as usize);
+        store::put_internal(m, nodes, children);
+        let extent = doubled.extent;
+        wrapped = Quadtree {
+            extent: extent,
+            root: (nodes + 1) as u32,
+            nodes: nodes + 1,
+            deepest: wrapped.deepest + 1,
+        };
+        left -= 1;
+    }
+    wrapped
+}
+
+// p lies outside the extent of an internal root, so it comes into another quarter of the last new root.
+fn enlarge(m: &mut [u64], at: &[f64], next: &mut [u32], tail: &mut [u32], q: Quadtree, covered: Covered, p: usize) -> Inserted
+    requires { ⌜ Puts (now at) (now m) (now next) (now tail) q p × Enlarges (now at) (now m) q covered p ⌝ }
+    ensures { λ r. ⌜ Placed (now (at .entry)) (now (m .exit)) (now (next .exit)) (now (tail .exit)) (covered .extent) p r ⌝ }
+{
+    let w = covered.doublings;
+    if q.deepest + w > Quadtree::GREATEST_LEVEL {
+        return Inserted::Deep;
+    }
+    if slots(m) < q.nodes + w + 1 {
+        return Inserted::Full;
+    }
+    let wrapped = wrap(m, at, q, covered, p);
+    place(m, at, next, tail, wrapped, p)
+}
+
+// p goes into the tree of the particles before it; `covered` is the extent with p.
+pub fn insert(m: &mut [u64], at: &[f64], next: &mut [u32], tail: &mut [u32], q: Quadtree, covered: Covered, p: usize) -> Inserted
+    requires { ⌜ Inserts (now at) (now m) (now next) (now tail) q covered p ⌝ }
+    ensures { λ r. ⌜ Placed (now (at .entry)) (now (m .exit)) (now (next .exit)) (now (tail .exit)) (covered .extent) p r ⌝ }
+{
+    let root = q.root;
+    let extent = covered.extent;
+    if root == 0 {
+        if slots(m) == 0 {
+            return Inserted::Full;
+        }
+        store::put_leaf(m, 0, p);
+        chain::begin(next, tail, p);
+        return Inserted::Done(Quadtree {
+            extent: extent,
+            root: 1,
+            nodes: 1,
+            deepest: 0,
+        });
+    }
+    if covered.doublings == 0 {
+        return place(m, at, next, tail, q, p);
+    }
+    // A leaf root is not wrapped: only the extent grows.
+    if store::tag(m, root as usize - 1) != 0 {
+        let grown = Quadtree {
+            extent: extent,
+            root: root,
+            nodes: q.nodes,
+            deepest: q.deepest,
+        };
+        return place(m, at, next, tail, grown, p);
+    }
+    enlarge(m, at, next, tail, q, covered, p)
 }
