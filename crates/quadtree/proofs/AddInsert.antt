@@ -32,6 +32,7 @@ use Rattle.quadtree.specs.Add.{lead, Stored, Holds, childless, Linked, R
 use Rattle.quadtree.proofs.CoverEnds.{doubled-square}
 use Rattle.quadtree.proofs.CoverLaws.{Lies, covered-grows}
 use Rattle.quadtree.proofs.Slots.{internal-length, internal-tag, leaf-length, leaf-tag}
+use Rattle.quadtree.proofs.SlotsTree.{lead-le}
 use Rattle.quadtree.proofs.AddChain.{upTo-in, in-upTo, begin-linked}
 use Rattle.quadtree.proofs.AddHold.{cells-depth, cells-nodes, holds-is}
 use Rattle.quadtree.proofs.AddWrap.{inExtent, Internal, leaf-regrown, wrappedIn, wrap-holds, next-near, next-within, next-less, wrap-deep, wrap-full}
@@ -110,6 +111,9 @@ module _ (at : List Float) where
               small = omega (arith, w .small);
               read = w .read;
             }
+
+    pub wrap-root : q .root ≤ q .nodes
+    wrap-root = omega (arith, w .holds .root, lead-le (q .nodes) (w .holds .tree) (w .holds .below))
 
     pub wrap-end : n ≤ 0 → Wrapped at m to p q
     wrap-end z =
