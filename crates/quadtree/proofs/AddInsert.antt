@@ -53,6 +53,9 @@ root-leaf m none r e l z h = absurd (omega arith)
 root-leaf m (leaf s is) r e l z h = (s, is, refl)
 root-leaf m (node s t0 t1 t2 t3) r e l z h = let y : r - 1 ≡ s = omega arith in absurd (z (ap (λ (j : ℕ). word m j 0) y ∙ h .0))
 
+pub root-slot : (at : List Float) (is m : List ℕ) (q : Quadtree) → Holds at is m q → 0 < q .root → (q .root - 1) * 8 + 8 ≤ length m
+root-slot at is m q h l = omega (arith, h .root, lead-le (q .nodes) (h .tree) (h .below), h .room)
+
 -- one doubling less
 grows-some : (x y : ℤ) {n : ℕ} {s t : Square} → Grows x y n s t → 0 < n → (inside s x y ≡ false) × Grows x y (n - 1) (next s x y) t
 grows-some x y (done e) l = absurd (omega arith)

@@ -1,151 +1,96 @@
+use mathlib.Core.Path.{_≡_, sym, subst, _∙_}
+use Prim.Native.Nat.{_<_}
+use native.Mathlib.Omega.{arith}
 use borrow.Author.Needs.{needs}
+use Rattle.rules.specs.declared.Extent.{Extent}
+use Rattle.quadtree.specs.Add.{Placed}
+use Rattle.quadtree.proofs.AddInsert.{root-slot, first-full, first-placed, unmoved, leaf-puts}
 use Rattle.quadtree.proofs.add.insert.Statement.{statement}
 use Rattle.quadtree.proofs.add.insert.Tie as tie
-use Rattle.quadtree.proofs.add.insert.Reads as reads
-use Rattle.quadtree.proofs.add.insert.Lts as lts
-use Rattle.quadtree.proofs.add.enlarge.Reads as enlarge-reads
-use Rattle.quadtree.proofs.add.place.Reads as place-reads
-use Rattle.quadtree.proofs.add.slots.Reads as slots-reads
-use Rattle.quadtree.proofs.chain.begin.Reads as begin-reads
-use Rattle.quadtree.proofs.store.put_leaf.Reads as put-leaf-reads
-use Rattle.quadtree.proofs.store.tag.Reads as tag-reads
 
--- src/add.rt:259:12
-slots-requires : tie.Need-slots-requires
-slots-requires c κs = search needs
+-- where the function begins
+abbrev start : tie.After-extent → tie.Start
+start c = c .before .before .before .before .before
 
--- src/add.rt:260:13
-same-length : tie.Need-same-length
-same-length c = search needs
+-- there is a root
+rooted : (c : tie.Else1) → 0 < start (c .before) .args .q .root
+rooted c = let n = c .if1 .left in omega arith
 
--- src/add.rt:260:13
 returns : tie.Need-returns
-returns c = ?
+returns c =
+    let t = c .before .before .before in
+    let s = start (t .before) in
+    first-full (s .args .at .now) (s .args .m .now) (s .args .next .now) (s .args .tail .now) (s .args .q) (s .args .covered) (s .args .p) (s .pre .puts) (t .if1 .taken)
+    (sym (c .before .slots .ensures) ∙ c .if2 .taken) (s .args .next .now) (s .args .tail .now)
 
--- src/add.rt:262:9
-put-leaf-requires : tie.Need-put-leaf-requires
-put-leaf-requires c κs = search needs
-
--- src/add.rt:263:9
-begin-requires : tie.Need-begin-requires
-begin-requires c κs = search needs
-
--- src/add.rt:264:9
-same-length-2 : tie.Need-same-length-2
-same-length-2 c = search needs
-
--- src/add.rt:264:9
-same-length-3 : tie.Need-same-length-3
-same-length-3 c = search needs
-
--- src/add.rt:264:9
-same-length-4 : tie.Need-same-length-4
-same-length-4 c = search needs
-
--- src/add.rt:264:9
 returns-2 : tie.Need-returns-2
-returns-2 c = ?
+returns-2 c =
+    let b = c .before .before .before .before in
+    let l = b .before .before .before .before .before in
+    let f = l .before .before in
+    let t = f .before .before .before in
+    let s = start (t .before) in
+    first-placed (s .args .at .now) (s .args .m .now) (s .args .next .now) (s .args .tail .now) (s .args .q) (s .args .covered) (s .args .p) (s .pre .puts) (t .if1 .taken)
+    (l .put-leaf .last .0) (b .begin .last .0) (b .begin .last .1 .0) (λ z. f .if2 .left (f .before .slots .ensures ∙ z)) (l .put-leaf .ensures) (b .begin .ensures .0) (b .begin .ensures .1)
 
--- src/add.rt:272:9
-place-requires : tie.Need-place-requires
-place-requires c κs = search needs
-
--- src/add.rt:272:9
-same-length-5 : tie.Need-same-length-5
-same-length-5 c = search needs
-
--- src/add.rt:272:9
-same-length-6 : tie.Need-same-length-6
-same-length-6 c = search needs
-
--- src/add.rt:272:9
-same-length-7 : tie.Need-same-length-7
-same-length-7 c = search needs
-
--- src/add.rt:272:9
 returns-3 : tie.Need-returns-3
-returns-3 c = ?
+returns-3 c =
+    let l = c .before .before .before .before .before .before in
+    let t = l .before .before .before .before in
+    let e = t .before .before in
+    let s = start (e .before) in
+    subst (λ (e : Extent). Placed (s .args .at .now) (l .place .last .0) (l .place .last .1 .1 .0) (l .place .last .1 .1 .1 .0) e (s .args .p) (l .place .result))
+    (unmoved (s .args .at .now) (s .args .m .now) (s .args .next .now) (s .args .tail .now) (s .args .q) (s .args .covered) (s .args .p) (s .pre .puts) (s .pre .covers (rooted e)) (t .if3 .taken)) (l .place .ensures)
 
--- src/add.rt:275:22
-cast-tag : tie.Need-cast-tag
-cast-tag c = search needs
-
--- src/add.rt:275:22
-sub-tag : tie.Need-sub-tag
-sub-tag c = search needs
-
--- src/add.rt:275:8
 tag-requires : tie.Need-tag-requires
-tag-requires c κs = ?
+tag-requires c κs =
+    let e = c .before .before .before in
+    let s = start (e .before) in
+    root-slot (s .args .at .now) _ (s .args .m .now) (s .args .q) (s .pre .puts .holds) (rooted e)
 
--- src/add.rt:282:9
 place-requires-2 : tie.Need-place-requires-2
-place-requires-2 c κs = ?
+place-requires-2 c κs =
+    let t = c .before .before .before in
+    let e = t .before .before .before .before .before in
+    let s = start (e .before) in
+    (leaf-puts (s .args .at .now) (s .args .m .now) (s .args .next .now) (s .args .tail .now) (s .args .q) (s .args .covered) (s .args .p) (s .pre .puts) (rooted e) (λ z. t .if4 .taken (t .before .tag .ensures ∙ z)), rooted e)
 
--- src/add.rt:282:9
-same-length-8 : tie.Need-same-length-8
-same-length-8 c = search needs
-
--- src/add.rt:282:9
-same-length-9 : tie.Need-same-length-9
-same-length-9 c = search needs
-
--- src/add.rt:282:9
-same-length-10 : tie.Need-same-length-10
-same-length-10 c = search needs
-
--- src/add.rt:282:9
-returns-4 : tie.Need-returns-4
-returns-4 c = search needs
-
--- src/add.rt:284:5
 enlarge-requires : tie.Need-enlarge-requires
-enlarge-requires c κs = ?
-
--- src/add.rt:252:1
-same-length-11 : tie.Need-same-length-11
-same-length-11 c = search needs
-
--- src/add.rt:252:1
-same-length-12 : tie.Need-same-length-12
-same-length-12 c = search needs
-
--- src/add.rt:252:1
-same-length-13 : tie.Need-same-length-13
-same-length-13 c = search needs
-
--- src/add.rt:252:1
-returns-5 : tie.Need-returns-5
-returns-5 c = search needs
+enlarge-requires c κs =
+    let t = c .before .before .before in
+    let d = t .before .before .before in
+    let e = d .before .before in
+    let s = start (e .before) in
+    (s .pre .puts, record { rooted = rooted e; internal = sym (t .before .tag .ensures) ∙ t .if4 .left; some = (let n = d .if3 .left in omega arith); covers = s .pre .covers (rooted e) })
 
 pub insert-spec : {M : Type 1} → statement M
 insert-spec =
     tie.close
     (tie.spec
-    slots-requires
-    same-length
+    (λ c κs. search needs)
+    (λ c. search needs)
     returns
-    put-leaf-requires
-    begin-requires
-    same-length-2
-    same-length-3
-    same-length-4
+    (λ c κs. search needs)
+    (λ c κs. search needs)
+    (λ c. search needs)
+    (λ c. search needs)
+    (λ c. search needs)
     returns-2
-    place-requires
-    same-length-5
-    same-length-6
-    same-length-7
+    (λ c κs. search needs)
+    (λ c. search needs)
+    (λ c. search needs)
+    (λ c. search needs)
     returns-3
-    cast-tag
-    sub-tag
+    (λ c. search needs)
+    (λ c. search needs)
     tag-requires
     place-requires-2
-    same-length-8
-    same-length-9
-    same-length-10
-    returns-4
+    (λ c. search needs)
+    (λ c. search needs)
+    (λ c. search needs)
+    (λ c. search needs)
     enlarge-requires
-    same-length-11
-    same-length-12
-    same-length-13
-    returns-5)
+    (λ c. search needs)
+    (λ c. search needs)
+    (λ c. search needs)
+    (λ c. search needs))
