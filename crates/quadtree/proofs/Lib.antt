@@ -12,3 +12,4 @@ pub mod AddWrap
 pub mod AddTurns
 pub mod AddPlaced
 pub mod AddInsert
+pub mod AddBuild

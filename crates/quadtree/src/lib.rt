@@ -1,5 +1,6 @@
 // The quadtree in lent slots, after fjadra's src/quadtree and src/extent.rs.
 pub mod add;
+pub mod build;
 pub mod chain;
 pub mod cover;
 pub mod extent;
