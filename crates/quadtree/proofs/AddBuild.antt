@@ -29,7 +29,8 @@ use Rattle.quadtree.specs.declared.add.Inserted.the-variants.{Done, Deep
 use Rattle.quadtree.specs.Slots.{inCells, Follows as Chained, Leads, Stands}
 use Rattle.quadtree.specs.Cover.{squareOf, Reachable, Near, CoveredTo}
 use Rattle.quadtree.specs.Add.{lead, Holds, Linked, Ranged, Puts, Placed, Covers, Inserts}
-use Rattle.quadtree.specs.Build.{particles, Follows, Extends}
+use Rattle.quadtree.specs.declared.build.Built.the-variants as Built
+use Rattle.quadtree.specs.Build.{particles, Builds, Follows, Extends}
 use Rattle.quadtree.proofs.CoverLaws as Laws
 use Rattle.quadtree.proofs.SlotsTree.{stored-leads}
 use Rattle.quadtree.proofs.AddChain.{chain-follows}
@@ -47,7 +48,7 @@ less-member : (k n i : ℕ) → k ≤ i → i < k + n → List·Memᴰ i (countF
 less-member k zero i h g = absurd (omega arith)
 less-member k (suc n) i h g = elim (ℕ-discrete i k) [ yes e ↦ List·Memᴰ·head e | no ne ↦ List·Memᴰ·tail (less-member (k + 1) n i (omega arith) (omega arith)) ]
 
-is-T : (b : Bool) → b ≡ true → T b
+pub is-T : (b : Bool) → b ≡ true → T b
 is-T b e = subst T (sym e) tt
 
 -- ---- the extent
@@ -247,3 +248,13 @@ module _ (at : List Float) where
       go none e h = h
       go (leaf z is) e h = let y : _≡_ {A = ℕ} 0 1 = cc in absurd (omega arith)
       go (node z t0 t1 t2 t3) e h = let y : _≡_ {A = ℕ} 0 1 = cc in absurd (omega arith)
+
+  -- after the last particle
+  pub build-end : (slots : ℕ) (m next tail : List ℕ) (q : Quadtree) (p : ℕ) → Building slots m next tail q p → Ranged at (particles at) → p ≤ particles at → particles at ≤ p → length m / 8 ≡ slots → Builds at m next (Built.Tree q)
+  build-end slots m next tail q p b r le ge s =
+      let n : ℕ = particles at in
+      let z : p ≡ n = omega arith in
+      let e : q .extent ≡ extentOf (coverFirst at n) = b .extent ∙ ap (λ (i : ℕ). extentOf (coverFirst at i)) z in
+      (ap (treeCheck at n) s ∙ b .check ∙ left-end n slots p ge,
+      holds-stands n m next tail q r (subst (λ (i : ℕ). Holds at (upTo i) m q) z (b .holds)) (subst (λ (i : ℕ). Linked at next tail i) z (b .linked)) e,
+      e)
