@@ -7,6 +7,9 @@ pub mod AddChain
 pub mod AddHold
 pub mod CoverEnds
 pub mod CoverDoublings
+mod CoverRounding
+pub mod CoverMiddles
+pub mod CoverCells
 pub mod CoverLaws
 pub mod AddWrap
 pub mod AddTurns
