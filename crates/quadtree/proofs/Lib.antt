@@ -1,7 +1,18 @@
 pub mod Fill
+pub mod Slots
+pub mod SlotsTree
+pub mod AddWay
+pub mod AddSplit
+pub mod AddChain
+pub mod AddHold
 pub mod CoverEnds
 pub mod CoverDoublings
 mod CoverRounding
 pub mod CoverMiddles
 pub mod CoverCells
 pub mod CoverLaws
+pub mod AddWrap
+pub mod AddTurns
+pub mod AddPlaced
+pub mod AddInsert
+pub mod AddBuild
