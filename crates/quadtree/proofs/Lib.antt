@@ -1,1 +1,4 @@
 pub mod Fill
+pub mod WalkStack
+pub mod WalkTurns
+pub mod Walking
