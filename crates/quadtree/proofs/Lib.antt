@@ -2,3 +2,5 @@ pub mod Fill
 pub mod WalkStack
 pub mod WalkTurns
 pub mod Walking
+pub mod WalkStands
+pub mod Trials

@@ -4,11 +4,14 @@ use mathlib.Core.List.{List, [], _∷_}
 use Prim.Native.Nat.{ℕ, zero, suc, _+_, _*_, _-_, _≤_, _<_, max}
 use native.Mathlib.Numerals.{add-one}
 use native.Mathlib.Omega.{arith}
+use lib.Dec.{eqb}
 use lib.ListN.{length}
+use borrow.Author.Tests.{ne-eqb}
 use Rattle.rules.specs.declared.Extent.{Extent}
 use Rattle.rules.specs.declared.Refusal.{Refusal}
 use Rattle.rules.specs.declared.Visit.{Visit}
 use Rattle.rules.specs.declared.Visit.the-variants.{Continue, Skip}
+use Rattle.rules.specs.Plain.{branch}
 use Rattle.rules.specs.Outcome.{Outcome, done, refused, _>>=_}
 use Rattle.rules.specs.Cell.{quarter}
 use Rattle.rules.specs.Tree.{Tree, none, leaf, node, nodes, depth}
@@ -63,6 +66,48 @@ module _ (P : List ℕ → Type 0) (m next : List ℕ) where
   stand-low (e ∷ es) (none ∷ ts) s = absurd (omega (arith, s .0 .0))
   stand-low (e ∷ es) (leaf i is ∷ ts) s = omega (arith, s .1)
   stand-low (e ∷ es) (node i t0 t1 t2 t3 ∷ ts) s = omega (arith, s .1)
+
+-- ---- how many nodes are found from what waits: it falls at each turn
+
+-- from a number, within k levels
+unfoldable pub under : List ℕ → ℕ → ℕ → ℕ
+under m zero p = 0
+under m (suc k) zero = 0
+under m (suc k) (suc s) = branch (eqb (word m s 0) 0) (λ _. 1 + under m k (kid m s 0) + under m k (kid m s 1) + under m k (kid m s 2) + under m k (kid m s 3)) (λ _. 1)
+
+-- 65 levels hold every tree
+abbrev pub left : List ℕ → List Waiting → ℕ
+left m [] = 0
+left m (e ∷ es) = under m 65 (e .slot + 1) + left m es
+
+module _ (m next : List ℕ) where
+  under-zero : (k : ℕ) → under m k 0 ≡ 0
+  unfolding under
+  under-zero zero = refl
+  under-zero (suc k) = refl
+
+  under-leaf : (k s f : ℕ) → word m s 0 ≡ f + 1 → under m (suc k) (s + 1) ≡ 1
+  unfolding under
+  under-leaf k s f e = rw (add-one s, ne-eqb (word m s 0) 0 (λ z. omega arith))
+
+  under-node : (k s : ℕ) → word m s 0 ≡ 0 → under m (suc k) (s + 1) ≡ 1 + under m k (kid m s 0) + under m k (kid m s 1) + under m k (kid m s 2) + under m k (kid m s 3)
+  unfolding under
+  under-node k s e = rw (add-one s, e)
+
+  under-nodes : (k p : ℕ) (t : Tree ℕ) → Leads m next p t → depth t ≤ k → under m k p ≡ nodes t
+  under-nodes k p none l d = ap (under m k) l ∙ under-zero k
+  under-nodes zero p (leaf s is) l d = absurd (omega arith)
+  under-nodes (suc k) p (leaf s is) l d = ap (under m (suc k)) (l .0) ∙ under-leaf k s (first is) (l .1)
+  under-nodes zero p (node s t0 t1 t2 t3) l d = absurd (omega arith)
+  under-nodes (suc k) p (node s t0 t1 t2 t3) l d =
+      ap (under m (suc k)) (l .0) ∙ under-node k s (l .1)
+      ∙ rw (under-nodes k (kid m s 0) t0 (l .2) (omega arith), under-nodes k (kid m s 1) t1 (l .3) (omega arith), under-nodes k (kid m s 2) t2 (l .4) (omega arith), under-nodes k (kid m s 3) t3 (l .5) (omega arith))
+
+  left-nodes : (P : List ℕ → Type 0) (es : List Waiting) (ts : List (Tree ℕ)) → Stand P m next es ts → left m es ≡ nodesAll ts
+  left-nodes P [] [] s = refl
+  left-nodes P [] (t ∷ ts) s = absurd s
+  left-nodes P (e ∷ es) [] s = absurd s
+  left-nodes P (e ∷ es) (t ∷ ts) s = rw (under-nodes 65 (e .slot + 1) t (s .0 .0) (omega (arith, s .1)), left-nodes P es ts (s .2))
 
 module _ {A S : Type 0} (step : Entry A → S → Outcome (After S)) (look : ℕ → Extent → A) (P : List ℕ → Type 0) (m next : List ℕ) where
   -- the rules' walk over each of the trees, top first
@@ -177,6 +222,16 @@ module _ {A S : Type 0} (step : Entry A → S → Outcome (After S)) (look : ℕ
         go (leaf i is ∷ ts) s b = (omega (arith, s .0 .0 .0, s .0 .1), omega arith)
         go (node i t0 t1 t2 t3 ∷ ts) s b = (omega (arith, s .0 .0 .0, s .0 .1 .0), omega arith)
 
+    -- fewer are left with the top taken off
+    pub falls : left m es < left m (e ∷ es)
+    falls = go (g .trees) (g .stands)
+      where
+        go : (ts : List (Tree ℕ)) → Stand P m next (e ∷ es) ts → left m es < left m (e ∷ es)
+        go [] s = absurd s
+        go (none ∷ ts) s = absurd (omega (arith, s .0 .0))
+        go (leaf i is ∷ ts) s = omega (arith, left-nodes m next P es ts (s .2), left-nodes m next P (e ∷ es) (leaf i is ∷ ts) s)
+        go (node i t0 t1 t2 t3 ∷ ts) s = omega (arith, left-nodes m next P es ts (s .2), left-nodes m next P (e ∷ es) (node i t0 t1 t2 t3 ∷ ts) s)
+
     module _ (z : word m (e .slot) 0 ≡ 0) where
       -- where it is an internal node, its children stand in its place
       record Inside : Type 0 where
@@ -186,6 +241,7 @@ module _ {A S : Type 0} (step : Entry A → S → Outcome (After S)) (look : ℕ
         t3 : Tree ℕ
         rest : List (Tree ℕ)
         beneath : Stand P m next es rest
+        all : left m (e ∷ es) ≡ 1 + nodes t0 + nodes t1 + nodes t2 + nodes t3 + nodesAll rest
         open′ : Opened (e .slot) (e .extent) t0 t1 t2 t3 es rest
         same : (walk step (node (look (e .slot) (e .extent)) (seen look (quarter 0 (e .extent)) t0) (seen look (quarter 1 (e .extent)) t1) (seen look (quarter 2 (e .extent)) t2) (seen look (quarter 3 (e .extent)) t3)) now
             >>= λ n. walks es rest n) ≡ walk step T begun
@@ -202,6 +258,7 @@ module _ {A S : Type 0} (step : Entry A → S → Outcome (After S)) (look : ℕ
             t3 = t3;
             rest = ts;
             beneath = s .2;
+            all = left-nodes m next P (e ∷ es) (node i t0 t1 t2 t3 ∷ ts) s;
             open′ = opened (e .slot) (e .extent) t0 t1 t2 t3 es ts
                 (rw q at (f .0 .2), f .1 .1, f .2 .0) (rw q at (f .0 .3), f .1 .2, f .2 .1) (rw q at (f .0 .4), f .1 .3, f .2 .2) (rw q at (f .0 .5), f .1 .4, f .2 .3) (s .1) (s .2);
             same = rw q at b;
@@ -222,6 +279,12 @@ module _ {A S : Type 0} (step : Entry A → S → Outcome (After S)) (look : ℕ
       -- its children find room
       pub room : length (layKids m (e .slot) (e .extent) es) ≤ 193
       room = stand-low P m next (layKids m (e .slot) (e .extent) es) (inside .open′ .trees) (inside .open′ .stands)
+
+      -- fewer are left with its children in its place
+      pub falls-down : left m (layKids m (e .slot) (e .extent) es) < left m (e ∷ es)
+      falls-down =
+          let i = inside in
+          omega (arith, i .all, left-nodes m next P (layKids m (e .slot) (e .extent) es) (i .open′ .trees) (i .open′ .stands), i .open′ .sum)
 
       -- what lies below is left out
       pub skip : (σ : S) → step (internal (look (e .slot) (e .extent))) (now .state) ≡ done (after σ Skip) → Going T begun es (counted σ (now .visits + 1))

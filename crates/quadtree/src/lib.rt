@@ -1,6 +1,7 @@
 // The quadtree in lent slots, after fjadra's src/quadtree and src/extent.rs.
 pub mod extent;
 pub mod store;
+pub mod trial;
 pub mod visit;
 
 use rules::Extent;
