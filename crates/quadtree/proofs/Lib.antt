@@ -4,3 +4,5 @@ pub mod WalkTurns
 pub mod Walking
 pub mod WalkStands
 pub mod Trials
+pub mod WalkClimb
+pub mod WalkSteps

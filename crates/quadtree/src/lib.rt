@@ -3,6 +3,7 @@ pub mod extent;
 pub mod store;
 pub mod trial;
 pub mod visit;
+pub mod visit_after;
 
 use rules::Extent;
 
