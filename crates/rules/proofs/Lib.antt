@@ -10,3 +10,16 @@ pub mod CoverSquare
 pub mod CoverReach
 pub mod CoverAll
 pub mod Cover
+pub mod CellFloat
+pub mod CellList
+pub mod CellPoints
+pub mod CellIs
+pub mod CellDeep
+pub mod CellCount
+pub mod CellChain
+pub mod CellInside
+pub mod CellInsert
+pub mod CellSize
+pub mod CellWrap
+pub mod CellMore
+pub mod CellRule
