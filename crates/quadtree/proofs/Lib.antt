@@ -16,3 +16,6 @@ pub mod WalkStands
 pub mod Trials
 pub mod WalkClimb
 pub mod WalkSteps
+pub mod WalkValues
+pub mod WalkFill
+pub mod WalkAfter

@@ -8,7 +8,7 @@ use lib.ListN.{length}
 use Rattle.rules.specs.Tree.{Tree, none, leaf, node, nodes, depth}
 use Rattle.rules.specs.Walk.{Entry, internal, tip, parentLast}
 use Rattle.quadtree.specs.Slots.{word, kid, Follows, first, Leads, EachSlot}
-use Rattle.quadtree.specs.WalkAfter.{Step, rooted, remaining, remainingAll, Steps, Climbs, EntryAt}
+use Rattle.quadtree.specs.WalkAfter.{Step, rooted, remaining, remainingAll, Steps, Climbs, Lent, KidsLent}
 
 -- ---- what remains of a tree
 
@@ -60,6 +60,12 @@ module _ (s : ℕ) (t0 t1 t2 t3 : Tree ℕ) where
   leads-pick m next (suc (suc (suc q))) h = h .5
 
 module _ (m next : List ℕ) where
+  lent-kid : (p : ℕ) (t : Tree ℕ) → Leads m next p t → EachSlot (λ s. s * 8 + 8 ≤ length m) t → Lent m p
+  lent-kid zero t l b = tt
+  lent-kid (suc p) none l b = absurd (omega (arith, l))
+  lent-kid (suc p) (leaf i is) l b = omega (arith, l .0, b)
+  lent-kid (suc p) (node i t0 t1 t2 t3) l b = omega (arith, l .0, b .0)
+
   -- ---- the ends
 
   pub climb-start : (p : ℕ) (t : Tree ℕ) → Leads m next p t → EachSlot (λ s. s * 8 + 8 ≤ length m) t → depth t ≤ 65 → Climbs m next (rooted p) (parentLast t)
@@ -171,11 +177,17 @@ module _ (m next : List ℕ) where
           }
 
       -- no child is left: it is handed out
-      pub climb-node : 3 < q → (others : List (Entry ℕ)) × (rest ≡ internal s ∷ others) × Climbs m next es others
+      pub climb-node : 3 < q → (others : List (Entry ℕ)) × (rest ≡ internal s ∷ others) × KidsLent m s × Climbs m next es others
       climb-node h =
           let o = open′ in (
             remainingAll es (o .trees),
             sym (o .same) ∙ ap (λ (l : List (Entry ℕ)). l ++ remainingAll es (o .trees)) (remaining-last s (o .t0) (o .t1) (o .t2) (o .t3) q h),
+            (
+              lent-kid (kid m s 0) (o .t0) (o .leads .2) (o .lent .1),
+              lent-kid (kid m s 1) (o .t1) (o .leads .3) (o .lent .2),
+              lent-kid (kid m s 2) (o .t2) (o .leads .4) (o .lent .3),
+              lent-kid (kid m s 3) (o .t3) (o .leads .5) (o .lent .4),
+            ),
             record { trees = o .trees; steps = o .below; same = refl },
           )
 

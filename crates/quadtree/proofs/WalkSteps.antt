@@ -77,7 +77,7 @@ module _ (m next l : List ℕ) (h : ℕ) (rest : List (Entry ℕ)) (c : Climbs m
     pub first-node : 3 < getD l (h * 2 + 1) 0 → First m next l h (getD l (h * 2) 0) rest
     first-node q =
         let r = climb-node m next (getD l (h * 2) 0) (getD l (h * 2 + 1) 0) (stepsAt l h) rest c z q in
-        record { entry = internal (getD l (h * 2) 0); others = r .0; split = r .1; stands = (refl, z); lent = lent .0; climbs = r .2 }
+        record { entry = internal (getD l (h * 2) 0); others = r .0; split = r .1; stands = (refl, z, r .2); lent = lent .0; climbs = r .3 }
 
     module _ (q : getD l (h * 2 + 1) 0 < 4) (b : length l ≡ 130) where
       -- the next quadrant, where there is no child

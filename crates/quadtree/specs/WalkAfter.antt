@@ -3,11 +3,14 @@ use mathlib.Core.Path.{_≡_}
 use mathlib.Core.List.{List, [], _∷_, _++_}
 use Prim.Native.Nat.{ℕ, zero, suc, _+_, _*_, _≤_, _<_}
 use lib.ListN.{length, getD}
-use Rattle.rules.specs.Tree.{Tree, none, leaf, node, depth}
-use Rattle.rules.specs.Walk.{Entry, internal, tip, parentLast}
+use lib.Ieee.{Float}
+use Rattle.rules.specs.Tree.{Tree, none, leaf, node, depth, treeOf}
+use Rattle.rules.specs.Walk.{Entry, internal, tip, valued, parentLast}
+use Rattle.quadtree.specs.declared.Quadtree.{Quadtree}
 use Rattle.quadtree.specs.declared.visit_after.Path.{Path}
 use Rattle.quadtree.specs.declared.visit_after.Handed.{Handed}
-use Rattle.quadtree.specs.Slots.{word, kid, Follows, first, Leads, EachSlot}
+use Rattle.quadtree.specs.Slots.{word, kid, Follows, first, Leads, EachSlot, Stands}
+use Rattle.quadtree.specs.Walk.{seen}
 
 -- ---- the path
 
@@ -68,9 +71,17 @@ pub record Climbing (m l : List ℕ) (h : ℕ) : Type 0 where
   pub some : 0 < h
   pub sized : length l ≡ 130
 
+-- the slot that a number leads to is lent
+abbrev pub Lent : List ℕ → ℕ → Type 0
+Lent m zero = Unit {0}
+Lent m (suc s) = s * 8 + 8 ≤ length m
+
+abbrev pub KidsLent : List ℕ → ℕ → Type 0
+KidsLent m s = Lent m (kid m s 0) × Lent m (kid m s 1) × Lent m (kid m s 2) × Lent m (kid m s 3)
+
 -- an entry is what stands at a slot
 abbrev pub EntryAt : List ℕ → List ℕ → ℕ → Entry ℕ → Type 0
-EntryAt m next s (internal i) = (i ≡ s) × (word m s 0 ≡ 0)
+EntryAt m next s (internal i) = (i ≡ s) × (word m s 0 ≡ 0) × KidsLent m s
 EntryAt m next s (tip i is) = (i ≡ s) × (word m s 0 ≡ first is + 1) × Follows next is
 
 -- the first of the entries that are to be handed out stands at this slot, and the others are left along the path
@@ -86,3 +97,24 @@ pub record First (m next l : List ℕ) (h s : ℕ) (rest : List (Entry ℕ)) : T
 pub record Descends (m l : List ℕ) (h : ℕ) (l′ : List ℕ) (r : Handed) : Type 0 where
   pub first : (next : List ℕ) (rest : List (Entry ℕ)) → Climbs m next (stepsAt l h) rest → First m next l′ (r .height) (r .slot) rest
   pub sized : length l′ ≡ 130
+
+-- ---- values are laid, children first
+
+-- P holds of each chain that is handed out
+abbrev pub EachTip : (List ℕ → Type 0) → List (Entry ℕ) → Type 0
+EachTip P [] = Unit {0}
+EachTip P (internal s ∷ es) = EachTip P es
+EachTip P (tip s is ∷ es) = P is × EachTip P es
+
+-- the values of the children of a slot that are there, in order
+abbrev pub valuesAt : {B : Type 0} → (List ℕ → ℕ → B) → List ℕ → ℕ → List B
+valuesAt read m zero = []
+valuesAt read m (suc s) = read m s ∷ []
+
+unfoldable pub kidValues : {B : Type 0} → (List ℕ → ℕ → B) → List ℕ → ℕ → List B
+kidValues read m s = valuesAt read m (kid m s 0) ++ valuesAt read m (kid m s 1) ++ valuesAt read m (kid m s 2) ++ valuesAt read m (kid m s 3)
+
+-- the slots hold the tree of the first n points, and what is read at each node is the rules' value: `ofLeaf` of its chain, or `ofNode` of its children's values
+pub record Valued {B : Type 0} (read : List ℕ → ℕ → B) (ofLeaf : List ℕ → B) (ofNode : List B → B) (at : List Float) (n : ℕ) (m next : List ℕ) (q : Quadtree) : Type 0 where
+  pub stands : Stands at n m next q
+  pub values : seen (λ s c. (c, read m s)) (q .extent) (stands .tree) ≡ valued (λ _ is. ofLeaf is) (λ _ bs. ofNode bs) (treeOf at n)

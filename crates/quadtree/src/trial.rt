@@ -1,10 +1,17 @@
 // Small functions over the two walks, each proved by the walks' laws.
 ghost use mathlib.Core.Path.{_≡_};
-ghost use Rattle.quadtree.specs.Trial.{Standing, narrow, Gathers};
+ghost use Prim.Native.Nat.{_+_, _*_, _≤_};
+ghost use lib.ListN.{length};
+ghost use Rattle.rules.specs.Plain.{foldl};
+ghost use Rattle.rules.specs.Number.{_⊕_};
+ghost use Rattle.quadtree.specs.WalkAfter.{Lent, KidsLent, valuesAt, kidValues};
+ghost use Rattle.quadtree.specs.Trial.{Standing, narrow, Gathers, firstOf, sum, CountsLeaves};
 use crate::Quadtree;
 use crate::store;
 use crate::visit;
 use crate::visit::Walk;
+use crate::visit_after;
+use crate::visit_after::Path;
 use rules::Extent;
 use rules::Visit;
 
@@ -71,4 +78,48 @@ pub fn gather(q: Quadtree, m: &[u64], limit: f64) -> Gathered
         }
     }
     Gathered { visits, total }
+}
+
+// A child's value is added, where there is a child.
+fn plus(m: &[u64], child: u32, total: f64) -> f64
+    requires { ⌜ Lent (now m) child ⌝ }
+    ensures { λ r. ⌜ r ≡ foldl _⊕_ total (valuesAt firstOf (now (m .entry)) child) ⌝ }
+{
+    if child == 0 {
+        return total;
+    }
+    total + store::node_value(m, visit::wide(child - 1), 0)
+}
+
+// The sum of the children's first values.
+fn sum_below(m: &[u64], s: usize) -> f64
+    requires { ⌜ (s * 8 + 8 ≤ length (now m)) × KidsLent (now m) s ⌝ }
+    ensures { λ r. ⌜ r ≡ sum (kidValues firstOf (now (m .entry)) s) ⌝ }
+{
+    let children = store::children(m, s);
+    let t0 = plus(m, children[0], 0.0);
+    let t1 = plus(m, children[1], t0);
+    let t2 = plus(m, children[2], t1);
+    plus(m, children[3], t2)
+}
+
+// The number of leaves below it is laid in each node, children first.
+pub fn count_leaves(q: Quadtree, m: &mut [u64])
+    requires { ⌜ Standing (now m) q ⌝ }
+    ensures { λ _. ⌜ CountsLeaves (now (m .entry)) (now (m .exit)) q ⌝ }
+{
+    let mut left = q.nodes;
+    let mut p = Path::begin(q.root);
+    while 0 < left {
+        let h = p.height;
+        let e = visit_after::next(&mut p.steps, h, m);
+        let s = e.slot;
+        p.height = e.height;
+        left -= 1;
+        if store::tag(m, s) == 0 {
+            store::put_value(m, s, 0, sum_below(m, s));
+        } else {
+            store::put_value(m, s, 0, 1.0);
+        }
+    }
 }

@@ -18,7 +18,7 @@ pub struct Waiting {
     pub extent: Extent,
 }
 
-fn wide(s: u32) -> usize
+pub fn wide(s: u32) -> usize
     ensures { λ r. ⌜ r ≡ s ⌝ }
 {
     s as usize

@@ -3,6 +3,7 @@ ghost use mathlib.Core.Path.{_≡_};
 ghost use lib.ListN.{length};
 ghost use Rattle.quadtree.specs.WalkAfter.{stepsOf, rooted, Climbing, Descends};
 use crate::store;
+use crate::visit;
 
 // At most 65 slots from the root down, each beside the quadrant that is next there.
 pub struct Path {
@@ -30,12 +31,6 @@ impl Path {
     }
 }
 
-fn wide(x: u32) -> usize
-    ensures { λ r. ⌜ r ≡ x ⌝ }
-{
-    x as usize
-}
-
 // The next node, all of whose children are handed out: the way goes down to a child as long as there is one that is not.
 pub fn next(steps: &mut [u32; 130], height: usize, m: &[u64]) -> Handed
     requires { ⌜ Climbing (now m) (now steps) height ⌝ }
@@ -44,7 +39,7 @@ pub fn next(steps: &mut [u32; 130], height: usize, m: &[u64]) -> Handed
     let mut h = height - 1;
     loop {
         let at = h * 2;
-        let s = wide(steps[at]);
+        let s = visit::wide(steps[at]);
         let quadrant = steps[at + 1];
         if store::tag(m, s) != 0 {
             return Handed { slot: s, height: h };
@@ -53,7 +48,7 @@ pub fn next(steps: &mut [u32; 130], height: usize, m: &[u64]) -> Handed
             return Handed { slot: s, height: h };
         }
         let children = store::children(m, s);
-        let child = children[wide(quadrant)];
+        let child = children[visit::wide(quadrant)];
         steps[at + 1] = quadrant + 1;
         if child != 0 {
             steps[at + 2] = child - 1;
