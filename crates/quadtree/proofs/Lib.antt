@@ -19,3 +19,4 @@ pub mod WalkSteps
 pub mod WalkValues
 pub mod WalkFill
 pub mod WalkAfter
+pub mod WalkTheorems
