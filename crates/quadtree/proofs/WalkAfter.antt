@@ -11,7 +11,7 @@ use Rattle.rules.specs.Walk.{Entry, internal, tip, valued, parentLast}
 use Rattle.quadtree.specs.declared.Quadtree.{Quadtree}
 use Rattle.quadtree.specs.declared.visit_after.Path.{Path}
 use Rattle.quadtree.specs.declared.visit_after.Handed.{Handed}
-use Rattle.quadtree.specs.Slots.{word, kid, kids, Follows, first, EachSlot, Stands}
+use Rattle.quadtree.specs.Slots.{word, kid, kids, Follows, first, Stands}
 use Rattle.quadtree.specs.Walk.{EachChain, ChainFrom}
 use Rattle.quadtree.specs.WalkAfter.{Step, stepsAt, stepsOf, rooted, Steps, Climbs, Climbing, EntryAt, First, Descends, Lent, KidsLent, EachTip, valuesAt, kidValues, Valued}
 use Rattle.quadtree.proofs.WalkClimb.{climb-start, climb-end}

@@ -1,11 +1,11 @@
 -- A walk parent last along its path: what each kind of turn does to what is still to be handed out. Assumes nothing.
 use mathlib.Core.Path.{_≡_, refl, sym, ap, _∙_, subst}
 use mathlib.Core.List.{List, [], _∷_, _++_, append-assoc, append-nil}
-use Prim.Native.Nat.{ℕ, zero, suc, _+_, _*_, _-_, _≤_, _<_, max}
+use Prim.Native.Nat.{ℕ, zero, suc, _+_, _*_, _-_, _≤_, _<_}
 use native.Mathlib.Numerals.{add-one}
 use native.Mathlib.Omega.{arith}
 use lib.ListN.{length}
-use Rattle.rules.specs.Tree.{Tree, none, leaf, node, nodes, depth}
+use Rattle.rules.specs.Tree.{Tree, none, leaf, node, depth}
 use Rattle.rules.specs.Walk.{Entry, internal, tip, parentLast}
 use Rattle.quadtree.specs.Slots.{word, kid, Follows, first, Leads, EachSlot}
 use Rattle.quadtree.specs.WalkAfter.{Step, rooted, remaining, remainingAll, Steps, Climbs, Lent, KidsLent}

@@ -11,7 +11,7 @@ use Rattle.rules.specs.declared.Extent.{Extent}
 use Rattle.rules.specs.Cell.{quarter}
 use Rattle.quadtree.specs.declared.visit.Walk.{Walk}
 use Rattle.quadtree.specs.declared.visit.Waiting.{Waiting}
-use Rattle.quadtree.specs.Slots.{kid, kids}
+use Rattle.quadtree.specs.Slots.{kids}
 use Rattle.quadtree.specs.Walk.{waiting, cellAt, waitingAt, stackAt, stackOf, Sized, lay, layKids, above, putSlot, putCell, height2, height1, height0, heightAfter, putSlots, putCells}
 
 -- ---- a number is that of a slot, or none
@@ -134,6 +134,21 @@ module _ (h : ℕ) (ks : List ℕ) (r : heightAfter h ks ≤ 193) where
 
   pub fits2 : height2 h ks ≤ 193
   fits2 = omega (arith, fits1, above-more (height2 h ks) (getD ks 2 0))
+
+-- four numbers laid one after the other are the four of a node
+module _ (h : ℕ) (ks : List ℕ) {h2 h1 h0 : ℕ} (e2 : h2 ≡ above h (getD ks 3 0)) (e1 : h1 ≡ above h2 (getD ks 2 0)) (e0 : h0 ≡ above h1 (getD ks 1 0)) where
+  pub height-laid : {r : ℕ} → r ≡ above h0 (getD ks 0 0) → r ≡ heightAfter h ks
+  unfolding heightAfter
+  height-laid e = rw (e, e0, e1, e2)
+
+  pub slots-laid : (ss : List ℕ) {s2 s1 s0 s : List ℕ} → s2 ≡ putSlot ss h (getD ks 3 0) → s1 ≡ putSlot s2 h2 (getD ks 2 0) → s0 ≡ putSlot s1 h1 (getD ks 1 0) → s ≡ putSlot s0 h0 (getD ks 0 0) → s ≡ putSlots ss h ks
+  unfolding putSlots
+  slots-laid ss q2 q1 q0 q = rw (q, q0, q1, q2, e0, e1, e2)
+
+  pub cells-laid : (c : Extent) (es : List Float) {c3 c2 c1 c0 : Extent} {s2 s1 s0 s : List Float} → c3 ≡ quarter 3 c → c2 ≡ quarter 2 c → c1 ≡ quarter 1 c → c0 ≡ quarter 0 c
+      → s2 ≡ putCell es h (getD ks 3 0) c3 → s1 ≡ putCell s2 h2 (getD ks 2 0) c2 → s0 ≡ putCell s1 h1 (getD ks 1 0) c1 → s ≡ putCell s0 h0 (getD ks 0 0) c0 → s ≡ putCells es h ks c
+  unfolding putCells
+  cells-laid c es d3 d2 d1 d0 q2 q1 q0 q = rw (q, q0, q1, q2, d3, d2, d1, d0, e0, e1, e2)
 
 -- what waits with four numbers laid
 abbrev layFour : List ℕ → Extent → List Waiting → List Waiting

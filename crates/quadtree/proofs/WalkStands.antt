@@ -1,5 +1,5 @@
 -- A walk begins where the slots hold a tree. Assumes nothing.
-use mathlib.Core.Path.{_≡_, refl, sym, ap, _∙_, subst}
+use mathlib.Core.Path.{_≡_, refl, sym, _∙_, subst}
 use mathlib.Core.Bool.{Bool, true, false, cond}
 use mathlib.Core.List.{List, [], _∷_}
 use Prim.Native.Nat.{ℕ, zero, suc, _+_, _*_, _≤_, _<_}
@@ -10,7 +10,7 @@ use Rattle.rules.specs.declared.Extent.{Extent}
 use Rattle.rules.specs.Plain.{keep, countFrom, upTo, branch}
 use Rattle.rules.specs.Outcome.{Outcome}
 use Rattle.rules.specs.Cell.{quarter}
-use Rattle.rules.specs.Tree.{Tree, none, leaf, node, nodes, depth, inQuarter, pointsIn, alike, grow, treeIn, treeOf}
+use Rattle.rules.specs.Tree.{Tree, none, leaf, node, nodes, inQuarter, pointsIn, alike, grow, treeIn, treeOf}
 use Rattle.rules.specs.Walk.{Entry, Counted, After}
 use Rattle.quadtree.specs.declared.Quadtree.{Quadtree}
 use Rattle.quadtree.specs.declared.visit.Walk.{Walk}

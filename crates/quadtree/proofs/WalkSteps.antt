@@ -8,7 +8,7 @@ use lib.ListN.{length, getD, set, length-set}
 use lib.Seq.{getD-set-same, getD-set-other}
 use Rattle.rules.specs.Walk.{Entry, internal, tip}
 use Rattle.quadtree.specs.Slots.{word, kid, kids}
-use Rattle.quadtree.specs.WalkAfter.{Step, stepsAt, rooted, Climbs, First}
+use Rattle.quadtree.specs.WalkAfter.{stepsAt, rooted, Climbs, First}
 use Rattle.quadtree.proofs.WalkClimb.{climb-lent, climb-leaf, climb-node, climb-past, climb-down}
 
 pub length-steps : (l : List ℕ) (h : ℕ) → length (stepsAt l h) ≡ h

@@ -1,5 +1,5 @@
 -- A walk parent first by what waits, over the rules' walk: what holds at every turn, and what each kind of turn does to that. Said once for every walk. Assumes nothing.
-use mathlib.Core.Path.{_≡_, refl, sym, ap, _∙_, subst}
+use mathlib.Core.Path.{_≡_, refl, sym, ap, _∙_}
 use mathlib.Core.List.{List, [], _∷_}
 use Prim.Native.Nat.{ℕ, zero, suc, _+_, _*_, _-_, _≤_, _<_, max}
 use native.Mathlib.Numerals.{add-one}
@@ -18,7 +18,7 @@ use Rattle.rules.specs.Tree.{Tree, none, leaf, node, nodes, depth}
 use Rattle.rules.specs.Walk.{Entry, internal, tip, Counted, counted, After, after, walk}
 use Rattle.quadtree.specs.declared.visit.Waiting.{Waiting}
 use Rattle.quadtree.specs.Slots.{word, kid, Follows, first, Leads, EachSlot}
-use Rattle.quadtree.specs.Walk.{waiting, lay, layKids, seen, EachChain, ChainFrom}
+use Rattle.quadtree.specs.Walk.{lay, layKids, seen, EachChain, ChainFrom}
 
 -- ---- what follows what was done
 

@@ -1,23 +1,17 @@
 -- Values that are laid in the slots children first are the rules' values, and change nothing that a tree sees. Assumes nothing.
-use mathlib.Core.Path.{_≡_, refl, sym, ap, ap₂, _∙_, subst, subst⁻¹}
-use mathlib.Core.List.{List, [], _∷_, _++_}
-use Prim.Native.Nat.{ℕ, zero, suc, _+_, _*_, _≤_, _<_}
-use native.Mathlib.Numerals.{add-one}
+use mathlib.Core.Path.{_≡_, refl, sym, ap, _∙_, subst}
+use mathlib.Core.List.{List, []}
+use Prim.Native.Nat.{ℕ, _+_, _*_, _≤_, _<_}
 use native.Mathlib.Omega.{arith}
 use lib.Dec.{T}
-use lib.ListN.{length, getD, set}
+use lib.ListN.{length, getD}
 use lib.Seq.{getD-set-other}
 use lib.Ieee.{Float, fits, binary64}
 use lib.Ieee.Bits.{ofBits-toBits}
-use Rattle.rules.specs.declared.Extent.{Extent}
 use Rattle.rules.specs.Number.{floatOf, bitsOf}
-use Rattle.rules.specs.Cell.{quarter}
 use Rattle.rules.specs.Tree.{Tree, none, leaf, node}
-use Rattle.rules.specs.Walk.{Entry, internal, tip, valued, present, parentLast}
-use Rattle.quadtree.specs.Slots.{word, put, kid, kids, value, putValue, Leads, EachSlot, Apart, Once, inCells}
-use Rattle.quadtree.specs.Walk.{seen, EachChain}
+use Rattle.quadtree.specs.Slots.{word, put, kid, value, putValue, Leads}
 use Rattle.quadtree.proofs.Slots.{put-same, put-other, put-word, put-length, Same, same-words}
-use Rattle.quadtree.proofs.SlotsTree.{each-map}
 
 -- ---- what a tree sees
 

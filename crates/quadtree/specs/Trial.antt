@@ -9,8 +9,7 @@ use Rattle.rules.specs.declared.Visit.the-variants.{Continue}
 use Rattle.rules.specs.Plain.{foldl}
 use Rattle.rules.specs.Outcome.{Outcome, done}
 use Rattle.rules.specs.Number.{_⊕_, _⊖_, 0·, 1·}
-use Rattle.rules.specs.Tree.{Tree}
-use Rattle.rules.specs.Walk.{Entry, internal, tip, Counted, counted, After, after, stopIf, walk}
+use Rattle.rules.specs.Walk.{Entry, internal, tip, counted, After, after, stopIf, walk}
 use Rattle.quadtree.specs.declared.Quadtree.{Quadtree}
 use Rattle.quadtree.specs.Slots.{value, Stands}
 use Rattle.quadtree.specs.Walk.{seen}

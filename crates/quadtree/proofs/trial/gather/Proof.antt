@@ -1,22 +1,21 @@
-use mathlib.Core.Path.{_≡_, refl, sym, ap, _∙_}
+use mathlib.Core.Path.{_≡_, sym, _∙_}
 use mathlib.Core.List.{List, []}
 use Prim.Native.Nat.{ℕ}
 use native.Mathlib.Omega.{arith}
 use borrow.Author.Needs.{needs}
 use lib.Ieee.{Float}
 use Rattle.rules.specs.declared.Extent.{Extent}
-use Rattle.rules.specs.declared.Visit.{Visit}
 use Rattle.rules.specs.declared.Visit.the-variants.{Continue, Skip}
-use Rattle.rules.specs.Outcome.{done}
-use Rattle.rules.specs.Number.{0·, _⊕_}
+use Rattle.rules.specs.Number.{0·}
 use Rattle.rules.specs.Tree.{Tree}
-use Rattle.rules.specs.Walk.{internal, counted, after, stopIf}
+use Rattle.rules.specs.Walk.{counted}
 use Rattle.quadtree.specs.declared.Quadtree.{Quadtree}
-use Rattle.quadtree.specs.Slots.{word, value}
+use Rattle.quadtree.specs.Slots.{word}
 use Rattle.quadtree.specs.Walk.{stackOf, lay, seen}
-use Rattle.quadtree.specs.Trial.{Standing, firstValue, narrow, gatherStep}
+use Rattle.quadtree.specs.Trial.{Standing, firstValue, gatherStep}
 use Rattle.quadtree.proofs.Walking.{Walking, Turn, Pushed, leftOf, finish, low, reach, falls, room, turn-skip, turn-down, falls-down, turn-leaf}
 use Rattle.quadtree.proofs.WalkStands.{start-stands, nodes-stands, chains-any}
+use Rattle.quadtree.proofs.Trials.{gathers-inner, gathers-tip}
 use Rattle.quadtree.proofs.trial.gather.Statement.{statement}
 use Rattle.quadtree.proofs.trial.gather.Tie as tie
 
@@ -76,19 +75,19 @@ pushed c =
     }
 
 loop-again : tie.Need-loop-again Inv-loop μ-loop
-loop-again c = λ q s e. turn-down (turn (c .before .before .before .before .before .before .before .before .before .before .before .before .before) q s e) (inner (c .before .before .before .before .before .before .before .before .before)) (pushed c) (cc)
+loop-again c = λ q s e. turn-down (turn (c .before .before .before .before .before .before .before .before .before .before .before .before .before) q s e) (inner (c .before .before .before .before .before .before .before .before .before)) (pushed c) (gathers-inner _ _ _ _ _ (c .before .before .before .before .before .before .before .before .before .before .before .node-value .ensures) Continue (c .before .before .before .before .before .before .before .before .is-narrow .ensures) (c .before .before .before .before .before .before .before .stop-if .ensures) (c .before .before .before .before .before .enum-told .given .1))
 
 enum-told-2 : tie.Need-enum-told-2 Inv-loop μ-loop
 enum-told-2 c = search needs
 
 loop-again-2 : tie.Need-loop-again-2 Inv-loop μ-loop
-loop-again-2 c = λ q s e. turn-skip (turn (c .before .before .before .before .before .before .before .before) q s e) (inner (c .before .before .before .before)) (cc)
+loop-again-2 c = λ q s e. turn-skip (turn (c .before .before .before .before .before .before .before .before) q s e) (inner (c .before .before .before .before)) (gathers-inner _ _ _ _ _ (c .before .before .before .before .before .before .node-value .ensures) Skip (c .before .before .before .is-narrow .ensures) (c .before .before .stop-if .ensures) (c .enum-told2 .given .1))
 
 leaf : (c : tie.Else1 Inv-loop μ-loop) → word (c .before .before .before .before .before .before .before .before .before .before .before .before .before .args .m .now) (c .before .before .before .before .waiting-at .result .slot) 0 ≡ 0 → ⊥
 leaf c z = c .if1 .left (c .before .tag .ensures ∙ z)
 
 loop-again-3 : tie.Need-loop-again-3 Inv-loop μ-loop
-loop-again-3 c = λ q s e. turn-leaf (turn (c .before .before .before .before) q s e) (leaf c) Continue (λ is f b p. cc)
+loop-again-3 c = λ q s e. turn-leaf (turn (c .before .before .before .before) q s e) (leaf c) Continue (λ is f b p. gathers-tip (c .before .before .before .before .before .before .before .before .before .before .before .before .before .args .limit) _ _ _ (c .before .before .before .before .waiting-at .result .extent) (c .before .before .node-value .ensures) is)
 
 returns : tie.Need-returns Inv-loop μ-loop
 returns c = λ s. finish (c .before .loop .inv (c .before .before .before .before .before .args .q) s (c .before .before .begin .ensures .1)) (omega arith)

@@ -1,6 +1,6 @@
 use borrow.Author.Needs.{needs}
-use Rattle.quadtree.specs.Walk.{heightAfter, putSlots}
-use Rattle.quadtree.proofs.WalkStack.{fits0, fits1, fits2}
+use Rattle.quadtree.specs.Walk.{heightAfter}
+use Rattle.quadtree.proofs.WalkStack.{fits0, fits1, fits2, slots-laid, height-laid}
 use Rattle.quadtree.proofs.visit.push_slots.Statement.{statement}
 use Rattle.quadtree.proofs.visit.push_slots.Tie as tie
 
@@ -18,8 +18,13 @@ unfolding heightAfter
 push-slot-requires-4 c κs = rw (c .before .push-slot3 .ensures .1, c .before .before .before .push-slot2 .ensures .1, c .before .before .before .before .before .push-slot .ensures .1) (c .before .before .before .before .before .before .before .pre)
 
 returns : tie.Need-returns
-unfolding putSlots heightAfter
-returns c = ((cc), (cc))
+returns c =
+    let a = c .before .before .before .before .before .before .before .before in
+    let e2 = c .before .before .before .before .before .before .push-slot .ensures in
+    let e1 = c .before .before .before .before .push-slot2 .ensures in
+    let e0 = c .before .before .push-slot3 .ensures in
+    let e = c .push-slot4 .ensures in
+    (slots-laid (a .args .h) (a .args .t3) (e2 .1) (e1 .1) (e0 .1) (a .args .slots .now) (e2 .0) (e1 .0) (e0 .0) (e .0), height-laid (a .args .h) (a .args .t3) (e2 .1) (e1 .1) (e0 .1) (e .1))
 
 pub push-slots-spec : {M : Type 1} → statement M
 push-slots-spec =
