@@ -16,3 +16,14 @@ pub mod AddTurns
 pub mod AddPlaced
 pub mod AddInsert
 pub mod AddBuild
+pub mod WalkStack
+pub mod WalkTurns
+pub mod Walking
+pub mod WalkStands
+pub mod Trials
+pub mod WalkClimb
+pub mod WalkSteps
+pub mod WalkValues
+pub mod WalkFill
+pub mod WalkAfter
+pub mod WalkTheorems

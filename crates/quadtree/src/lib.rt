@@ -7,6 +7,9 @@ pub mod extent;
 pub mod indexer;
 pub mod point;
 pub mod store;
+pub mod trial;
+pub mod visit;
+pub mod visit_after;
 
 use rules::Extent;
 
