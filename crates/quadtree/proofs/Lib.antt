@@ -1,1 +1,4 @@
 pub mod Fill
+mod ListChain
+mod ListRows
+mod ListTree

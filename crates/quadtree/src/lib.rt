@@ -1,4 +1,5 @@
 // The quadtree in lent slots, after fjadra's src/quadtree and src/extent.rs.
+mod list;
 pub mod store;
 
 use rules::Extent;

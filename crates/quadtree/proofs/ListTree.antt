@@ -1,0 +1,100 @@
+-- A tree in slots, taken apart for its listing.
+use mathlib.Core.Path.{_≡_, refl, sym, ap, subst, _∙_}
+use mathlib.Core.List.{List, [], _∷_, _++_}
+use Prim.Native.Nat.{ℕ, _+_, _-_, _*_, _≤_, _<_, max}
+use native.Mathlib.Omega.{arith}
+use lib.ListN.{length, getD, length-append}
+use Rattle.rules.specs.Tree.{Tree, none, leaf, node, depth, nodes, rowsFrom, chainsOf}
+use Rattle.quadtree.specs.Slots.{word, kid, kids, first, Follows, Leads, EachSlot}
+use Rattle.quadtree.specs.List.{Linked, Below, Chain, Leaf, Lies, Listable}
+use Rattle.quadtree.specs.declared.list.Cursor.{Cursor}
+use Rattle.quadtree.proofs.ListChain.{follows-linked}
+
+-- ---- numbers below a bound
+
+below-append : (n : ℕ) (is js : List ℕ) → Below n (is ++ js) → Below n is × Below n js
+below-append n [] js b = (tt, b)
+below-append n (i ∷ is) js b = let r = below-append n is js (b .1) in ((b .0, r .0), r .1)
+
+module _ (m next : List ℕ) (p level : ℕ) where
+  -- 0 leads to no tree
+  pub lies-none : (t : Tree ℕ) → Lies m next p level t → p ≡ 0 → t ≡ none
+  lies-none none l z = refl
+  lies-none (leaf s is) l z = absurd (omega (arith, l .leads .0))
+  lies-none (node s t0 t1 t2 t3) l z = absurd (omega (arith, l .leads .0))
+
+  -- any other number leads to a node, whose slot is there
+  pub record Some (t : Tree ℕ) : Type 0 where
+    pub slot : (p - 1) * 8 + 8 ≤ length m
+    pub shallow : level ≤ 64
+    pub one : 1 ≤ nodes t
+
+  pub lies-some : (t : Tree ℕ) → Lies m next p level t → (p ≡ 0 → ⊥) → Some t
+  lies-some none l f = absurd (f (l .leads))
+  lies-some (leaf s is) l f = record { slot = omega (arith, l .leads .0, l .slots); shallow = omega (arith, l .levels); one = omega arith }
+  lies-some (node s t0 t1 t2 t3) l f = record { slot = omega (arith, l .leads .0, l .slots .0); shallow = omega (arith, l .levels); one = omega arith }
+
+  -- with a first word that is not 0 it is a leaf, whose chain begins there
+  pub record IsLeaf (w : ℕ) (t : Tree ℕ) : Type 0 where
+    pub label : ℕ
+    pub chain : List ℕ
+    pub is : t ≡ leaf label chain
+    pub linked : Linked next w chain
+    pub below : Below (length next) chain
+    pub small : w ≤ length next
+
+  pub lies-leaf : (w : ℕ) (t : Tree ℕ) → Lies m next p level t → (p ≡ 0 → ⊥) → w ≡ word m (p - 1) 0 → (w ≡ 0 → ⊥) → IsLeaf w t
+  lies-leaf w none l f e g = absurd (f (l .leads))
+  lies-leaf w (leaf s is) l f e g =
+      let k : p - 1 ≡ s = omega (arith, l .leads .0) in
+      let h : w ≡ first is + 1 = e ∙ ap (λ (i : ℕ). word m i 0) k ∙ l .leads .1 in
+      record { label = s; chain = is; is = refl; linked = rw h (follows-linked next is (l .leads .2)); below = l .below; small = go is h (l .leads .2) (l .below) }
+    where
+      go : (is : List ℕ) → w ≡ first is + 1 → Follows next is → Below (length next) is → w ≤ length next
+      go [] h c b = absurd c
+      go (i ∷ is) h c b = omega (arith, b .0)
+  lies-leaf w (node s t0 t1 t2 t3) l f e g =
+      let k : p - 1 ≡ s = omega (arith, l .leads .0) in
+      absurd (g (e ∙ ap (λ (i : ℕ). word m i 0) k ∙ l .leads .1))
+
+-- with a first word that is 0 it is an internal node, over the trees that its children lead to
+pub record IsNode (m next ks : List ℕ) (level : ℕ) (t : Tree ℕ) : Type 0 where
+  pub label : ℕ
+  pub t0 : Tree ℕ
+  pub t1 : Tree ℕ
+  pub t2 : Tree ℕ
+  pub t3 : Tree ℕ
+  pub is : t ≡ node label t0 t1 t2 t3
+  pub l0 : Lies m next (getD ks 0 0) (level + 1) t0
+  pub l1 : Lies m next (getD ks 1 0) (level + 1) t1
+  pub l2 : Lies m next (getD ks 2 0) (level + 1) t2
+  pub l3 : Lies m next (getD ks 3 0) (level + 1) t3
+  pub nodes : nodes t ≡ 1 + nodes t0 + nodes t1 + nodes t2 + nodes t3
+  pub chains : length (chainsOf t) ≡ length (chainsOf t0) + length (chainsOf t1) + length (chainsOf t2) + length (chainsOf t3)
+
+pub lies-node : (m next ks : List ℕ) (p level w : ℕ) (t : Tree ℕ) → Lies m next p level t → (p ≡ 0 → ⊥) → w ≡ word m (p - 1) 0 → w ≡ 0 → ks ≡ kids m (p - 1)
+    → IsNode m next ks level t
+lies-node m next ks p level w none l f e z k = absurd (f (l .leads))
+lies-node m next ks p level w (leaf s is) l f e z k =
+    let h : p - 1 ≡ s = omega (arith, l .leads .0) in
+    absurd (omega (arith, e ∙ ap (λ (i : ℕ). word m i 0) h ∙ l .leads .1))
+lies-node m next ks p level w (node s t0 t1 t2 t3) l f e z k =
+    let h : p - 1 ≡ s = omega (arith, l .leads .0) in
+    let b = below-append (length next) (chainsOf t0 ++ chainsOf t1 ++ chainsOf t2) (chainsOf t3) (l .below) in
+    let d = below-append (length next) (chainsOf t0 ++ chainsOf t1) (chainsOf t2) (b .0) in
+    let g = below-append (length next) (chainsOf t0) (chainsOf t1) (d .0) in
+    rw (k, h)
+    (record {
+      label = s;
+      t0 = t0;
+      t1 = t1;
+      t2 = t2;
+      t3 = t3;
+      is = refl;
+      l0 = record { leads = l .leads .2; levels = omega (arith, l .levels); slots = l .slots .1; below = g .0 };
+      l1 = record { leads = l .leads .3; levels = omega (arith, l .levels); slots = l .slots .2; below = g .1 };
+      l2 = record { leads = l .leads .4; levels = omega (arith, l .levels); slots = l .slots .3; below = d .1 };
+      l3 = record { leads = l .leads .5; levels = omega (arith, l .levels); slots = l .slots .4; below = b .1 };
+      nodes = refl;
+      chains = simp length-append;
+    })
