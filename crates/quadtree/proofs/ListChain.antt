@@ -37,13 +37,18 @@ linked-unique next p (i ∷ is) (j ∷ js) a b =
 module _ (next before : List ℕ) (p at : ℕ) where
   -- The chain from p on is being written behind the first `at`: it is left to write the one from `link` on at `end`.
   pub record Chaining (chains : List ℕ) (link end : ℕ) : Type 0 where
-    pub left : Chain next link (length before) end
+    pub left : List ℕ
+    pub chain : Chain next link (length before) end left
     pub size : length chains ≡ length before
-    pub whole : (w : Chain next p (length before) at)
-      → (overwritten before at (w .chain) ≡ overwritten chains end (left .chain)) × (at + length (w .chain) ≡ end + length (left .chain))
+    pub whole : (is : List ℕ) → Chain next p (length before) at is → (overwritten before at is ≡ overwritten chains end left) × (at + length is ≡ end + length left)
 
-  pub chaining-start : Chain next p (length before) at → Chaining before p at
-  chaining-start v = record { left = v; size = refl; whole = λ w. let e = linked-unique next p (w .chain) (v .chain) (w .linked) (v .linked) in (rw e, rw e) }
+  pub chaining-start : (is : List ℕ) × Chain next p (length before) at is → Chaining before p at
+  chaining-start v = record {
+    left = v .0;
+    chain = v .1;
+    size = refl;
+    whole = λ is w. let e = linked-unique next p is (v .0) (w .linked) (v .1 .linked) in (rw e, rw e);
+  }
 
   -- a link that is not the end leads to a particle, and there is room for it
   pub record Here (link end : ℕ) : Type 0 where
@@ -52,33 +57,34 @@ module _ (next before : List ℕ) (p at : ℕ) where
     pub room : end < length before
 
   pub chaining-here : (chains : List ℕ) (link end : ℕ) → Chaining chains link end → (link ≡ 0 → ⊥) → Here link end
-  chaining-here chains link end h f = go (h .left .chain) (h .left .linked) (h .left .below) (h .left .room)
+  chaining-here chains link end h f = go (h .left) (h .chain)
     where
-      go : (is : List ℕ) → Linked next link is → Below (length next) is → end + length is ≤ length before → Here link end
-      go [] l b r = absurd (f l)
-      go (i ∷ is) l b r = record { some = omega arith; inside = omega arith; room = omega arith }
+      go : (is : List ℕ) → Chain next link (length before) end is → Here link end
+      go [] v = absurd (f (v .linked))
+      go (i ∷ is) v = record { some = omega (arith, v .linked .0); inside = omega (arith, v .linked .0, v .below .0); room = omega (arith, v .room) }
 
   pub chaining-turn : (chains : List ℕ) (link end : ℕ) → Chaining chains link end → (link ≡ 0 → ⊥)
       → Chaining (set chains end (link - 1)) (getD next (link - 1) 0) (end + 1)
-  chaining-turn chains link end h f = go (h .left .chain) (h .left .linked) (h .left .below) (h .left .room) (h .whole)
+  chaining-turn chains link end h f = go (h .left) (h .chain) (h .whole)
     where
-      go : (is : List ℕ) → Linked next link is → Below (length next) is → end + length is ≤ length before
-          → ((w : Chain next p (length before) at) → (overwritten before at (w .chain) ≡ overwritten chains end is) × (at + length (w .chain) ≡ end + length is))
+      go : (js : List ℕ) → Chain next link (length before) end js
+          → ((is : List ℕ) → Chain next p (length before) at is → (overwritten before at is ≡ overwritten chains end js) × (at + length is ≡ end + length js))
           → Chaining (set chains end (link - 1)) (getD next (link - 1) 0) (end + 1)
-      go [] l b r g = absurd (f l)
-      go (i ∷ is) l b r g =
-          let e : link - 1 ≡ i = omega arith in
+      go [] v g = absurd (f (v .linked))
+      go (i ∷ js) v g =
+          let e : link - 1 ≡ i = omega (arith, v .linked .0) in
           rw e (record {
-            left = record { chain = is; linked = l .1; below = b .1; room = omega arith };
+            left = js;
+            chain = record { linked = v .linked .1; below = v .below .1; room = omega (arith, v .room) };
             size = length-set chains end i ∙ h .size;
-            whole = λ w. (g w .0 ∙ store-first chains end i is (omega (arith, h .size)), omega (arith, g w .1));
+            whole = λ is w. (g is w .0 ∙ store-first chains end i js (omega (arith, h .size, v .room)), omega (arith, g is w .1));
           })
 
-  pub chaining-end : (chains : List ℕ) (link end : ℕ) → Chaining chains link end → link ≡ 0 → (w : Chain next p (length before) at)
-      → (chains ≡ overwritten before at (w .chain)) × (end ≡ at + length (w .chain))
-  chaining-end chains link end h z w = go (h .left .chain) (h .left .linked) (h .whole w .0) (h .whole w .1)
+  pub chaining-end : (chains : List ℕ) (link end : ℕ) → Chaining chains link end → link ≡ 0 → (is : List ℕ) → Chain next p (length before) at is
+      → (chains ≡ overwritten before at is) × (end ≡ at + length is)
+  chaining-end chains link end h z is w = go (h .left) (h .chain .linked) (h .whole is w .0) (h .whole is w .1)
     where
-      go : (is : List ℕ) → Linked next link is → overwritten before at (w .chain) ≡ overwritten chains end is → at + length (w .chain) ≡ end + length is
-          → (chains ≡ overwritten before at (w .chain)) × (end ≡ at + length (w .chain))
+      go : (js : List ℕ) → Linked next link js → overwritten before at is ≡ overwritten chains end js → at + length is ≡ end + length js
+          → (chains ≡ overwritten before at is) × (end ≡ at + length is)
       go [] l a b = (sym (a ∙ overwritten-none chains end), omega arith)
-      go (i ∷ is) l a b = absurd (omega arith)
+      go (j ∷ js) l a b = absurd (omega arith)

@@ -54,6 +54,15 @@ module _ (rows chains : List ℕ) (at : Cursor) where
       → Wrote rows chains at (row level quadrant 1 0 ∷ []) [] rows′ chains (record { nodes = at .nodes + 1; chained = at .chained })
   wrote-internal level quadrant rows′ r = record { listed = r; chained = sym (overwritten-none chains (at .chained)); nodes = refl; reach = omega arith }
 
+  -- lists keep their lengths
+  pub wrote-rows : (rs : List Row) (is rows′ chains′ : List ℕ) (b : Cursor) → Wrote rows chains at rs is rows′ chains′ b → (at .nodes + length rs) * 4 ≤ length rows
+      → length rows′ ≡ length rows
+  wrote-rows rs is rows′ chains′ b w h = rw (w .listed) (overwritten-length rows (at .nodes * 4) (flat rs) (omega (arith, flat-length rs)))
+
+  pub wrote-chains : (rs : List Row) (is rows′ chains′ : List ℕ) (b : Cursor) → Wrote rows chains at rs is rows′ chains′ b → at .chained + length is ≤ length chains
+      → length chains′ ≡ length chains
+  wrote-chains rs is rows′ chains′ b w h = rw (w .chained) (overwritten-length chains (at .chained) is h)
+
   -- what is written next stands behind it
   pub wrote-next : (rs ss : List Row) (is js rows′ chains′ rows″ chains″ : List ℕ) (b c : Cursor)
       → Wrote rows chains at rs is rows′ chains′ b → Wrote rows′ chains′ b ss js rows″ chains″ c → (at .nodes + length rs) * 4 ≤ length rows

@@ -4,11 +4,14 @@ use mathlib.Core.List.{List, [], _∷_, _++_}
 use Prim.Native.Nat.{ℕ, _+_, _-_, _*_, _≤_, _<_, max}
 use native.Mathlib.Omega.{arith}
 use lib.ListN.{length, getD, length-append}
-use Rattle.rules.specs.Tree.{Tree, none, leaf, node, depth, nodes, rowsFrom, chainsOf}
+use Rattle.rules.specs.Refusal.{mostParticles}
+use Rattle.rules.specs.Tree.{Tree, none, leaf, node, depth, nodes, Row, row, rowsFrom, flat, chainsOf}
+use Rattle.rules.specs.Plain.{overwritten}
 use Rattle.quadtree.specs.Slots.{word, kid, kids, first, Follows, Leads, EachSlot}
-use Rattle.quadtree.specs.List.{Linked, Below, Chain, Leaf, Lies, Listable}
+use Rattle.quadtree.specs.List.{Linked, Below, Chain, Leaf, Lies, Listable, Wrote}
 use Rattle.quadtree.specs.declared.list.Cursor.{Cursor}
 use Rattle.quadtree.proofs.ListChain.{follows-linked}
+use Rattle.quadtree.proofs.ListRows.{rows-count, wrote-internal, wrote-next, wrote-rows, wrote-chains}
 
 -- ---- numbers below a bound
 
@@ -57,6 +60,18 @@ module _ (m next : List ℕ) (p level : ℕ) where
       let k : p - 1 ≡ s = omega (arith, l .leads .0) in
       absurd (g (e ∙ ap (λ (i : ℕ). word m i 0) k ∙ l .leads .1))
 
+-- which can be listed
+pub leaf-listable : (m next : List ℕ) (p level k rows chains : ℕ) (at : Cursor) (t : Tree ℕ) → Listable m next p level rows chains at t → (l : IsLeaf m next p level k t)
+    → Leaf next k rows chains at (l .chain)
+leaf-listable m next p level k rows chains at t w l =
+    let n : nodes t ≡ 1 = ap nodes (l .is) in
+    let e : chainsOf t ≡ l .chain = ap chainsOf (l .is) in
+    record {
+      chain = record { linked = l .linked; below = l .below; room = rw e at (w .space) };
+      room = omega (arith, w .room);
+      few = w .few .1;
+    }
+
 -- with a first word that is 0 it is an internal node, over the trees that its children lead to
 pub record IsNode (m next ks : List ℕ) (level : ℕ) (t : Tree ℕ) : Type 0 where
   pub label : ℕ
@@ -98,3 +113,57 @@ lies-node m next ks p level w (node s t0 t1 t2 t3) l f e z k =
       nodes = refl;
       chains = simp length-append;
     })
+
+-- ---- the children, one after the other
+
+abbrev nodesOf : List (Tree ℕ) → ℕ
+nodesOf [] = 0
+nodesOf (t ∷ ts) = nodes t + nodesOf ts
+
+abbrev particlesOf : List (Tree ℕ) → ℕ
+particlesOf [] = 0
+particlesOf (t ∷ ts) = length (chainsOf t) + particlesOf ts
+
+-- These rows and particles stand behind what was listed; trees are left to list, and there is room for them.
+pub record Listing (rows chains : List ℕ) (at : Cursor) (rs : List Row) (is : List ℕ) (left : List (Tree ℕ)) (rows′ chains′ : List ℕ) (r : Cursor) : Type 0 where
+  pub wrote : Wrote rows chains at rs is rows′ chains′ r
+  pub room : (at .nodes + length rs + nodesOf left) * 4 ≤ length rows
+  pub space : at .chained + length is + particlesOf left ≤ length chains
+
+-- an internal node's row is written, its children are left
+pub node-listed : (m next ks rows chains rows′ : List ℕ) (p level quadrant : ℕ) (at : Cursor) (t : Tree ℕ) → Listable m next p level (length rows) (length chains) at t
+    → (n : IsNode m next ks level t) → rows′ ≡ overwritten rows (at .nodes * 4) (flat (row level quadrant 1 0 ∷ []))
+    → Listing rows chains at (row level quadrant 1 0 ∷ []) [] (n .t0 ∷ n .t1 ∷ n .t2 ∷ n .t3 ∷ []) rows′ chains (record { nodes = at .nodes + 1; chained = at .chained })
+node-listed m next ks rows chains rows′ p level quadrant at t w n e =
+    record { wrote = wrote-internal rows chains at level quadrant rows′ e; room = omega (arith, w .room, n .nodes); space = omega (arith, w .space, n .chains) }
+
+module _ {rows chains : List ℕ} {at : Cursor} {rs : List Row} {is : List ℕ} {rows′ chains′ : List ℕ} {r : Cursor} where
+  -- the lists keep their lengths
+  pub listing-rows : {left : List (Tree ℕ)} → Listing rows chains at rs is left rows′ chains′ r → length rows′ ≡ length rows
+  listing-rows s = wrote-rows rows chains at rs is rows′ chains′ r (s .wrote) (omega (arith, s .room))
+
+  pub listing-chains : {left : List (Tree ℕ)} → Listing rows chains at rs is left rows′ chains′ r → length chains′ ≡ length chains
+  listing-chains s = wrote-chains rows chains at rs is rows′ chains′ r (s .wrote) (omega (arith, s .space))
+
+  -- the next tree can be listed
+  pub next-child : {m next : List ℕ} {p level : ℕ} {t : Tree ℕ} {left : List (Tree ℕ)} → Listing rows chains at rs is (t ∷ left) rows′ chains′ r → Lies m next p level t
+      → (length next ≤ mostParticles) × (length chains ≤ mostParticles) → Listable m next p level (length rows′) (length chains′) r t
+  next-child s l f =
+      let a = listing-rows s in
+      let b = listing-chains s in
+      record {
+        lies = l;
+        room = rw a (omega (arith, s .room, s .wrote .nodes));
+        space = rw b (omega (arith, s .space, s .wrote .reach));
+        few = (f .0, rw b (f .1));
+      }
+
+  -- and then is
+  pub child-listed : (level q : ℕ) {t : Tree ℕ} {left : List (Tree ℕ)} {rows″ chains″ : List ℕ} {b : Cursor} → Listing rows chains at rs is (t ∷ left) rows′ chains′ r
+      → Wrote rows′ chains′ r (rowsFrom level q t) (chainsOf t) rows″ chains″ b
+      → Listing rows chains at (rs ++ rowsFrom level q t) (is ++ chainsOf t) left rows″ chains″ b
+  child-listed level q {t} {rows″ = rows″} {chains″ = chains″} {b = b} s w = record {
+    wrote = wrote-next rows chains at rs (rowsFrom level q t) is (chainsOf t) rows′ chains′ rows″ chains″ r b (s .wrote) w (omega (arith, s .room)) (omega (arith, s .space));
+    room = simp length-append (omega (arith, s .room, rows-count level q t));
+    space = simp length-append (omega (arith, s .space));
+  }

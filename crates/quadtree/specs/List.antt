@@ -19,16 +19,15 @@ abbrev pub Below : ℕ → List ℕ → Type 0
 Below n [] = Unit {0}
 Below n (i ∷ is) = (i < n) × Below n is
 
--- the chain that the number p leads to, with room for it behind the first `at` of the chains
-pub record Chain (next : List ℕ) (p chains at : ℕ) : Type 0 where
-  pub chain : List ℕ
-  pub linked : Linked next p chain
-  pub below : Below (length next) chain
-  pub room : at + length chain ≤ chains
+-- the number p leads to this chain, and there is room for it behind the first `at` of the chains
+pub record Chain (next : List ℕ) (p chains at : ℕ) (is : List ℕ) : Type 0 where
+  pub linked : Linked next p is
+  pub below : Below (length next) is
+  pub room : at + length is ≤ chains
 
--- the chain of a leaf, with room for the leaf's row too
-pub record Leaf (next : List ℕ) (p rows chains : ℕ) (at : Cursor) : Type 0 where
-  pub chain : Chain next p chains (at .chained)
+-- it is a leaf's, and there is room for the leaf's row too
+pub record Leaf (next : List ℕ) (p rows chains : ℕ) (at : Cursor) (is : List ℕ) : Type 0 where
+  pub chain : Chain next p chains (at .chained) is
   pub room : (at .nodes + 1) * 4 ≤ rows
   pub few : chains ≤ mostParticles
 
@@ -39,12 +38,11 @@ pub record Lies (m next : List ℕ) (p level : ℕ) (t : Tree ℕ) : Type 0 wher
   pub slots : EachSlot (λ s. s * 8 + 8 ≤ length m) t
   pub below : Below (length next) (chainsOf t)
 
--- a tree that the number p leads to, with room for its rows and chains
-pub record Listable (m next : List ℕ) (p level rows chains : ℕ) (at : Cursor) : Type 0 where
-  pub tree : Tree ℕ
-  pub lies : Lies m next p level tree
-  pub room : (at .nodes + nodes tree) * 4 ≤ rows
-  pub space : at .chained + length (chainsOf tree) ≤ chains
+-- and there is room for its rows and chains
+pub record Listable (m next : List ℕ) (p level rows chains : ℕ) (at : Cursor) (t : Tree ℕ) : Type 0 where
+  pub lies : Lies m next p level t
+  pub room : (at .nodes + nodes t) * 4 ≤ rows
+  pub space : at .chained + length (chainsOf t) ≤ chains
   pub few : (length next ≤ mostParticles) × (chains ≤ mostParticles)
 
 -- these rows and particles stand behind what was listed, and nothing else has changed

@@ -2,11 +2,11 @@
 use crate::store::children;
 use crate::store::tag;
 ghost use mathlib.Core.Path.{_≡_};
-ghost use mathlib.Core.List.{[], _∷_, _++_};
-ghost use Prim.Native.Nat.{_+_, _-_, _*_, _≤_};
+ghost use mathlib.Core.List.{List, [], _∷_, _++_};
+ghost use Prim.Native.Nat.{ℕ, _+_, _-_, _*_, _≤_};
 ghost use lib.ListN.{length, take, replicate};
 ghost use Rattle.rules.specs.Plain.{overwritten};
-ghost use Rattle.rules.specs.Tree.{row, rowsFrom, flat, chainsOf};
+ghost use Rattle.rules.specs.Tree.{Tree, row, rowsFrom, flat, chainsOf};
 ghost use Rattle.quadtree.specs.List.{Chain, Leaf, Listable, Wrote};
 
 const INTERNAL: u32 = 1;
@@ -33,9 +33,9 @@ fn put_row(rows: &mut [u32], n: usize, level: u32, quadrant: u32, kind: u32, cha
 
 // The particles from the number p on: 0 for the end, i + 1 for the particle i. Answers where the next chain begins.
 fn put_chain(next: &[u32], p: u32, chains: &mut [u32], at: usize) -> usize
-    requires { ⌜ Chain (now next) p (length (now chains)) at ⌝ }
-    ensures { λ r. ⌜ ((w : Chain (now (next .entry)) p (length (now (chains .entry))) at)
-      → (now (chains .exit) ≡ overwritten (now (chains .entry)) at (w .chain)) × (r ≡ at + length (w .chain))) ⌝ }
+    requires { ⌜ ((is : List ℕ) × Chain (now next) p (length (now chains)) at is) ⌝ }
+    ensures { λ r. ⌜ ((is : List ℕ) → Chain (now (next .entry)) p (length (now (chains .entry))) at is
+      → (now (chains .exit) ≡ overwritten (now (chains .entry)) at is) × (r ≡ at + length is)) ⌝ }
 {
     let mut link = p;
     let mut end = at;
@@ -50,9 +50,9 @@ fn put_chain(next: &[u32], p: u32, chains: &mut [u32], at: usize) -> usize
 
 // The chain first: its length goes into the row.
 fn list_leaf(next: &[u32], p: u32, level: u32, quadrant: u32, rows: &mut [u32], chains: &mut [u32], at: Cursor) -> Cursor
-    requires { ⌜ Leaf (now next) p (length (now rows)) (length (now chains)) at ⌝ }
-    ensures { λ r. ⌜ ((w : Leaf (now (next .entry)) p (length (now (rows .entry))) (length (now (chains .entry))) at)
-      → Wrote (now (rows .entry)) (now (chains .entry)) at (row level quadrant 2 (length (w .chain .chain)) ∷ []) (w .chain .chain)
+    requires { ⌜ ((is : List ℕ) × Leaf (now next) p (length (now rows)) (length (now chains)) at is) ⌝ }
+    ensures { λ r. ⌜ ((is : List ℕ) → Leaf (now (next .entry)) p (length (now (rows .entry))) (length (now (chains .entry))) at is
+      → Wrote (now (rows .entry)) (now (chains .entry)) at (row level quadrant 2 (length is) ∷ []) is
       (now (rows .exit)) (now (chains .exit)) r) ⌝ }
 {
     let nodes = at.nodes;
@@ -67,9 +67,9 @@ fn list_leaf(next: &[u32], p: u32, level: u32, quadrant: u32, rows: &mut [u32], 
 
 // The tree that p leads to.
 fn list_node(m: &[u64], next: &[u32], p: u32, level: u32, quadrant: u32, rows: &mut [u32], chains: &mut [u32], at: Cursor) -> Cursor
-    requires { ⌜ Listable (now m) (now next) p level (length (now rows)) (length (now chains)) at ⌝ }
-    ensures { λ r. ⌜ ((w : Listable (now (m .entry)) (now (next .entry)) p level (length (now (rows .entry))) (length (now (chains .entry))) at)
-      → Wrote (now (rows .entry)) (now (chains .entry)) at (rowsFrom level quadrant (w .tree)) (chainsOf (w .tree))
+    requires { ⌜ ((t : Tree ℕ) × Listable (now m) (now next) p level (length (now rows)) (length (now chains)) at t) ⌝ }
+    ensures { λ r. ⌜ ((t : Tree ℕ) → Listable (now (m .entry)) (now (next .entry)) p level (length (now (rows .entry))) (length (now (chains .entry))) at t
+      → Wrote (now (rows .entry)) (now (chains .entry)) at (rowsFrom level quadrant t) (chainsOf t)
       (now (rows .exit)) (now (chains .exit)) r) ⌝ }
 {
     if p == 0 {
