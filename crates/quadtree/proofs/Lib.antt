@@ -2,3 +2,4 @@ pub mod Fill
 mod ListChain
 mod ListRows
 mod ListTree
+mod ListWhole

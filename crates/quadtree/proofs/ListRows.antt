@@ -70,17 +70,17 @@ module _ (rows chains : List ℕ) (at : Cursor) where
   wrote-next rs ss is js rows′ chains′ rows″ chains″ b c v w r s =
       let e : b .nodes * 4 ≡ at .nodes * 4 + length (flat rs) = omega (arith, v .nodes, flat-length rs) in
       record {
-    listed =
-        w .listed
-        ∙ ap (λ (l : List ℕ). overwritten l (b .nodes * 4) (flat ss)) (v .listed)
-        ∙ ap (λ (n : ℕ). overwritten (overwritten rows (at .nodes * 4) (flat rs)) n (flat ss)) e
-        ∙ overwritten-next rows (at .nodes * 4) (flat rs) (flat ss) (omega (arith, flat-length rs))
-        ∙ ap (overwritten rows (at .nodes * 4)) (sym (flat-append rs ss));
-    chained =
-        w .chained
-        ∙ ap (λ (l : List ℕ). overwritten l (b .chained) js) (v .chained)
-        ∙ ap (λ (n : ℕ). overwritten (overwritten chains (at .chained) is) n js) (v .reach)
-        ∙ overwritten-next chains (at .chained) is js s;
-    nodes = simp length-append (omega (arith, v .nodes, w .nodes));
-    reach = simp length-append (omega (arith, v .reach, w .reach));
-  }
+        listed =
+            w .listed
+            ∙ ap (λ (l : List ℕ). overwritten l (b .nodes * 4) (flat ss)) (v .listed)
+            ∙ ap (λ (n : ℕ). overwritten (overwritten rows (at .nodes * 4) (flat rs)) n (flat ss)) e
+            ∙ overwritten-next rows (at .nodes * 4) (flat rs) (flat ss) (omega (arith, flat-length rs))
+            ∙ ap (overwritten rows (at .nodes * 4)) (sym (flat-append rs ss));
+        chained =
+            w .chained
+            ∙ ap (λ (l : List ℕ). overwritten l (b .chained) js) (v .chained)
+            ∙ ap (λ (n : ℕ). overwritten (overwritten chains (at .chained) is) n js) (v .reach)
+            ∙ overwritten-next chains (at .chained) is js s;
+        nodes = simp length-append (omega (arith, v .nodes, w .nodes));
+        reach = simp length-append (omega (arith, v .reach, w .reach));
+      }

@@ -3,10 +3,12 @@ use mathlib.Core.Path.{_≡_}
 use mathlib.Core.List.{List, [], _∷_}
 use Prim.Native.Nat.{ℕ, _+_, _*_, _≤_, _<_}
 use lib.ListN.{length, getD}
+use lib.Ieee.{Float}
 use Rattle.rules.specs.Plain.{overwritten}
 use Rattle.rules.specs.Tree.{Tree, depth, nodes, Row, flat, chainsOf, greatestLevel}
 use Rattle.rules.specs.Refusal.{mostParticles}
-use Rattle.quadtree.specs.Slots.{Leads, EachSlot}
+use Rattle.quadtree.specs.Slots.{Leads, EachSlot, Stands}
+use Rattle.quadtree.specs.declared.Quadtree.{Quadtree}
 use Rattle.quadtree.specs.declared.list.Cursor.{Cursor}
 
 -- following the links from the number p gives these particles and the end: 0 for the end, i + 1 for the particle i
@@ -51,3 +53,11 @@ pub record Wrote (rows chains : List ℕ) (at : Cursor) (rs : List Row) (is : Li
   pub chained : chains′ ≡ overwritten chains (at .chained) is
   pub nodes : r .nodes ≡ at .nodes + length rs
   pub reach : r .chained ≡ at .chained + length is
+
+-- the slots hold the tree of n points, each with a link and a place of the chains, and there is room for the rows
+pub record Whole (at : List Float) (n : ℕ) (m next : List ℕ) (q : Quadtree) (rows chains : ℕ) : Type 0 where
+  pub stands : Stands at n m next q
+  pub links : length next ≡ n
+  pub places : chains ≡ n
+  pub few : n ≤ mostParticles
+  pub room : q .nodes * 4 ≤ rows
