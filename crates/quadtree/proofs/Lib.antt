@@ -3,3 +3,5 @@ mod ListChain
 mod ListRows
 mod ListTree
 mod ListWhole
+pub mod TreeChecks
+mod TreeEnds

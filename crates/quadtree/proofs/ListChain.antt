@@ -2,7 +2,6 @@
 use mathlib.Core.Path.{_≡_, refl, sym, ap, subst, _∙_}
 use mathlib.Core.List.{List, [], _∷_}
 use Prim.Native.Nat.{ℕ, suc, _+_, _-_, _≤_, _<_}
-use native.Mathlib.Nat.{add-zero}
 use native.Mathlib.Numerals.{add-one}
 use native.Mathlib.Omega.{arith}
 use lib.ListN.{length, getD, set, length-set}
@@ -10,7 +9,7 @@ use lib.Seq.{sets-eq}
 use Rattle.rules.specs.Plain.{overwritten}
 use Rattle.sheet.proofs.Lists.{overwritten-none}
 use Rattle.quadtree.specs.Slots.{Follows, first}
-use Rattle.quadtree.specs.List.{Linked, Below, Chain}
+use Rattle.quadtree.specs.List.{Linked, Chain}
 
 -- the first of a part, stored, and then the rest
 pub store-first : (l : List ℕ) (k i : ℕ) (is : List ℕ) → k + length (i ∷ is) ≤ length l → overwritten l k (i ∷ is) ≡ overwritten (set l k i) (k + 1) is

@@ -35,52 +35,50 @@ rows-count l q (leaf s is) = refl
 rows-count l q (node s t0 t1 t2 t3) =
     simp length-append (omega (arith, rows-count (l + 1) 0 t0, rows-count (l + 1) 1 t1, rows-count (l + 1) 2 t2, rows-count (l + 1) 3 t3))
 
-module _ (rows chains : List ℕ) (at : Cursor) where
+module _ {rows chains : List ℕ} {at : Cursor} where
   -- nothing is written
   pub wrote-none : Wrote rows chains at [] [] rows chains at
   wrote-none =
       record { listed = sym (overwritten-none rows (at .nodes * 4)); chained = sym (overwritten-none chains (at .chained)); nodes = omega arith; reach = omega arith }
 
   -- a leaf's chain and its row
-  pub wrote-leaf : (level quadrant end : ℕ) (is rows′ chains′ : List ℕ) → chains′ ≡ overwritten chains (at .chained) is → end ≡ at .chained + length is
+  pub wrote-leaf : {level quadrant end : ℕ} {is rows′ chains′ : List ℕ} → chains′ ≡ overwritten chains (at .chained) is → end ≡ at .chained + length is
       → rows′ ≡ overwritten rows (at .nodes * 4) (flat (row level quadrant 2 (end - at .chained) ∷ []))
       → Wrote rows chains at (row level quadrant 2 (length is) ∷ []) is rows′ chains′ (record { nodes = at .nodes + 1; chained = end })
-  wrote-leaf level quadrant end is rows′ chains′ c e r =
+  wrote-leaf {end = end} {is} c e r =
       let k : end - at .chained ≡ length is = omega arith in
       record { listed = rw (← k) r; chained = c; nodes = refl; reach = e }
 
   -- an internal node's row
-  pub wrote-internal : (level quadrant : ℕ) (rows′ : List ℕ) → rows′ ≡ overwritten rows (at .nodes * 4) (flat (row level quadrant 1 0 ∷ []))
+  pub wrote-internal : {level quadrant : ℕ} {rows′ : List ℕ} → rows′ ≡ overwritten rows (at .nodes * 4) (flat (row level quadrant 1 0 ∷ []))
       → Wrote rows chains at (row level quadrant 1 0 ∷ []) [] rows′ chains (record { nodes = at .nodes + 1; chained = at .chained })
-  wrote-internal level quadrant rows′ r = record { listed = r; chained = sym (overwritten-none chains (at .chained)); nodes = refl; reach = omega arith }
+  wrote-internal r = record { listed = r; chained = sym (overwritten-none chains (at .chained)); nodes = refl; reach = omega arith }
 
-  -- lists keep their lengths
-  pub wrote-rows : (rs : List Row) (is rows′ chains′ : List ℕ) (b : Cursor) → Wrote rows chains at rs is rows′ chains′ b → (at .nodes + length rs) * 4 ≤ length rows
-      → length rows′ ≡ length rows
-  wrote-rows rs is rows′ chains′ b w h = rw (w .listed) (overwritten-length rows (at .nodes * 4) (flat rs) (omega (arith, flat-length rs)))
+  module _ {rs : List Row} {is rows′ chains′ : List ℕ} {b : Cursor} (v : Wrote rows chains at rs is rows′ chains′ b) where
+    -- lists keep their lengths
+    pub wrote-rows : (at .nodes + length rs) * 4 ≤ length rows → length rows′ ≡ length rows
+    wrote-rows h = rw (v .listed) (overwritten-length rows (at .nodes * 4) (flat rs) (omega (arith, flat-length rs)))
 
-  pub wrote-chains : (rs : List Row) (is rows′ chains′ : List ℕ) (b : Cursor) → Wrote rows chains at rs is rows′ chains′ b → at .chained + length is ≤ length chains
-      → length chains′ ≡ length chains
-  wrote-chains rs is rows′ chains′ b w h = rw (w .chained) (overwritten-length chains (at .chained) is h)
+    pub wrote-chains : at .chained + length is ≤ length chains → length chains′ ≡ length chains
+    wrote-chains h = rw (v .chained) (overwritten-length chains (at .chained) is h)
 
-  -- what is written next stands behind it
-  pub wrote-next : (rs ss : List Row) (is js rows′ chains′ rows″ chains″ : List ℕ) (b c : Cursor)
-      → Wrote rows chains at rs is rows′ chains′ b → Wrote rows′ chains′ b ss js rows″ chains″ c → (at .nodes + length rs) * 4 ≤ length rows
-      → at .chained + length is ≤ length chains → Wrote rows chains at (rs ++ ss) (is ++ js) rows″ chains″ c
-  wrote-next rs ss is js rows′ chains′ rows″ chains″ b c v w r s =
-      let e : b .nodes * 4 ≡ at .nodes * 4 + length (flat rs) = omega (arith, v .nodes, flat-length rs) in
-      record {
-        listed =
-            w .listed
-            ∙ ap (λ (l : List ℕ). overwritten l (b .nodes * 4) (flat ss)) (v .listed)
-            ∙ ap (λ (n : ℕ). overwritten (overwritten rows (at .nodes * 4) (flat rs)) n (flat ss)) e
-            ∙ overwritten-next rows (at .nodes * 4) (flat rs) (flat ss) (omega (arith, flat-length rs))
-            ∙ ap (overwritten rows (at .nodes * 4)) (sym (flat-append rs ss));
-        chained =
-            w .chained
-            ∙ ap (λ (l : List ℕ). overwritten l (b .chained) js) (v .chained)
-            ∙ ap (λ (n : ℕ). overwritten (overwritten chains (at .chained) is) n js) (v .reach)
-            ∙ overwritten-next chains (at .chained) is js s;
-        nodes = simp length-append (omega (arith, v .nodes, w .nodes));
-        reach = simp length-append (omega (arith, v .reach, w .reach));
-      }
+    -- what is written next stands behind it
+    pub wrote-next : {ss : List Row} {js rows″ chains″ : List ℕ} {c : Cursor} → Wrote rows′ chains′ b ss js rows″ chains″ c
+        → (at .nodes + length rs) * 4 ≤ length rows → at .chained + length is ≤ length chains → Wrote rows chains at (rs ++ ss) (is ++ js) rows″ chains″ c
+    wrote-next {ss} {js} w r s =
+        let e : b .nodes * 4 ≡ at .nodes * 4 + length (flat rs) = omega (arith, v .nodes, flat-length rs) in
+        record {
+          listed =
+              w .listed
+              ∙ ap (λ (l : List ℕ). overwritten l (b .nodes * 4) (flat ss)) (v .listed)
+              ∙ ap (λ (n : ℕ). overwritten (overwritten rows (at .nodes * 4) (flat rs)) n (flat ss)) e
+              ∙ overwritten-next rows (at .nodes * 4) (flat rs) (flat ss) (omega (arith, flat-length rs))
+              ∙ ap (overwritten rows (at .nodes * 4)) (sym (flat-append rs ss));
+          chained =
+              w .chained
+              ∙ ap (λ (l : List ℕ). overwritten l (b .chained) js) (v .chained)
+              ∙ ap (λ (n : ℕ). overwritten (overwritten chains (at .chained) is) n js) (v .reach)
+              ∙ overwritten-next chains (at .chained) is js s;
+          nodes = simp length-append (omega (arith, v .nodes, w .nodes));
+          reach = simp length-append (omega (arith, v .reach, w .reach));
+        }

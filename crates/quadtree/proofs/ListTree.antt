@@ -1,14 +1,14 @@
 -- A tree in slots, taken apart for its listing.
-use mathlib.Core.Path.{_≡_, refl, sym, ap, subst, _∙_}
+use mathlib.Core.Path.{_≡_, refl, ap, _∙_}
 use mathlib.Core.List.{List, [], _∷_, _++_}
-use Prim.Native.Nat.{ℕ, _+_, _-_, _*_, _≤_, _<_, max}
+use Prim.Native.Nat.{ℕ, _+_, _-_, _*_, _≤_}
 use native.Mathlib.Omega.{arith}
 use lib.ListN.{length, getD, length-append}
 use Rattle.rules.specs.Refusal.{mostParticles}
-use Rattle.rules.specs.Tree.{Tree, none, leaf, node, depth, nodes, Row, row, rowsFrom, flat, chainsOf}
+use Rattle.rules.specs.Tree.{Tree, none, leaf, node, nodes, Row, row, rowsFrom, flat, chainsOf}
 use Rattle.rules.specs.Plain.{overwritten}
-use Rattle.quadtree.specs.Slots.{word, kid, kids, first, Follows, Leads, EachSlot}
-use Rattle.quadtree.specs.List.{Linked, Below, Chain, Leaf, Lies, Listable, Wrote}
+use Rattle.quadtree.specs.Slots.{word, kids, first, Follows}
+use Rattle.quadtree.specs.List.{Linked, Below, Leaf, Lies, Listable, Wrote}
 use Rattle.quadtree.specs.declared.list.Cursor.{Cursor}
 use Rattle.quadtree.proofs.ListChain.{follows-linked}
 use Rattle.quadtree.proofs.ListRows.{rows-count, wrote-internal, wrote-next, wrote-rows, wrote-chains}
@@ -61,9 +61,9 @@ module _ (m next : List ℕ) (p level : ℕ) where
       absurd (g (e ∙ ap (λ (i : ℕ). word m i 0) k ∙ l .leads .1))
 
 -- which can be listed
-pub leaf-listable : (m next : List ℕ) (p level k rows chains : ℕ) (at : Cursor) (t : Tree ℕ) → Listable m next p level rows chains at t → (l : IsLeaf m next p level k t)
+pub leaf-listable : {m next : List ℕ} {p level k rows chains : ℕ} {at : Cursor} {t : Tree ℕ} → Listable m next p level rows chains at t → (l : IsLeaf m next p level k t)
     → Leaf next k rows chains at (l .chain)
-leaf-listable m next p level k rows chains at t w l =
+leaf-listable {t = t} w l =
     let n : nodes t ≡ 1 = ap nodes (l .is) in
     let e : chainsOf t ≡ l .chain = ap chainsOf (l .is) in
     record {
@@ -131,19 +131,19 @@ pub record Listing (rows chains : List ℕ) (at : Cursor) (rs : List Row) (is : 
   pub space : at .chained + length is + particlesOf left ≤ length chains
 
 -- an internal node's row is written, its children are left
-pub node-listed : (m next ks rows chains rows′ : List ℕ) (p level quadrant : ℕ) (at : Cursor) (t : Tree ℕ) → Listable m next p level (length rows) (length chains) at t
+pub node-listed : {m next ks rows chains rows′ : List ℕ} {p level quadrant : ℕ} {at : Cursor} {t : Tree ℕ} → Listable m next p level (length rows) (length chains) at t
     → (n : IsNode m next ks level t) → rows′ ≡ overwritten rows (at .nodes * 4) (flat (row level quadrant 1 0 ∷ []))
     → Listing rows chains at (row level quadrant 1 0 ∷ []) [] (n .t0 ∷ n .t1 ∷ n .t2 ∷ n .t3 ∷ []) rows′ chains (record { nodes = at .nodes + 1; chained = at .chained })
-node-listed m next ks rows chains rows′ p level quadrant at t w n e =
-    record { wrote = wrote-internal rows chains at level quadrant rows′ e; room = omega (arith, w .room, n .nodes); space = omega (arith, w .space, n .chains) }
+node-listed w n e =
+    record { wrote = wrote-internal e; room = omega (arith, w .room, n .nodes); space = omega (arith, w .space, n .chains) }
 
 module _ {rows chains : List ℕ} {at : Cursor} {rs : List Row} {is : List ℕ} {rows′ chains′ : List ℕ} {r : Cursor} where
   -- the lists keep their lengths
   pub listing-rows : {left : List (Tree ℕ)} → Listing rows chains at rs is left rows′ chains′ r → length rows′ ≡ length rows
-  listing-rows s = wrote-rows rows chains at rs is rows′ chains′ r (s .wrote) (omega (arith, s .room))
+  listing-rows s = wrote-rows (s .wrote) (omega (arith, s .room))
 
   pub listing-chains : {left : List (Tree ℕ)} → Listing rows chains at rs is left rows′ chains′ r → length chains′ ≡ length chains
-  listing-chains s = wrote-chains rows chains at rs is rows′ chains′ r (s .wrote) (omega (arith, s .space))
+  listing-chains s = wrote-chains (s .wrote) (omega (arith, s .space))
 
   -- the next tree can be listed
   pub next-child : {m next : List ℕ} {p level : ℕ} {t : Tree ℕ} {left : List (Tree ℕ)} → Listing rows chains at rs is (t ∷ left) rows′ chains′ r → Lies m next p level t
@@ -162,8 +162,8 @@ module _ {rows chains : List ℕ} {at : Cursor} {rs : List Row} {is : List ℕ} 
   pub child-listed : (level q : ℕ) {t : Tree ℕ} {left : List (Tree ℕ)} {rows″ chains″ : List ℕ} {b : Cursor} → Listing rows chains at rs is (t ∷ left) rows′ chains′ r
       → Wrote rows′ chains′ r (rowsFrom level q t) (chainsOf t) rows″ chains″ b
       → Listing rows chains at (rs ++ rowsFrom level q t) (is ++ chainsOf t) left rows″ chains″ b
-  child-listed level q {t} {rows″ = rows″} {chains″ = chains″} {b = b} s w = record {
-    wrote = wrote-next rows chains at rs (rowsFrom level q t) is (chainsOf t) rows′ chains′ rows″ chains″ r b (s .wrote) w (omega (arith, s .room)) (omega (arith, s .space));
+  child-listed level q {t} s w = record {
+    wrote = wrote-next (s .wrote) w (omega (arith, s .room)) (omega (arith, s .space));
     room = simp length-append (omega (arith, s .room, rows-count level q t));
     space = simp length-append (omega (arith, s .space));
   }

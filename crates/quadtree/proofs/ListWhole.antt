@@ -1,24 +1,24 @@
 -- The listing of a whole tree.
-use mathlib.Core.Path.{_≡_, refl, sym, ap, subst, _∙_}
+use mathlib.Core.Path.{_≡_, refl, sym, ap, _∙_}
 use mathlib.Core.Logic.{⊎-elim, inl, inr}
 use mathlib.Core.List.{List, [], _∷_, _++_, append-nil}
-use Prim.Native.Nat.{ℕ, zero, suc, _+_, _-_, _*_, _≤_, _<_, max}
-use native.Mathlib.Nat.{add-zero, zero-add, sub-zero}
+use Prim.Native.Nat.{ℕ, zero, suc, _+_, _-_, _*_, _≤_, _<_}
+use native.Mathlib.Nat.{zero-add}
 use native.Mathlib.Omega.{arith}
-use lib.ListN.{length, drop, set, replicate, length-append, length-set, length-replicate, drop-of-length-le}
+use lib.ListN.{length, set, replicate, length-append, length-set, length-replicate, drop-of-length-le}
 use lib.Ieee.{Float}
 use Rattle.rules.specs.declared.Extent.{Extent}
 use Rattle.rules.specs.Plain.{upTo, countFrom, overwritten, padded}
 use Rattle.rules.specs.Cell.{quarter}
 use Rattle.rules.specs.Cover.{coverFirst, extentOf}
-use Rattle.rules.specs.Tree.{Tree, none, leaf, node, depth, nodes, Row, rowsFrom, rowsOf, flat, chainsOf, treeIn, treeOf}
+use Rattle.rules.specs.Tree.{Tree, none, leaf, node, depth, nodes, Row, rowsFrom, rowsOf, flat, chainsOf, treeOf}
 use Rattle.rules.proofs.CellList.{In}
 use Rattle.rules.proofs.CellIs.{Is}
 use Rattle.rules.proofs.CellCount.{length-upTo}
 use Rattle.rules.proofs.CellRule as Rule
 use Rattle.sheet.proofs.Lists.{overwritten-none, overwritten-next, overwritten-length}
 use Rattle.quadtree.specs.Slots.{EachSlot, inCells, Stands}
-use Rattle.quadtree.specs.List.{Below, Lies, Listable, Wrote, Whole}
+use Rattle.quadtree.specs.List.{Below, Listable, Wrote, Whole}
 use Rattle.quadtree.specs.declared.Quadtree.{Quadtree}
 use Rattle.quadtree.specs.declared.list.Cursor.{Cursor}
 use Rattle.quadtree.proofs.ListChain.{store-first}

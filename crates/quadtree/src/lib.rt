@@ -1,6 +1,8 @@
 // The quadtree in lent slots, after fjadra's src/quadtree and src/extent.rs.
+mod build;
 mod list;
 pub mod store;
+pub mod tree;
 
 use rules::Extent;
 

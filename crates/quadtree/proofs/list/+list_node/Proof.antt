@@ -1,5 +1,5 @@
 use mathlib.Core.Path.{sym, subst}
-use mathlib.Core.List.{List, [], _∷_, _++_}
+use mathlib.Core.List.{[], _∷_, _++_}
 use Prim.Native.Nat.{ℕ, _<_, _-_, _+_}
 use native.Mathlib.Omega.{arith}
 use borrow.Author.Needs.{needs}
@@ -61,7 +61,7 @@ a-leaf t c x w = lies-leaf _ _ _ _ _ _ (w .lies) (c .before .before .if1 .left) 
 -- that can be listed
 leaf-of : (t : ℕ) (c : list-node-lts.Then2 (rd t) (list-node-at t) list-node.Post) (x : Tree ℕ) (w : Entry t (c .before .before .before .before .before .before .before) x)
     → let a = c .before .before .before .before .before .before .before .args in Leaf (a .next .now) (c .before .tag .result) (length (a .rows .now)) (length (a .chains .now)) (a .at) (a-leaf t c x w .chain)
-leaf-of t c x w = leaf-listable _ _ _ _ _ _ _ _ _ w (a-leaf t c x w)
+leaf-of t c x w = leaf-listable w (a-leaf t c x w)
 
 -- it is internal
 opened : (t : ℕ) (c : list-node-lts.After-children (rd t) (list-node-at t) list-node.Post) (x : Tree ℕ) (w : Entry t (c .before .before .before .before .before .before .before .before .before .before .before .before) x)
@@ -73,7 +73,7 @@ state0 : (t : ℕ) (c : list-node-lts.After-children (rd t) (list-node-at t) lis
     → let a = c .before .before .before .before .before .before .before .before .before .before .before .before .args in let n = opened t c x w in
     Listing (a .rows .now) (a .chains .now) (a .at) (row (a .level) (a .quadrant) 1 0 ∷ []) [] (n .t0 ∷ n .t1 ∷ n .t2 ∷ n .t3 ∷ [])
     (c .before .before .before .put-row .last .0) (a .chains .now) (record { nodes = a .at .nodes + 1; chained = a .at .chained })
-state0 t c x w = node-listed _ _ _ _ _ _ _ _ _ _ _ w (opened t c x w) (c .before .before .before .put-row .ensures)
+state0 t c x w = node-listed w (opened t c x w) (c .before .before .before .put-row .ensures)
 
 child0 : (t : ℕ) (c : list-node-lts.After-children (rd t) (list-node-at t) list-node.Post) (x : Tree ℕ) (w : Entry t (c .before .before .before .before .before .before .before .before .before .before .before .before) x)
     → let a = c .before .before .before .before .before .before .before .before .before .before .before .before .args in
@@ -131,7 +131,7 @@ returns : (t : ℕ) → list-node-lts.Need-returns (rd t) (list-node-at t) list-
 returns t c x w =
     let a = c .before .before .before .before .before .args in
     subst (λ (y : Tree ℕ). Wrote (a .rows .now) (a .chains .now) (a .at) (rowsFrom (a .level) (a .quadrant) y) (chainsOf y) (a .rows .now) (a .chains .now) (a .at))
-    (sym (lies-none _ _ _ _ _ (w .lies) (c .if1 .taken))) (wrote-none _ _ _)
+    (sym (lies-none _ _ _ _ _ (w .lies) (c .if1 .taken))) (wrote-none)
 
 sub-s : (t : ℕ) → list-node-lts.Need-sub-s (rd t) (list-node-at t) list-node.Post
 sub-s t c = search needs

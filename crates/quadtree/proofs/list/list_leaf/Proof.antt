@@ -24,7 +24,7 @@ returns : tie.Need-returns
 returns c is w =
     let d = c .before .before .before .before .before .before in
     let e = d .put-chain .ensures is (w .chain) in
-    wrote-leaf _ _ _ _ _ _ _ _ _ (e .0) (e .1) (c .before .before .put-row .ensures)
+    wrote-leaf (e .0) (e .1) (c .before .before .put-row .ensures)
 
 pub list-leaf-spec : {M : Type 1} → statement M
 list-leaf-spec =

@@ -1,6 +1,5 @@
 use Prim.Native.Nat.{_-_}
 use native.Mathlib.Omega.{arith}
-use borrow.Author.Needs.{needs}
 use lib.ListN.{length}
 use Rattle.quadtree.proofs.ListChain.{Here, Chaining, chaining-start, chaining-here, chaining-turn, chaining-end}
 use Rattle.quadtree.proofs.list.put_chain.Statement.{statement}
