@@ -1,6 +1,12 @@
 // The quadtree in lent slots, after fjadra's src/quadtree and src/extent.rs.
-mod build;
-mod list;
+pub mod add;
+pub mod build;
+pub mod chain;
+pub mod cover;
+pub mod extent;
+pub mod indexer;
+pub mod list;
+pub mod point;
 pub mod store;
 pub mod tree;
 
