@@ -1,30 +1,32 @@
 -- What the tree call leaves, by what it comes to.
 use mathlib.Core.Path.{_≡_, refl, sym, ap, subst, _∙_}
-use mathlib.Core.Bool.{true, false}
-use mathlib.Core.List.{List}
-use Prim.Native.Nat.{ℕ, _/_, _≤_, _<_}
+use mathlib.Core.Bool.{Bool, true}
+use mathlib.Core.List.{List, [], _∷_}
+use Prim.Native.Nat.{ℕ, zero, suc, _+_, _*_, _/_, _≤_, _<_}
 use native.Mathlib.Omega.{arith}
 use borrow.Author.Tests.{ne-eqb, le-leb, lt-leb}
-use lib.ListN.{length, take, replicate, length-replicate}
+use lib.ListN.{length, getD, take, replicate, length-replicate}
 use lib.Seq.{length-take-le}
-use lib.Ieee.{Float, binary64, ofBits}
+use lib.Ieee.{Float, nan, binary64, ofBits}
 use Rattle.rules.specs.declared.Extent.{Extent}
 use Rattle.rules.specs.declared.Refusal.{Refusal}
 use Rattle.rules.specs.declared.TreeAnswer.{TreeAnswer}
-use Rattle.rules.specs.Plain.{padded}
+use Rattle.rules.specs.Plain.{all, padded}
 use Rattle.rules.specs.Outcome.{Outcome, done, refused, refusal, fine, zeroesWork}
+use Rattle.rules.specs.Number.{within}
 use Rattle.rules.specs.Sheet.{countOf, particlesOf, placesOf, pairsFrom}
 use Rattle.rules.specs.Cover.{coverFirst, extentOf}
 use Rattle.rules.specs.Tree.{Tree, nodes, treeOf, treeCheck, rowsOf, flat, chainsOf}
 use Rattle.rules.specs.Calls.{slotsOf, TreeInput, treeAnswer, rowsAfter, chainsAfter, treeWorkAfter}
-use Rattle.sheet.proofs.Checked.{records-sound}
+use Rattle.sheet.proofs.Checked.{and-split, records-sound}
 use Rattle.sheet.proofs.Columns.{places-of}
 use Rattle.quadtree.specs.declared.Quadtree.{Quadtree}
 use Rattle.quadtree.specs.List.{Whole}
 use Rattle.quadtree.specs.Tree.{Ends, refusedTree, refusedWork, built, Ready}
 use Rattle.quadtree.specs.declared.build.Built.{Built}
 use Rattle.quadtree.specs.declared.build.Built.the-variants.{Refused}
-use Rattle.quadtree.specs.Build.{Builds, Build, Stood}
+use Rattle.quadtree.specs.Add.{Ranged}
+use Rattle.quadtree.specs.Build.{particles, Lent, Builds}
 use Rattle.quadtree.proofs.ListWhole.{nodes-cells}
 use Rattle.quadtree.proofs.TreeChecks.{tree-clears}
 
@@ -68,13 +70,24 @@ module _ {l : TreeInput} {o : Outcome (Tree Extent)} {a : TreeAnswer} where
 
 -- ---- what building answered
 
-pub told-refused : (at : List Float) (k : ℕ) (next m : List ℕ) {b : Built} {r : Refusal} → b ≡ Refused r → Build at k next m b → treeCheck at k (length m / 8) ≡ refused r
-told-refused at k next m e h = subst (Build at k next m) e h
+pub told-refused : (at : List Float) (m next : List ℕ) {b : Built} {r : Refusal} → b ≡ Refused r → Builds at m next b → treeCheck at (particles at) (length m / 8) ≡ refused r
+told-refused at m next e h = subst (Builds at m next) e h
 
-pub told-tree : (at : List Float) (k : ℕ) (next m : List ℕ) {b : Built} {q : Quadtree} → b ≡ Built.Tree q → Build at k next m b → Stood at k next m q
-told-tree at k next m e h = subst (Build at k next m) e h
+pub told-tree : (at : List Float) (m next : List ℕ) {b : Built} {q : Quadtree} → b ≡ Built.Tree q → Builds at m next b → Builds at m next (Built.Tree q)
+told-tree at m next e h = subst (Builds at m next) e h
 
-module _ {l : TreeInput} {size : ℕ} {at : List Float} {next tail : ℕ} (d : Ready l size next tail) (e : at ≡ pairsFrom 40 (l .sheet) 0 (size / 2)) where
+-- ---- the call on a sheet that passed every check
+
+-- what holds of all holds of each
+all-at : (p : Float → Bool) (l : List Float) (i : ℕ) (d : Float) → all p l ≡ true → i < length l → p (getD l i d) ≡ true
+all-at p [] i d h k = absurd (omega arith)
+all-at p (x ∷ l) zero d h k = and-split (p x) (all p l) h .0
+all-at p (x ∷ l) (suc i) d h k = all-at p l i d (and-split (p x) (all p l) h .1) (omega arith)
+
+all-ranged : (at : List Float) → all within at ≡ true → Ranged at (particles at)
+all-ranged at h i k = (all-at within at (i * 2) nan h (omega arith), all-at within at (i * 2 + 1) nan h (omega arith))
+
+module _ {l : TreeInput} {size : ℕ} {at : List Float} {links tails : ℕ} (d : Ready l size links tails) (e : at ≡ pairsFrom 40 (l .sheet) 0 (size / 2)) where
   abbrev n : ℕ
   n = countOf (l .sheet)
 
@@ -84,48 +97,49 @@ module _ {l : TreeInput} {size : ℕ} {at : List Float} {next tail : ℕ} (d : R
       let h : size / 2 ≡ n = omega (arith, d .pairs) in
       e ∙ ap (pairsFrom 40 (l .sheet) 0) h ∙ sym (places-of (l .sheet))
 
-  -- the tree can be built
-  pub can-build : length at ≡ size → Builds at next tail
-  can-build h = record {
-    ranged = rw read (records-sound (particlesOf (l .sheet)) (d .passed .sound) .places);
-    places = omega (arith, d .pairs, d .links);
-    tails = omega (arith, d .links, d .tails);
-    few = omega (arith, d .links, d .passed .few);
-  }
-
-  module _ (m : List ℕ) (h : length at ≡ size) (k : length m ≡ length (l .work)) where
-    half : length at / 2 ≡ n
+  module _ (h : length at ≡ size) where
+    half : particles at ≡ n
     half = omega (arith, d .pairs)
 
-    slots : length m / 8 ≡ slotsOf (l .work)
-    slots = omega arith
+    -- the tree can be built
+    pub can-build : {next tail : List ℕ} → length next ≡ links → length tail ≡ tails → Lent at next tail
+    can-build a b = record {
+      ranged = all-ranged at (rw read (records-sound (particlesOf (l .sheet)) (d .passed .sound) .places));
+      few = omega (arith, half, d .passed .few);
+      links = omega (arith, half, d .links);
+      tails = omega (arith, half, d .tails);
+    }
 
-    -- refused on the way
-    pub build-refused : {r : Refusal} {a : TreeAnswer} {work : List ℕ} → treeCheck at (length at / 2) (length m / 8) ≡ refused r → a ≡ refusedTree r
-        → work ≡ refusedWork r m → Ends l (built l) a (l .rows) (l .chains) work
-    build-refused {r} c f w =
-        let g : treeCheck (placesOf (particlesOf (l .sheet))) n (slotsOf (l .work)) ≡ refused r = rw (← read, ← half, ← slots) c in
-        ends-refused (rw g) f (w ∙ rw (tree-clears at (length at / 2) (length m / 8) r c .1, k))
+    module _ (m : List ℕ) (k : length m ≡ length (l .work)) where
+      slots : length m / 8 ≡ slotsOf (l .work)
+      slots = omega arith
 
-    module _ {nexts : List ℕ} {q : Quadtree} (s : Stood at (length at / 2) nexts m q) where
-      -- built, it can be listed
-      pub can-list : length nexts ≡ next → Whole at n m nexts q (length (l .rows)) (length (l .chains))
-      can-list j = record {
-        stands = rw (← half) (s .stands);
-        links = omega (arith, d .links);
-        places = d .passed .chains;
-        few = d .passed .few;
-        room = omega (arith, s .stands .room, d .passed .rows);
-      }
+      -- refused on the way
+      pub build-refused : {r : Refusal} {a : TreeAnswer} {work : List ℕ} → treeCheck at (particles at) (length m / 8) ≡ refused r → a ≡ refusedTree r
+          → work ≡ refusedWork r m → Ends l (built l) a (l .rows) (l .chains) work
+      build-refused {r} c f w =
+          let g : treeCheck (placesOf (particlesOf (l .sheet))) n (slotsOf (l .work)) ≡ refused r = rw (← read, ← half, ← slots) c in
+          ends-refused (rw g) f (w ∙ rw (tree-clears at (particles at) (length m / 8) r c .1, k))
 
-      -- and is
-      pub build-listed : {a : TreeAnswer} {rows chains work : List ℕ} → a ≡ record { refusal = refusal 0 0; nodes = q .nodes; extent = q .extent }
-          → rows ≡ padded (length (l .rows)) 0 (flat (rowsOf (treeOf at n))) → chains ≡ padded (length (l .chains)) 0 (chainsOf (treeOf at n))
-          → work ≡ replicate (length m) 0 → Ends l (built l) a rows chains work
-      build-listed f r c w =
-          let places = placesOf (particlesOf (l .sheet)) in
-          let g : treeCheck places n (slotsOf (l .work)) ≡ fine = rw (← read, ← half, ← slots) (s .check) in
-          let count : q .nodes ≡ nodes (treeOf places n) =
-          sym (s .stands .count) ∙ sym (nodes-cells (q .extent) (s .stands .tree)) ∙ ap (λ (t : Tree Extent). nodes t) (s .stands .is) ∙ rw (half, read) in
-          let extent : q .extent ≡ extentOf (coverFirst places n) = s .extent ∙ rw (half, read) in
-          ends-listed {t = treeOf places n} (rw g) (rw (← count, ← extent) f) (rw (← read) r) (rw (← read) c) (rw (← k) w)
+      module _ {next : List ℕ} {q : Quadtree} (s : Builds at m next (Built.Tree q)) where
+        -- built, it can be listed
+        pub can-list : length next ≡ links → Whole at n m next q (length (l .rows)) (length (l .chains))
+        can-list j = record {
+          stands = rw (← half) (s .1);
+          links = omega (arith, d .links);
+          places = d .passed .chains;
+          few = d .passed .few;
+          room = omega (arith, s .1 .room, d .passed .rows);
+        }
+
+        -- and is
+        pub build-listed : {a : TreeAnswer} {rows chains work : List ℕ} → a ≡ record { refusal = refusal 0 0; nodes = q .nodes; extent = q .extent }
+            → rows ≡ padded (length (l .rows)) 0 (flat (rowsOf (treeOf at n))) → chains ≡ padded (length (l .chains)) 0 (chainsOf (treeOf at n))
+            → work ≡ replicate (length m) 0 → Ends l (built l) a rows chains work
+        build-listed f r c w =
+            let places = placesOf (particlesOf (l .sheet)) in
+            let g : treeCheck places n (slotsOf (l .work)) ≡ fine = rw (← read, ← half, ← slots) (s .0) in
+            let count : q .nodes ≡ nodes (treeOf places n) =
+            sym (s .1 .count) ∙ sym (nodes-cells (q .extent) (s .1 .tree)) ∙ ap (λ (t : Tree Extent). nodes t) (s .1 .is) ∙ rw (half, read) in
+            let extent : q .extent ≡ extentOf (coverFirst places n) = s .2 ∙ rw (half, read) in
+            ends-listed {t = treeOf places n} (rw g) (rw (← count, ← extent) f) (rw (← read) r) (rw (← read) c) (rw (← k) w)
