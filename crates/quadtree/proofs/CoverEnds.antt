@@ -64,19 +64,19 @@ module _ {e : Extent} (h : Reachable e) where
   ends : Ends (squareOf e)
   ends = held-ends (h .held)
 
-  x0-is : e .x0 ≡ whole (squareOf e .x0)
+  pub x0-is : e .x0 ≡ whole (squareOf e .x0)
   unfolding extentOf
   x0-is = ap (λ (c : Extent). c .x0) (h .is)
 
-  y0-is : e .y0 ≡ whole (squareOf e .y0)
+  pub y0-is : e .y0 ≡ whole (squareOf e .y0)
   unfolding extentOf
   y0-is = ap (λ (c : Extent). c .y0) (h .is)
 
-  x1-is : e .x1 ≡ whole (squareOf e .x1)
+  pub x1-is : e .x1 ≡ whole (squareOf e .x1)
   unfolding extentOf
   x1-is = ap (λ (c : Extent). c .x1) (h .is)
 
-  y1-is : e .y1 ≡ whole (squareOf e .y1)
+  pub y1-is : e .y1 ≡ whole (squareOf e .y1)
   unfolding extentOf
   y1-is = ap (λ (c : Extent). c .y1) (h .is)
 

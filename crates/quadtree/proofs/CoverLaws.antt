@@ -5,60 +5,51 @@ use mathlib.Core.Bool.{true, false, true≢false, _&&_}
 use mathlib.Core.List.{List, [], _∷_, _++_, map, List·Memᴰ}
 use Prim.Native.Nat.{ℕ, _^_, _≤_, _<_}
 use lib.Dec.{T}
-use lib.IntN.{ℤ, pos, _-ℤ_, +ℤ-comm, +ℤ-negℤ-cancel}
+use lib.IntN.{ℤ, pos, natAbs, _-ℤ_, +ℤ-comm, +ℤ-negℤ-cancel}
 use lib.Signed.{ltZ, leZ}
-use lib.Ieee.{Float, nan, inf, fin, lt, le}
+use lib.Ieee.{Float, lt, le}
 use Rattle.rules.specs.declared.Extent.{Extent}
-use Rattle.rules.specs.Number.{_⊖_, finite, within, xAt, yAt}
+use Rattle.rules.specs.Number.{_⊖_, within, xAt, yAt}
 use Rattle.rules.specs.Floor.{floor}
 use Rattle.rules.specs.Cell.{quadrant, quarter}
 use Rattle.rules.specs.Cover.{Square, inside, mostDoublings, Covered, holds, coverPoint, coverAll, whole, extentOf}
 use Rattle.rules.proofs.CellList.{left, right}
-use Rattle.rules.proofs.CellDeep.{inQuarter-is}
-use Rattle.rules.proofs.CellInside.{Between, FiniteCell, Inside, inside-next, inside-quarter}
+use Rattle.rules.proofs.CellInside.{FiniteCell, Inside}
+use Rattle.rules.proofs.CoverCount.{le-more}
 use Rattle.rules.proofs.CoverTerms.{Grows, Covering, AllNear, floors}
 use Rattle.rules.proofs.CoverSquare.{four-true, sided-side}
 use Rattle.rules.proofs.CoverReach.{next-contains}
-use Rattle.rules.proofs.Cover.{old-quadrant-less, contains-inside, grows-inside, held-sided, held-most, covering, cover-all, cover-inside, cover-append, reached-some}
-use Rattle.number.proofs.Integers.{HasInt, sub-int}
+use Rattle.rules.proofs.Cover.{old-quadrant-less, contains-inside, grows-inside, held-sided, held-most, held-ends, covering, cover-all, cover-inside, cover-append, reached-some}
+use Rattle.number.proofs.Integers.{le-int, sub-int}
 use Rattle.number.proofs.Flooring.{floor-le, floor-lt, floor-within, within-finite}
 use Rattle.quadtree.specs.declared.cover.Doubled.{Doubled}
 use Rattle.quadtree.specs.declared.cover.Covered as Answer
 use Rattle.quadtree.specs.Cover.{squareOf, Reachable, Near, DoubledTo, CoveredTo}
-use Rattle.quadtree.proofs.CoverEnds.{x0-has, y0-has, x1-has, y1-has, near-x, near-y, square-back, reachable, doubled-square}
+use Rattle.quadtree.proofs.CoverEnds.{x0-is, y0-is, x1-is, y1-is, x0-has, y0-has, x1-has, y1-has, near-x, near-y, square-back, reachable, doubled-square}
 use Rattle.quadtree.proofs.CoverDoublings.{grows-count}
-
--- ---- a point in a cell
-
--- the point lies in the cell, which is half-open
-pub record Lies (c : Extent) (x y : Float) : Type 0 where
-  pub across : Between (c .x0) x (c .x1)
-  pub along : Between (c .y0) y (c .y1)
-
--- A point of a quarter's cell has that quarter's number.
-pub lies-quadrant : (c : Extent) (x y : Float) (q : ℕ) → q < 4 → Lies (quarter q c) x y → quadrant c x y ≡ q
-lies-quadrant c x y q l w = let at = x ∷ y ∷ [] in sym (inQuarter-is at c q 0 (inside-quarter at q c 0 l (record { x = w .across; y = w .along })))
-
--- A point of a cell with finite ends lies in the cell of its own quarter.
-pub lies-quarter : (c : Extent) (x y : Float) → FiniteCell c → Lies c x y → Lies (quarter (quadrant c x y) c) x y
-lies-quarter c x y f w = let r = inside-next (x ∷ y ∷ []) c 0 f (record { x = w .across; y = w .along }) in record { across = r .x; along = r .y }
+use Rattle.quadtree.proofs.CoverMiddles.{Tame, whole-tame}
+use Rattle.quadtree.proofs.CoverCells.{TameCell, tame-finite}
+pub use Rattle.quadtree.proofs.CoverCells.{Lies, lies-quadrant, lies-quarter}
 
 -- ---- a point in an extent
 
-has-finite : (x : Float) (z : ℤ) → HasInt x z → finite x ≡ true
-unfolding finite
-has-finite nan z h = absurd h
-has-finite (inf s) z h = absurd h
-has-finite (fin s m e) z h = refl
-
--- The ends are finite.
-pub reachable-finite : {e : Extent} → Reachable e → FiniteCell e
-reachable-finite {e} h = record {
-  x0 = has-finite (e .x0) (squareOf e .x0) (x0-has h);
-  y0 = has-finite (e .y0) (squareOf e .y0) (y0-has h);
-  x1 = has-finite (e .x1) (squareOf e .x1) (x1-has h);
-  y1 = has-finite (e .y1) (squareOf e .y1) (y1-has h);
+-- The ends lie within 2 ^ 44 of zero, and in order.
+pub reachable-tame : {e : Extent} → Reachable e → TameCell e
+reachable-tame {e} h = record {
+  x0 = tame (squareOf e .x0) (x0-is h) (held-ends (h .held) .x0);
+  y0 = tame (squareOf e .y0) (y0-is h) (held-ends (h .held) .y0);
+  x1 = tame (squareOf e .x1) (x1-is h) (held-ends (h .held) .x1);
+  y1 = tame (squareOf e .y1) (y1-is h) (held-ends (h .held) .y1);
+  wide = le-int (e .x0) (e .x1) (squareOf e .x0) (squareOf e .x1) (x0-has h) (x1-has h) ∙ ap (leZ (squareOf e .x0)) (held-sided (h .held) .wide) ∙ le-more (squareOf e .x0) (2 ^ (h .held .log));
+  tall = le-int (e .y0) (e .y1) (squareOf e .y0) (squareOf e .y1) (y0-has h) (y1-has h) ∙ ap (leZ (squareOf e .y0)) (held-sided (h .held) .tall) ∙ le-more (squareOf e .y0) (2 ^ (h .held .log));
 }
+  where
+    tame : {x : Float} (z : ℤ) → x ≡ whole z → natAbs z ≤ 2 ^ 44 → Tame x
+    tame z u l = subst Tame (sym u) (whole-tame z l)
+
+-- They are finite.
+pub reachable-finite : {e : Extent} → Reachable e → FiniteCell e
+reachable-finite h = tame-finite (reachable-tame h)
 
 module _ {e : Extent} {x y : Float} (n : Near e x y) where
   from-x : le (e .x0) x ≡ leZ (squareOf e .x0) (floor x)

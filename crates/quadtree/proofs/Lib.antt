@@ -7,11 +7,15 @@ pub mod AddChain
 pub mod AddHold
 pub mod CoverEnds
 pub mod CoverDoublings
+mod CoverRounding
+pub mod CoverMiddles
+pub mod CoverCells
 pub mod CoverLaws
 pub mod AddWrap
 pub mod AddTurns
 pub mod AddPlaced
 pub mod AddInsert
+pub mod AddBuild
 mod ListChain
 mod ListRows
 mod ListTree

@@ -1,5 +1,3 @@
-use mathlib.Core.Path.{_≡_, sym}
-use mathlib.Core.Bool.{cond}
 use Rattle.quadtree.proofs.CoverEnds.{old-quadrant-is}
 use Rattle.quadtree.proofs.cover.old_quadrant.Statement.{statement}
 use Rattle.quadtree.proofs.cover.old_quadrant.Tie as tie
