@@ -27,3 +27,9 @@ pub mod WalkValues
 pub mod WalkFill
 pub mod WalkAfter
 pub mod WalkTheorems
+mod ListChain
+mod ListRows
+mod ListTree
+mod ListWhole
+pub mod TreeChecks
+mod TreeEnds

@@ -5,11 +5,13 @@ pub mod chain;
 pub mod cover;
 pub mod extent;
 pub mod indexer;
+pub mod list;
 pub mod point;
 pub mod store;
 pub mod trial;
 pub mod visit;
 pub mod visit_after;
+pub mod tree;
 
 use rules::Extent;
 

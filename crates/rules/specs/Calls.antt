@@ -58,23 +58,23 @@ pub record TreeInput : Type 0 where
 abbrev pub treeLengths : TreeInput → Check
 treeLengths l = lengthsCheck (eqb (length (l .rows)) (slotsOf (l .work) * 4) && eqb (length (l .chains)) (countOf (l .sheet)))
 
-unfoldable pub treeResult : TreeInput → Outcome (Tree Extent)
-treeResult l = treeOfSheet mostParticles (slotsOf (l .work)) (treeLengths l) (l .sheet)
+-- of at most `most` particles
+unfoldable pub treeResult : ℕ → TreeInput → Outcome (Tree Extent)
+treeResult most l = treeOfSheet most (slotsOf (l .work)) (treeLengths l) (l .sheet)
 
-unfoldable pub treeAnswer : TreeInput → TreeAnswer
-treeAnswer l =
-    let o = treeResult l in
-    record { refusal = refusalOf o; nodes = ifDone o nodes 0; extent = ifDone o (λ _. extentOf (coverSheet (l .sheet))) nowhere }
+module _ (l : TreeInput) (o : Outcome (Tree Extent)) where
+  unfoldable pub treeAnswer : TreeAnswer
+  treeAnswer = record { refusal = refusalOf o; nodes = ifDone o nodes 0; extent = ifDone o (λ _. extentOf (coverSheet (l .sheet))) nowhere }
 
--- unused places become zero; a refusal leaves both lists unchanged
-unfoldable pub rowsAfter : TreeInput → List ℕ
-rowsAfter l = ifDone (treeResult l) (λ t. padded (length (l .rows)) 0 (flat (rowsOf t))) (l .rows)
+  -- unused places become zero; a refusal leaves both lists unchanged
+  unfoldable pub rowsAfter : List ℕ
+  rowsAfter = ifDone o (λ t. padded (length (l .rows)) 0 (flat (rowsOf t))) (l .rows)
 
-unfoldable pub chainsAfter : TreeInput → List ℕ
-chainsAfter l = ifDone (treeResult l) (λ t. padded (length (l .chains)) 0 (chainsOf t)) (l .chains)
+  unfoldable pub chainsAfter : List ℕ
+  chainsAfter = ifDone o (λ t. padded (length (l .chains)) 0 (chainsOf t)) (l .chains)
 
-unfoldable pub treeWorkAfter : TreeInput → List ℕ
-treeWorkAfter l = workAfter (treeResult l) (l .work)
+  unfoldable pub treeWorkAfter : List ℕ
+  treeWorkAfter = workAfter o (l .work)
 
 -- ---- a force on velocities, which are a part of the caller's longer buffer
 

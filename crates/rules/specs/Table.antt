@@ -14,11 +14,12 @@ use Rattle.rules.specs.Plain.{all}
 use Rattle.rules.specs.Outcome.{Outcome, done, refused, refusalOf, workAfter}
 use Rattle.rules.specs.Number.{_⊘_, 0·, 1·, 2·, limit, floatOf, bitsOf}
 use Rattle.rules.specs.Root.{rootBits}
+use Rattle.rules.specs.Refusal.{mostParticles}
 use Rattle.rules.specs.Sheet.{particle, sheetOf, placesOf, pairsBytes}
 use Rattle.rules.specs.Cover.{whole}
 use Rattle.rules.specs.Walk.{Counted}
 use Rattle.rules.specs.Flow.{Flow}
-use Rattle.rules.specs.Calls.{slotWords, TreeInput, treeAnswer, rowsAfter, chainsAfter, treeWorkAfter, ForceInput, manyBodyResult, collideResult, linkResult, forceAnswer, bufferAfter, centerResult, particlesAfter}
+use Rattle.rules.specs.Calls.{slotWords, TreeInput, treeResult, treeAnswer, rowsAfter, chainsAfter, treeWorkAfter, ForceInput, manyBodyResult, collideResult, linkResult, forceAnswer, bufferAfter, centerResult, particlesAfter}
 use Rattle.rules.specs.Listing.{lister, ascii}
 use Rattle.rules.specs.Opened.{opened}
 
@@ -69,21 +70,27 @@ tree slots at =
 -- accepted, with these ends, rows and chains, and every work slot zero
 lists : TreeInput → List Float → List ℕ → List ℕ → Bool
 lists l ends rows chains =
-    let a = treeAnswer l in
+    let o = treeResult mostParticles l in
+    let a = treeAnswer l o in
     let e = a .extent in
     isRefusal 0 0 (a .refusal)
     && sameBits (e .x0 ∷ e .y0 ∷ e .x1 ∷ e .y1 ∷ []) ends
-    && equals (rowsAfter l) rows
-    && equals (chainsAfter l) chains
-    && all (eqb 0) (treeWorkAfter l)
+    && equals (rowsAfter l o) rows
+    && equals (chainsAfter l o) chains
+    && all (eqb 0) (treeWorkAfter l o)
 
 counts : TreeInput → ℕ → Bool
-counts l n = eqb (treeAnswer l .nodes) n
+counts l n = eqb (treeAnswer l (treeResult mostParticles l) .nodes) n
 
 -- refused, with both lists unchanged, and the work slots all holding w
 refusesTree : TreeInput → ℕ → ℕ → ℕ → Bool
 refusesTree l number place w =
-    isRefusal number place (treeAnswer l .refusal) && counts l 0 && all (eqb 9) (rowsAfter l) && all (eqb 9) (chainsAfter l) && all (eqb w) (treeWorkAfter l)
+    let o = treeResult mostParticles l in
+    isRefusal number place (treeAnswer l o .refusal)
+    && counts l 0
+    && all (eqb 9) (rowsAfter l o)
+    && all (eqb 9) (chainsAfter l o)
+    && all (eqb w) (treeWorkAfter l o)
 
 -- the level of every leaf
 leavesAt : ℕ → List ℕ → Bool
@@ -157,10 +164,10 @@ table =
     ∷ T 4 (lists (tree 3 (0· ∷ 0· ∷ 1· ∷ 1· ∷ [])) (0· ∷ 0· ∷ 2· ∷ 2· ∷ []) (0 ∷ 0 ∷ 1 ∷ 0 ∷ 1 ∷ 0 ∷ 2 ∷ 1 ∷ 1 ∷ 3 ∷ 2 ∷ 1 ∷ []) (0 ∷ 1 ∷ []))
     ∷ T 5 (lists (tree 5 (0· ∷ 0· ∷ 1· ∷ 1· ∷ minus 1 ∷ 0· ∷ [])) (minus 2 ∷ 0· ∷ 2· ∷ plus 4 ∷ [])
     (0 ∷ 0 ∷ 1 ∷ 0 ∷ 1 ∷ 0 ∷ 2 ∷ 1 ∷ 1 ∷ 1 ∷ 1 ∷ 0 ∷ 2 ∷ 0 ∷ 2 ∷ 1 ∷ 2 ∷ 3 ∷ 2 ∷ 1 ∷ []) (2 ∷ 0 ∷ 1 ∷ []))
-    ∷ T 6 (counts (tree 66 (close 64)) 66 && leavesAt 64 (rowsAfter (tree 66 (close 64))))
+    ∷ T 6 (let l = tree 66 (close 64) in counts l 66 && leavesAt 64 (rowsAfter l (treeResult mostParticles l)))
     ∷ T 6 (refusesTree (tree 65 (close 64)) 7 1 0)
     ∷ T 7 (refusesTree (tree 66 (close 65)) 6 1 0)
-    ∷ T 8 (isRefusal 0 0 (treeAnswer (tree 1 (limit ∷ 0· ∷ [])) .refusal))
+    ∷ T 8 (let l = tree 1 (limit ∷ 0· ∷ []) in isRefusal 0 0 (treeAnswer l (treeResult mostParticles l) .refusal))
     ∷ T 8 (refusesTree (tree 1 (floatOf 0x4270_0000_0000_0001 ∷ 0· ∷ [])) 4 0 7)
     ∷ T 9 (let l = force (0· ∷ 0· ∷ plus 3 ∷ plus 3 ∷ []) [] in
     gives l (manyBodyResult l (minus 30 ∷ minus 30 ∷ []) 1·) (minus 5 ∷ minus 5 ∷ plus 5 ∷ plus 5 ∷ []) 6 0)

@@ -81,7 +81,7 @@ unfolding recordCheck
 sound-fine i p s = rw (s .flags, s .x, s .y, s .vx, s .vy)
 
 -- where two tests hold together, each does
-and-split : (a b : Bool) → a && b ≡ true → (a ≡ true) × (b ≡ true)
+pub and-split : (a b : Bool) → a && b ≡ true → (a ≡ true) × (b ≡ true)
 and-split true b h = (refl, h)
 and-split false b h = absurd (false≢true h)
 
