@@ -1,5 +1,5 @@
 //! Answers cases of the oracle's format by calling Talemiku's archive, and looks at every lent buffer: `port answer` reads cases, a line each, and
-//! writes answers as the oracle does; `port grid POINTS SIDE` writes the tree of every choice of points on a square grid.
+//! writes answers as the oracle does; `port grid POINTS SIDE` writes the tree of every choice of points on a square grid; `port large SEED` writes trees of 4,096 points.
 use std::io::{self, BufRead, BufWriter, Write};
 
 #[repr(C)]
@@ -148,6 +148,28 @@ fn grid(out: &mut impl Write, points: u32, side: u64) -> io::Result<()> {
     Ok(())
 }
 
+/// 4,096 points: spread, on a whole grid, on one place, in close pairs far apart.
+fn large(out: &mut impl Write, mut seed: u64) -> io::Result<()> {
+    let mut random = move || {
+        seed = seed.wrapping_mul(6364136223846793005).wrapping_add(1442695040888963407);
+        (seed >> 11) as f64 / (1u64 << 53) as f64
+    };
+    for kind in 0..4 {
+        write!(out, "tree 262145 4096")?;
+        for i in 0..4096u64 {
+            let (x, y) = match kind {
+                0 => (random() * 2000.0 - 1000.0, random() * 2000.0 - 1000.0),
+                1 => ((i % 64) as f64, (i / 64) as f64),
+                2 => (0.25, -0.0),
+                _ => ((i / 2) as f64 * 16.0, if i % 2 == 0 { 0.0 } else { 2f64.powi(-40) }),
+            };
+            write!(out, " {:016x} {:016x} {:016x} {:016x} 0", x.to_bits(), y.to_bits(), 0, 0)?;
+        }
+        writeln!(out)?;
+    }
+    Ok(())
+}
+
 fn main() -> io::Result<()> {
     let args: Vec<String> = std::env::args().skip(1).collect();
     let mut out = BufWriter::new(io::stdout().lock());
@@ -159,8 +181,9 @@ fn main() -> io::Result<()> {
             Ok(())
         }
         ["grid", points, side] => grid(&mut out, points.parse().expect("points"), side.parse().expect("side")),
+        ["large", seed] => large(&mut out, seed.parse().expect("a seed")),
         _ => {
-            eprintln!("port answer | port grid POINTS SIDE");
+            eprintln!("port answer | port grid POINTS SIDE | port large SEED");
             std::process::exit(2)
         }
     }
