@@ -254,7 +254,8 @@ module _ (at : List Float) where
   build-end slots m next tail q p b r le ge s =
       let n : ℕ = particles at in
       let z : p ≡ n = omega arith in
-      let e : q .extent ≡ extentOf (coverFirst at n) = b .extent ∙ ap (λ (i : ℕ). extentOf (coverFirst at i)) z in
-      (ap (treeCheck at n) s ∙ b .check ∙ left-end n slots p ge,
-      holds-stands n m next tail q r (subst (λ (i : ℕ). Holds at (upTo i) m q) z (b .holds)) (subst (λ (i : ℕ). Linked at next tail i) z (b .linked)) e,
-      e)
+      let e : q .extent ≡ extentOf (coverFirst at n) = b .extent ∙ ap (λ (i : ℕ). extentOf (coverFirst at i)) z in (
+        ap (treeCheck at n) s ∙ b .check ∙ left-end n slots p ge,
+        holds-stands n m next tail q r (subst (λ (i : ℕ). Holds at (upTo i) m q) z (b .holds)) (subst (λ (i : ℕ). Linked at next tail i) z (b .linked)) e,
+        e,
+      )

@@ -70,21 +70,21 @@ module _ (at : List Float) where
       where
         links : (i : ℕ) → i < p + 1 → Link at (p + 1) i (getD (set next p 0) i 0)
         links i l = elim (ℕ-discrete i p) [
-            yes e ↦ rw e (inl (getD-set-same next p 0 0 in-next, λ j a b f. absurd (omega arith)))
+          | yes e ↦ rw e (inl (getD-set-same next p 0 0 in-next, λ j a b f. absurd (omega arith)))
           | no n ↦ rw (getD-set-other next p i 0 0 n)
-            (⊎-elim
-            (λ a. inl (a .0, λ j x y f. elim (ℕ-discrete j p) [ yes z ↦ new i (omega arith) (ap (same at i) (sym z) ∙ f) | no ne ↦ a .1 j x (omega arith) f ]))
-            (λ b. inr (b .0, b .1, b .2, omega (arith, b .3), b .4, b .5))
-            (h .links i (omega arith)))
-          ]
+              (⊎-elim
+              (λ a. inl (a .0, λ j x y f. elim (ℕ-discrete j p) [ yes z ↦ new i (omega arith) (ap (same at i) (sym z) ∙ f) | no ne ↦ a .1 j x (omega arith) f ]))
+              (λ b. inr (b .0, b .1, b .2, omega (arith, b .3), b .4, b .5))
+              (h .links i (omega arith)))
+        ]
 
         tails : (i : ℕ) → i < p + 1 → Earliest at i → Last at (p + 1) i (getD (set tail p p) i 0)
         tails i l first = elim (ℕ-discrete i p) [
-            yes e ↦ rw (e, getD-set-same tail p p 0 in-tail) (record { low = omega arith; less = omega arith; point = own; last = λ j a b f. omega arith })
+          | yes e ↦ rw (e, getD-set-same tail p p 0 in-tail) (record { low = omega arith; less = omega arith; point = own; last = λ j a b f. omega arith })
           | no n ↦ rw (getD-set-other tail p i p 0 n)
-            (let g = h .tails i (omega arith) first in
-            record { low = g .low; less = omega (arith, g .less); point = g .point; last = λ j a b f. elim (ℕ-discrete j p) [ yes z ↦ new i (omega arith) (ap (same at i) (sym z) ∙ f) | no ne ↦ g .last j a (omega arith) f ] })
-          ]
+              (let g = h .tails i (omega arith) first in
+              record { low = g .low; less = omega (arith, g .less); point = g .point; last = λ j a b f. elim (ℕ-discrete j p) [ yes z ↦ new i (omega arith) (ap (same at i) (sym z) ∙ f) | no ne ↦ g .last j a (omega arith) f ] })
+        ]
 
     -- at the point of f, whose chain it joins at the end
     pub join-linked : (f : ℕ) → f < p → Earliest at f → same at f p ≡ true → Linked at (set (set next (getD tail f 0) (p + 1)) p 0) (set tail f p) (p + 1)
@@ -105,35 +105,44 @@ module _ (at : List Float) where
 
         links : (i : ℕ) → i < p + 1 → Link at (p + 1) i (getD w i 0)
         links i li = elim (ℕ-discrete i p) [
-            yes z ↦ rw z (inl (getD-set-same (set next l (p + 1)) p 0 0 (rw length-set in-next), λ j a b c. absurd (omega arith)))
+          | yes z ↦ rw z (inl (getD-set-same (set next l (p + 1)) p 0 0 (rw length-set in-next), λ j a b c. absurd (omega arith)))
           | no n ↦ rw (getD-set-other (set next l (p + 1)) p i 0 0 n) (elim (ℕ-discrete i l) [ yes z ↦ at-last z | no ne ↦ other n ne ])
-          ]
+        ]
           where
             at-last : i ≡ l → Link at (p + 1) i (getD (set next l (p + 1)) i 0)
             at-last z =
                 rw z
-                (inr (p, getD-set-same next l (p + 1) 0 (omega (arith, g .less)), g .less, omega arith, same-trans at l f p (same-sym at f l (g .point)) e,
-                λ j a b c. g .last j a b (same-trans at f l j (g .point) c)))
+                (inr (
+                  p,
+                  getD-set-same next l (p + 1) 0 (omega (arith, g .less)),
+                  g .less,
+                  omega arith,
+                  same-trans at l f p (same-sym at f l (g .point)) e,
+                  λ j a b c. g .last j a b (same-trans at f l j (g .point) c),
+                ))
 
             other : (i ≡ p → ⊥) → (i ≡ l → ⊥) → Link at (p + 1) i (getD (set next l (p + 1)) i 0)
             other n ne =
                 rw (getD-set-other next l i (p + 1) 0 ne)
                 (⊎-elim
-                (λ a. inl (a .0, λ j x y c. elim (ℕ-discrete j p) [
-                  yes z ↦ elim (decLt i l) [
-                    yes lt ↦ a .1 l lt (g .less) (same-trans at i f l (same-sym at f i (point i (ap (same at i) (sym z) ∙ c))) (g .point))
-                  | no ge ↦ g .last i (omega arith) (omega arith) (point i (ap (same at i) (sym z) ∙ c))
-                  ]
-                | no nz ↦ a .1 j x (omega arith) c
-                ]))
+                (λ a. inl (
+                  a .0,
+                  λ j x y c. elim (ℕ-discrete j p) [
+                    | yes z ↦ elim (decLt i l) [
+                      | yes lt ↦ a .1 l lt (g .less) (same-trans at i f l (same-sym at f i (point i (ap (same at i) (sym z) ∙ c))) (g .point))
+                      | no ge ↦ g .last i (omega arith) (omega arith) (point i (ap (same at i) (sym z) ∙ c))
+                    ]
+                    | no nz ↦ a .1 j x (omega arith) c
+                  ],
+                ))
                 (λ b. inr (b .0, b .1, b .2, omega (arith, b .3), b .4, b .5))
                 (h .links i (omega arith)))
 
         tails : (i : ℕ) → i < p + 1 → Earliest at i → Last at (p + 1) i (getD (set tail f p) i 0)
         tails i li first = elim (ℕ-discrete i f) [
-            yes z ↦ rw (z, getD-set-same tail f p 0 (omega arith)) (record { low = omega arith; less = omega arith; point = e; last = λ j a b c. omega arith })
+          | yes z ↦ rw (z, getD-set-same tail f p 0 (omega arith)) (record { low = omega arith; less = omega arith; point = e; last = λ j a b c. omega arith })
           | no n ↦ rw (getD-set-other tail f i p 0 n) (elim (ℕ-discrete i p) [ yes z ↦ absurd (first f (omega arith) (ap (same at f) z ∙ e)) | no ne ↦ other n ne ])
-          ]
+        ]
           where
             other : (i ≡ f → ⊥) → (i ≡ p → ⊥) → Last at (p + 1) i (getD tail i 0)
             other n ne =
@@ -154,12 +163,13 @@ module _ (at : List Float) where
     following : (i : ℕ) (js : List ℕ) → i < n → Rising (suc i) js → ((j : ℕ) → In j js → (j < n) × (same at i j ≡ true)) → ((j : ℕ) → i < j → j < n → same at i j ≡ true → In j js) → Follows next (i ∷ js)
     following i [] l r mem all = ⊎-elim (λ a. a .0) (λ b. absurd (all (b .0) (b .2) (b .3) (b .4))) (h .links i l)
     following i (j ∷ js) l r mem all =
-        let e = mem j (inl refl) in
-        (⊎-elim (λ a. absurd (a .1 j (omega (arith, r .0)) (e .0) (e .1)))
-        (λ b. b .1 ∙ ap (λ (u : ℕ). u + 1) (⊎-elim (λ z. z) (λ m. absurd (b .5 j (omega (arith, r .0)) (omega (arith, rising-in (suc j) (b .0) js (r .1) m)) (e .1))) (all (b .0) (b .2) (b .3) (b .4))))
-        (h .links i l),
-        following j js (e .0) (r .1) (λ k m. (mem k (inr m) .0, same-trans at j i k (same-sym at i j (e .1)) (mem k (inr m) .1)))
-        (λ k a b c. ⊎-elim (λ z. absurd (omega arith)) (λ m. m) (all k (omega (arith, r .0)) b (same-trans at i j k (e .1) c))))
+        let e = mem j (inl refl) in (
+          ⊎-elim (λ a. absurd (a .1 j (omega (arith, r .0)) (e .0) (e .1)))
+              (λ b. b .1 ∙ ap (λ (u : ℕ). u + 1) (⊎-elim (λ z. z) (λ m. absurd (b .5 j (omega (arith, r .0)) (omega (arith, rising-in (suc j) (b .0) js (r .1) m)) (e .1))) (all (b .0) (b .2) (b .3) (b .4))))
+              (h .links i l),
+          following j js (e .0) (r .1) (λ k m. (mem k (inr m) .0, same-trans at j i k (same-sym at i j (e .1)) (mem k (inr m) .1)))
+              (λ k a b c. ⊎-elim (λ z. absurd (omega arith)) (λ m. m) (all k (omega (arith, r .0)) b (same-trans at i j k (e .1) c))),
+        )
 
     pub chain-follows : (js : List ℕ) → Chain at (upTo n) js → Follows next js
     chain-follows [] c = absurd (omega (arith, c .some))
@@ -167,7 +177,7 @@ module _ (at : List Float) where
         let e : i ∷ js ≡ keep (same at i) (upTo n) = c .whole i (inl refl) in
         let r : Rising 0 (i ∷ js) = subst (Rising 0) (sym e) (rising-keep (same at i) 0 (upTo n) (rising-count 0 n)) in
         let member : (j : ℕ) → In j (i ∷ js) → (j < n) × (same at i j ≡ true) = λ j m.
-            (let k = in-keep (same at i) (upTo n) j (subst (In j) e m) in (in-upTo n j (k .0), k .1)) in
+        (let k = in-keep (same at i) (upTo n) j (subst (In j) e m) in (in-upTo n j (k .0), k .1)) in
         following i js (member i (inl refl) .0) (r .1) (λ j m. member j (inr m))
         (λ j a b f. ⊎-elim (λ z. absurd (omega arith)) (λ m. m) (subst (In j) (sym e) (keep-in (same at i) (upTo n) j (upTo-in n j b) f)))
 

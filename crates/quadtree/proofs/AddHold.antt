@@ -172,9 +172,10 @@ module _ (at : List Float) where
 
       -- with too few slots it is refused
       pub next-full : length m < y * 8 → (depth (treeIn at (q .extent) (upTo (p + 1))) ≤ greatestLevel + 1) × (length m < nodes (treeIn at (q .extent) (upTo (p + 1))) * 8)
-      next-full lt =
-          (subst (λ (t : Tree Extent). depth t ≤ 65) after-cells (subst (λ (k : ℕ). k ≤ 65) (sym (cells-depth (q .extent) after)) after-most),
-          subst (λ (t : Tree Extent). length m < nodes t * 8) after-cells (subst (λ (k : ℕ). length m < k * 8) (sym (cells-nodes (q .extent) after ∙ after-nodes)) lt))
+      next-full lt = (
+        subst (λ (t : Tree Extent). depth t ≤ 65) after-cells (subst (λ (k : ℕ). k ≤ 65) (sym (cells-depth (q .extent) after)) after-most),
+        subst (λ (t : Tree Extent). length m < nodes t * 8) after-cells (subst (λ (k : ℕ). length m < k * 8) (sym (cells-nodes (q .extent) after ∙ after-nodes)) lt),
+      )
 
       -- once v is written, the slots hold it
       pub next-holds : (b : List ℕ) (r' : Quadtree) → Stored b v → ((j : ℕ) → j < q .nodes → (lead u ≡ j + 1 → ⊥) → Same m b j) → y * 8 ≤ length b

@@ -148,21 +148,22 @@ module _ (at : List Float) where
 
       pub first-placed : (w a b : List ℕ) → (length m / 8 ≡ 0 → ⊥) → w ≡ putLeaf m 0 p → a ≡ set nx p 0 → b ≡ set tail p p → Placed at w a b (c .extent) p (Done (record { extent = c .extent; root = 1; nodes = 1; deepest = 0 }))
       first-placed w a b n ew ea eb =
-          let room : 8 ≤ length m = fits (length m) n in
-          (record {
-            tree = leaf 0 (p ∷ []);
-            root = refl;
-            stored = ap (λ (w : List ℕ). word w 0 0) ew ∙ leaf-tag m 0 p (omega arith);
-            cells = first-cells;
-            most = omega arith;
-            deepest = refl;
-            count = refl;
-            below = omega arith;
-            once = tt;
-            room = omega (arith, ap length ew, leaf-length m 0 p);
-          },
-          refl,
-          subst (λ (a : List ℕ). Linked at a b (p + 1)) (sym ea) (subst (λ (b : List ℕ). Linked at (set nx p 0) b (p + 1)) (sym eb) (begun at m nx tail q p g (λ i k e. subst (In i) no-points k))))
+          let room : 8 ≤ length m = fits (length m) n in (
+            record {
+              tree = leaf 0 (p ∷ []);
+              root = refl;
+              stored = ap (λ (w : List ℕ). word w 0 0) ew ∙ leaf-tag m 0 p (omega arith);
+              cells = first-cells;
+              most = omega arith;
+              deepest = refl;
+              count = refl;
+              below = omega arith;
+              once = tt;
+              room = omega (arith, ap length ew, leaf-length m 0 p);
+            },
+            refl,
+            subst (λ (a : List ℕ). Linked at a b (p + 1)) (sym ea) (subst (λ (b : List ℕ). Linked at (set nx p 0) b (p + 1)) (sym eb) (begun at m nx tail q p g (λ i k e. subst (In i) no-points k))),
+          )
         where
           fits : (n : ℕ) → (n / 8 ≡ 0 → ⊥) → 8 ≤ n
           fits n h = omega arith

@@ -72,12 +72,13 @@ module _ (at : List Float) (m next tail : List ℕ) (q : Quadtree) (p : ℕ) (g 
 
     pub placed-joined : same at f p ≡ true → (a b : List ℕ) → a ≡ set (set next (getD tail f 0) (p + 1)) p 0 → b ≡ set tail f p → Placed at m a b (q .extent) p (Done q)
     placed-joined e a b ea eb =
-        let v = joins at p m q (h .holds) l c s f (h .rest) way e in
-        (next-holds at p m q (h .holds) l (64 - l) c u (leaf s (f ∷ h .rest ++ (p ∷ []))) (q .nodes) 1 way v m q
-        (joined-stored at p m q (h .holds) l c s f (h .rest) way) (λ j y n. (refl, refl)) (h .holds .room) refl refl refl
-        (level (depth (h .holds .tree)) (h .holds .deepest) (reach-depth at p l (q .extent) (h .holds .tree) c u way)),
-        refl,
-        subst₂ (λ (x y : List ℕ). Linked at x y (p + 1)) (sym ea) (sym eb) (join-linked at p next tail (g .linked) (g .in-next) (g .in-tail) own f leaf-first (first-of .1) e))
+        let v = joins at p m q (h .holds) l c s f (h .rest) way e in (
+          next-holds at p m q (h .holds) l (64 - l) c u (leaf s (f ∷ h .rest ++ (p ∷ []))) (q .nodes) 1 way v m q
+              (joined-stored at p m q (h .holds) l c s f (h .rest) way) (λ j y n. (refl, refl)) (h .holds .room) refl refl refl
+              (level (depth (h .holds .tree)) (h .holds .deepest) (reach-depth at p l (q .extent) (h .holds .tree) c u way)),
+          refl,
+          subst₂ (λ (x y : List ℕ). Linked at x y (p + 1)) (sym ea) (sym eb) (join-linked at p next tail (g .linked) (g .in-next) (g .in-tail) own f leaf-first (first-of .1) e),
+        )
       where
         level : (d : ℕ) → d - 1 ≡ q .deepest → l + 1 ≤ d → q .deepest ≡ max (q .deepest) (l + 1 - 1)
         level d e h = omega arith
@@ -120,14 +121,15 @@ module _ (at : List Float) (m next tail : List ℕ) (q : Quadtree) (p : ℕ) (g 
             → r .extent ≡ q .extent → r .root ≡ q .root → r .nodes ≡ q .nodes + k + 2 → r .deepest ≡ max (q .deepest) (l + k + 1) → Placed at w a b (q .extent) p (Done r)
         placed-split w a b r ew ea eb fits ex ro nn de =
             let v : Tree ℕ = splitT at p (f ∷ h .rest) k c s (q .nodes) in
-            let z = split-asks (r .nodes) nn fits in
-            (subst (λ (w : List ℕ). Holds at (upTo (p + 1)) w r) (sym ew)
-            (next-holds at p m q (h .holds) l (64 - l) c u v (q .nodes + (k + 2)) (k + 2) way split-replaces (splitted at p f k c s (q .nodes) m) r
-            (split-stored at p (f ∷ h .rest) f k c s (q .nodes) m refl leaf-below (z .room) (z .small))
-            (λ j y n. split-same at p f k c s (q .nodes) m j (λ e. n (ap (λ (i : ℕ). i + 1) (sym e))) y)
-            (omega (arith, split-length at p f k c s (q .nodes) m)) ex ro (omega arith) (de ∙ ap (max (q .deepest)) (level l k))),
-            ex,
-            subst₂ (λ (x y : List ℕ). Linked at x y (p + 1)) (sym ea) (sym eb) (begun (leaf-new at p (upTo p) m q (h .holds) l c s f (h .rest) way ne)))
+            let z = split-asks (r .nodes) nn fits in (
+              subst (λ (w : List ℕ). Holds at (upTo (p + 1)) w r) (sym ew)
+                  (next-holds at p m q (h .holds) l (64 - l) c u v (q .nodes + (k + 2)) (k + 2) way split-replaces (splitted at p f k c s (q .nodes) m) r
+                  (split-stored at p (f ∷ h .rest) f k c s (q .nodes) m refl leaf-below (z .room) (z .small))
+                  (λ j y n. split-same at p f k c s (q .nodes) m j (λ e. n (ap (λ (i : ℕ). i + 1) (sym e))) y)
+                  (omega (arith, split-length at p f k c s (q .nodes) m)) ex ro (omega arith) (de ∙ ap (max (q .deepest)) (level l k))),
+              ex,
+              subst₂ (λ (x y : List ℕ). Linked at x y (p + 1)) (sym ea) (sym eb) (begun (leaf-new at p (upTo p) m q (h .holds) l c s f (h .rest) way ne)),
+            )
           where
             level : (l k : ℕ) → l + k + 1 ≡ l + (k + 2) - 1
             level l k = omega arith
@@ -165,14 +167,15 @@ module _ (at : List Float) (m next tail : List ℕ) (q : Quadtree) (p : ℕ) (g 
         → r .extent ≡ q .extent → r .root ≡ q .root → r .nodes ≡ q .nodes + 1 → r .deepest ≡ max (q .deepest) (l + 1) → Placed at w a b (q .extent) p (Done r)
     placed-hung w a b r ew ea eb fits ex ro nn de =
         let room : (q .nodes + 1) * 8 ≤ length m = omega arith in
-        let small : q .nodes + 1 < 2 ^ 32 = omega (arith, few) in
-        (subst (λ (w : List ℕ). Holds at (upTo (p + 1)) w r) (sym (ew ∙ ap (λ (i : ℕ). hung p m s i (q .nodes)) (h .quadrant)))
-        (next-holds at p m q (h .holds) l (64 - l) d t v (q .nodes + 1) 2 (h .reached) hang-replaces (hung p m s (side at p d) (q .nodes)) r
-        (hung-stored at p m q (h .holds) l d s (h .t0) (h .t1) (h .t2) (h .t3) (h .reached) room small)
-        (hung-same at p m q (h .holds) l d s (h .t0) (h .t1) (h .t2) (h .t3) (h .reached) room small (side at p d))
-        (omega (arith, hung-length at p m q (h .holds) l d s (h .t0) (h .t1) (h .t2) (h .t3) (h .reached) room small (side at p d))) ex ro nn (de ∙ ap (max (q .deepest)) (level l))),
-        ex,
-        subst₂ (λ (x y : List ℕ). Linked at x y (p + 1)) (sym ea) (sym eb) (begun (hole-new at p (upTo p) m q (h .holds) l d s (h .t0) (h .t1) (h .t2) (h .t3) (h .reached) empty)))
+        let small : q .nodes + 1 < 2 ^ 32 = omega (arith, few) in (
+          subst (λ (w : List ℕ). Holds at (upTo (p + 1)) w r) (sym (ew ∙ ap (λ (i : ℕ). hung p m s i (q .nodes)) (h .quadrant)))
+              (next-holds at p m q (h .holds) l (64 - l) d t v (q .nodes + 1) 2 (h .reached) hang-replaces (hung p m s (side at p d) (q .nodes)) r
+              (hung-stored at p m q (h .holds) l d s (h .t0) (h .t1) (h .t2) (h .t3) (h .reached) room small)
+              (hung-same at p m q (h .holds) l d s (h .t0) (h .t1) (h .t2) (h .t3) (h .reached) room small (side at p d))
+              (omega (arith, hung-length at p m q (h .holds) l d s (h .t0) (h .t1) (h .t2) (h .t3) (h .reached) room small (side at p d))) ex ro nn (de ∙ ap (max (q .deepest)) (level l))),
+          ex,
+          subst₂ (λ (x y : List ℕ). Linked at x y (p + 1)) (sym ea) (sym eb) (begun (hole-new at p (upTo p) m q (h .holds) l d s (h .t0) (h .t1) (h .t2) (h .t3) (h .reached) empty)),
+        )
       where
         level : (l : ℕ) → l + 1 ≡ l + 2 - 1
         level l = omega arith

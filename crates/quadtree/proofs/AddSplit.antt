@@ -49,7 +49,7 @@ module _ (at : List Float) (p : ℕ) where
       let k : ℕ → Tree ℕ = upd bare (quarterOf at c (first is)) (leaf x is) in
       let t : Tree ℕ = leaf (x + 1) (p ∷ []) in
       let apart : (r : ℕ) → r < 4 → (r ≡ side at p c → ⊥) → Apart t (k r) = λ r l n.
-          upd-all (λ r u. EachSlot (λ j. j ≡ x + 1 → ⊥) u) bare (quarterOf at c (first is)) (leaf x is) (omega arith) (λ r n. tt) r in
+      upd-all (λ r u. EachSlot (λ j. j ≡ x + 1 → ⊥) u) bare (quarterOf at c (first is)) (leaf x is) (omega arith) (λ r n. tt) r in
       once-over s (upd k (side at p c) t)
       (upd-below (λ r u. EachSlot (λ j. j ≡ s → ⊥) u) k (side at p c) t (omega arith)
       (λ r l n. upd-all (λ r u. EachSlot (λ j. j ≡ s → ⊥) u) bare (quarterOf at c (first is)) (leaf x is) (omega arith) (λ r n. tt) r))
@@ -142,13 +142,13 @@ module _ (at : List Float) (p : ℕ) where
       let k : ℕ → Tree ℕ = upd k0 (side at p c) (leaf (x + 1) (p ∷ [])) in
       let ks : List ℕ = set (set childless q (x + 1)) (side at p c) (x + 2) in
       let numbers : ks ≡ leads k = ap (λ (l : List ℕ). set l (side at p c) (x + 2)) (leads-upd bare q (x + 1) (leaf x is) (quadrant-lt c (xAt at f) (yAt at f)) refl)
-          ∙ leads-upd k0 (side at p c) (x + 2) (leaf (x + 1) (p ∷ [])) (side-lt at p c) (omega arith) in
+      ∙ leads-upd k0 (side at p c) (x + 2) (leaf (x + 1) (p ∷ [])) (side-lt at p c) (omega arith) in
       let m1 : List ℕ = putInternal m s ks in
       let m2 : List ℕ = putLeaf m1 x f in
       let w : List ℕ = putLeaf m2 (x + 1) p in
       let own : Same m1 w s = same-trans m1 m2 w s (leaf-same m1 x f s (omega arith)) (leaf-same m2 (x + 1) p s (omega arith)) in
       let fits : Small (leads k) = leads-small (x + 2) k (omega arith)
-          (upd-below (λ r u. lead u ≤ x + 2) k0 (side at p c) (leaf (x + 1) (p ∷ [])) (omega arith) (λ r l n. upd-all (λ r u. lead u ≤ x + 2) bare q (leaf x is) (omega arith) (λ r n. omega arith) r)) in
+      (upd-below (λ r u. lead u ≤ x + 2) k0 (side at p c) (leaf (x + 1) (p ∷ [])) (omega arith) (λ r l n. upd-all (λ r u. lead u ≤ x + 2) bare q (leaf x is) (omega arith) (λ r n. omega arith) r)) in
       let old : Stored w (leaf x is) = leaf-same m2 (x + 1) p x (omega arith) .0 ∙ leaf-tag m1 x f (simp internal-length (omega arith)) ∙ ap (λ (i : ℕ). i + 1) e in
       let new : Stored w (leaf (x + 1) (p ∷ [])) = leaf-tag m2 (x + 1) p (simp (leaf-length, internal-length) (omega arith)) in
       subst (λ (i : ℕ). Stored w (over s (upd (upd bare (quadrant c (xAt at i) (yAt at i)) (leaf x is)) (side at p c) (leaf (x + 1) (p ∷ []))))) e
@@ -164,7 +164,7 @@ module _ (at : List Float) (p : ℕ) where
       let w : List ℕ = splitted at p f g (quarter (side at p c) c) x (x + 1) m1 in
       let own : Same m1 w s = split-same f g (quarter (side at p c) c) x (x + 1) m1 s (omega arith) (omega arith) in
       let fits : Small (leads k) = leads-small (x + 1) k (omega arith)
-          (upd-below (λ r u. lead u ≤ x + 1) bare (side at p c) t (omega (arith, split-lead is g (quarter (side at p c) c) x (x + 1))) (λ r l n. omega arith)) in
+      (upd-below (λ r u. lead u ≤ x + 1) bare (side at p c) t (omega (arith, split-lead is g (quarter (side at p c) c) x (x + 1))) (λ r l n. omega arith)) in
       stored-over w s k (own .0 ∙ internal-tag m s ks (omega arith))
       (own .1 ∙ ap (λ (l : List ℕ). kids (putInternal m s l) s) numbers ∙ internal-kids m s (leads k) (omega arith) fits)
       (upd-below (λ r u. Stored w u) bare (side at p c) t (split-stored is f g (quarter (side at p c) c) x (x + 1) m1 e (omega arith) (simp internal-length (omega arith)) (omega arith)) (λ r l n. tt))
@@ -233,7 +233,7 @@ module _ (at : List Float) (p : ℕ) where
       let q : ℕ = quarterOf at c i in
       let z : side at p c ≡ q = inQuarter-is at c (side at p c) i (h .0) in
       let rest : suc n < depth (insertT at p (quarter q c) (suc n) (leaf (quarter q c) (i ∷ js))) =
-          subst (λ (q : ℕ). suc n < depth (insertT at p (quarter q c) (suc n) (leaf (quarter q c) (i ∷ js)))) z (split-deep i js n (quarter (side at p c) c) (quarter (side at p c) c) ne (h .1)) in
+      subst (λ (q : ℕ). suc n < depth (insertT at p (quarter q c) (suc n) (leaf (quarter q c) (i ∷ js)))) z (split-deep i js n (quarter (side at p c) c) (quarter (side at p c) c) ne (h .1)) in
       let f : ℕ → ℕ → Tree Extent = λ r _. below at p c (suc n) i js r in
       let own : f q (pick 0 0 0 0 q) ≡ insertT at p (quarter q c) (suc n) (leaf (quarter q c) (i ∷ js)) = rw (inQuarter-own at c i) in
       rw (insert-together at p c d (suc n) i js ne (together-too c i (h .0)))

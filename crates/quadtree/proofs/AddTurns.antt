@@ -127,10 +127,12 @@ module _ (at : List Float) (p : ℕ) where
     pub way-down : (a : ℕ) → a ≡ getD (kids m s) k 0 → (a ≡ 0 → ⊥) → (u : Tree ℕ) × Reaches at p (l + 1) (q .extent) (h .tree) (quarter k c) u × (lead u ≡ a - 1 + 1)
     way-down a z n =
         let u : Tree ℕ = pick (i .t0) (i .t1) (i .t2) (i .t3) (side at p c) in
-        let f : a ≡ lead u = z ∙ ap (λ (j : ℕ). getD (kids m s) j 0) e ∙ i .child in
-        (u, subst (λ (k : ℕ). Reaches at p (l + 1) (q .extent) (h .tree) (quarter k c) u) (sym e)
-        (subst (λ (n : ℕ). Reaches at p n (q .extent) (h .tree) (quarter (side at p c) c) u) (sym (add-one l)) (reach-down at p l (q .extent) (h .tree) c s (i .t0) (i .t1) (i .t2) (i .t3) (i .way))),
-        back a (lead u) f n)
+        let f : a ≡ lead u = z ∙ ap (λ (j : ℕ). getD (kids m s) j 0) e ∙ i .child in (
+          u,
+          subst (λ (k : ℕ). Reaches at p (l + 1) (q .extent) (h .tree) (quarter k c) u) (sym e)
+              (subst (λ (n : ℕ). Reaches at p n (q .extent) (h .tree) (quarter (side at p c) c) u) (sym (add-one l)) (reach-down at p l (q .extent) (h .tree) c s (i .t0) (i .t1) (i .t2) (i .t3) (i .way))),
+          back a (lead u) f n,
+        )
       where
         back : (a b : ℕ) → a ≡ b → (a ≡ 0 → ⊥) → b ≡ a - 1 + 1
         back a b e n = omega arith

@@ -147,8 +147,8 @@ module _ (at : List Float) (p : ℕ) where
       let w : Tree ℕ = plug n (quarter q c) (k q) v in
       let renews : Renews x y (k q) w = plug-renews x y n (quarter q c) (k q) d u v r f in
       let apart : (i : ℕ) → i < 4 → (i ≡ q → ⊥) → Apart w (k i) = λ i l ne.
-          renews (λ j. EachSlot (λ z. z ≡ j → ⊥) (k i)) (once-apart s t0 t1 t2 t3 h q i (side-lt c) l (λ e. ne (sym e)))
-          (λ j g _. each-map (λ z. z < x) (λ z. z ≡ j → ⊥) (λ z y e. omega arith) (k i) (each-child t0 t1 t2 t3 s (λ j. j < x) b i)) in
+      renews (λ j. EachSlot (λ z. z ≡ j → ⊥) (k i)) (once-apart s t0 t1 t2 t3 h q i (side-lt c) l (λ e. ne (sym e)))
+      (λ j g _. each-map (λ z. z < x) (λ z. z ≡ j → ⊥) (λ z y e. omega arith) (k i) (each-child t0 t1 t2 t3 s (λ j. j < x) b i)) in
       once-over s (upd k q w)
       (upd-below (λ i u. EachSlot (λ j. j ≡ s → ⊥) u) k q w (renews (λ j. j ≡ s → ⊥) (once-out s t0 t1 t2 t3 h q) (λ j g _ e. omega (arith, b .0))) (λ i l ne. once-out s t0 t1 t2 t3 h i))
       (pair-upd Apart k q w (once-apart s t0 t1 t2 t3 h) apart (λ i l ne. apart-sym w (k i) (apart i l ne)))
@@ -166,15 +166,16 @@ module _ (at : List Float) (p : ℕ) where
       let k : ℕ → Tree ℕ = pick t0 t1 t2 t3 in
       let z : Tree ℕ = plug n (quarter q c) (k q) v in
       let rest = plug-stored m w x n (quarter q c) (k q) d u v r e o f (each-child t0 t1 t2 t3 s (λ j. j < x) b q) (once-child s t0 t1 t2 t3 h q) (stored-child t0 t1 t2 t3 s m g q) in
-      let own : Same m w s = f s (b .0) (λ y. lead-each (λ j. j ≡ s → ⊥) u s y (reach-each n (quarter q c) (k q) d u r (λ j. j ≡ s → ⊥) (once-out s t0 t1 t2 t3 h q)) refl) in
-      (stored-over w s (upd k q z) (own .0 ∙ g .0) (own .1 ∙ g .1 ∙ sym (leads-keep k q z (rest .1)))
-      (upd-below (λ i u. Stored w u) k q z (rest .0)
-      (λ i l ne. frame m w (λ j. (j < x) × (lead u ≡ j + 1 → ⊥)) (λ j y. f j (y .0) (y .1)) (k i)
-      (each-both (λ j. j < x) (λ j. lead u ≡ j + 1 → ⊥) (k i) (each-child t0 t1 t2 t3 s (λ j. j < x) b i)
-      (each-map (λ j. EachSlot (λ y. y ≡ j → ⊥) (k q)) (λ j. lead u ≡ j + 1 → ⊥)
-      (λ j y a. lead-each (λ y. y ≡ j → ⊥) u j a (reach-each n (quarter q c) (k q) d u r (λ y. y ≡ j → ⊥) y) refl) (k i) (once-apart s t0 t1 t2 t3 h i q l (side-lt c) ne)))
-      (stored-child t0 t1 t2 t3 s m g i))),
-      refl)
+      let own : Same m w s = f s (b .0) (λ y. lead-each (λ j. j ≡ s → ⊥) u s y (reach-each n (quarter q c) (k q) d u r (λ j. j ≡ s → ⊥) (once-out s t0 t1 t2 t3 h q)) refl) in (
+        stored-over w s (upd k q z) (own .0 ∙ g .0) (own .1 ∙ g .1 ∙ sym (leads-keep k q z (rest .1)))
+            (upd-below (λ i u. Stored w u) k q z (rest .0)
+            (λ i l ne. frame m w (λ j. (j < x) × (lead u ≡ j + 1 → ⊥)) (λ j y. f j (y .0) (y .1)) (k i)
+            (each-both (λ j. j < x) (λ j. lead u ≡ j + 1 → ⊥) (k i) (each-child t0 t1 t2 t3 s (λ j. j < x) b i)
+            (each-map (λ j. EachSlot (λ y. y ≡ j → ⊥) (k q)) (λ j. lead u ≡ j + 1 → ⊥)
+            (λ j y a. lead-each (λ y. y ≡ j → ⊥) u j a (reach-each n (quarter q c) (k q) d u r (λ y. y ≡ j → ⊥) y) refl) (k i) (once-apart s t0 t1 t2 t3 h i q l (side-lt c) ne)))
+            (stored-child t0 t1 t2 t3 s m g i))),
+        refl,
+      )
 
   -- ---- the tree of the cell rule
 

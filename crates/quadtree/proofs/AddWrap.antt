@@ -235,7 +235,7 @@ module _ (at : List Float) where
         let to : squareOf (r .extent) ≡ next (squareOf e) (floor x) (floor y) = doubled-square near out d in
         let next-to = to ∙ ap (λ (s : Square). next s (floor x) (floor y)) z in
         let rest = wraps go (r .extent) v next-to (next-near e near w out d) (next-within e near w out d) (k .2) (next-is e near w out u g)
-            (λ b. let a = grows-none go b in next-hole e near w out u (subst (λ (s : Square). inside s (floor x) (floor y) ≡ true) (sym (next-to ∙ a .0)) (a .1))) in
+        (λ b. let a = grows-none go b in next-hole e near w out u (subst (λ (s : Square). inside s (floor x) (floor y) ≡ true) (sym (next-to ∙ a .0)) (a .1))) in
         record {
           extent = rest .extent;
           tree = rest .tree;
@@ -255,9 +255,10 @@ module _ (at : List Float) where
     hole-more e (node d t0 t1 t2 t3) h f l =
         let t : Tree Extent = node d t0 t1 t2 t3 in
         let c : Extent = quarter (side at p e) e in
-        let new : insertT at p c 64 (childAt (side at p e) t) ≡ leaf c (p ∷ []) = ap (insertT at p c 64) f ∙ insert-none at p c 64 in
-        (node-depth at p e d 64 t0 t1 t2 t3 l .1 (subst (λ (u : Tree Extent). depth u ≤ 64) (sym new) (omega arith)),
-        omega (arith, node-nodes at p e d 64 t0 t1 t2 t3, ap nodes new, ap nodes f))
+        let new : insertT at p c 64 (childAt (side at p e) t) ≡ leaf c (p ∷ []) = ap (insertT at p c 64) f ∙ insert-none at p c 64 in (
+          node-depth at p e d 64 t0 t1 t2 t3 l .1 (subst (λ (u : Tree Extent). depth u ≤ 64) (sym new) (omega arith)),
+          omega (arith, node-nodes at p e d 64 t0 t1 t2 t3, ap nodes new, ap nodes f),
+        )
 
     module _ (n : ℕ) (e : Extent) (u : Tree Extent) (near : Near e x y) (w : Within is e) (h : Internal u) (g : Is at e u is) (to : Extent) (re : Reachable to) (go : Grows (floor x) (floor y) (suc n) (squareOf e) (squareOf to)) where
       all-wraps : Wraps u (suc n) (squareOf to)

@@ -198,10 +198,20 @@ module _ (s : ℕ) (t0 t1 t2 t3 : Tree ℕ) (h : Once (node s t0 t1 t2 t3)) wher
 
 pub once-over : (s : ℕ) (k : ℕ → Tree ℕ) → ((r : ℕ) → r < 4 → EachSlot (λ j. j ≡ s → ⊥) (k r)) → ((q r : ℕ) → q < 4 → r < 4 → (q ≡ r → ⊥) → Apart (k q) (k r)) → ((r : ℕ) → r < 4 → Once (k r)) → Once (over s k)
 once-over s k a b c = (
-  a 0 (omega arith), a 1 (omega arith), a 2 (omega arith), a 3 (omega arith),
-  b 0 1 (omega arith) (omega arith) (omega arith), b 0 2 (omega arith) (omega arith) (omega arith), b 0 3 (omega arith) (omega arith) (omega arith),
-  b 1 2 (omega arith) (omega arith) (omega arith), b 1 3 (omega arith) (omega arith) (omega arith), b 2 3 (omega arith) (omega arith) (omega arith),
-  c 0 (omega arith), c 1 (omega arith), c 2 (omega arith), c 3 (omega arith)
+  a 0 (omega arith),
+  a 1 (omega arith),
+  a 2 (omega arith),
+  a 3 (omega arith),
+  b 0 1 (omega arith) (omega arith) (omega arith),
+  b 0 2 (omega arith) (omega arith) (omega arith),
+  b 0 3 (omega arith) (omega arith) (omega arith),
+  b 1 2 (omega arith) (omega arith) (omega arith),
+  b 1 3 (omega arith) (omega arith) (omega arith),
+  b 2 3 (omega arith) (omega arith) (omega arith),
+  c 0 (omega arith),
+  c 1 (omega arith),
+  c 2 (omega arith),
+  c 3 (omega arith),
 )
 
 -- one child replaced

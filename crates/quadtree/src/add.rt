@@ -153,7 +153,18 @@ fn split(m: &mut [u64], at: &[f64], s: usize, cell: Extent, g: usize, x: usize, 
 }
 
 // The way of p has ended at the leaf of f in slot s, of level l.
-fn at_leaf(m: &mut [u64], at: &[f64], next: &mut [u32], tail: &mut [u32], q: Quadtree, s: usize, l: usize, f: usize, cell: Extent, p: usize) -> Inserted
+fn at_leaf(
+    m: &mut [u64],
+    at: &[f64],
+    next: &mut [u32],
+    tail: &mut [u32],
+    q: Quadtree,
+    s: usize,
+    l: usize,
+    f: usize,
+    cell: Extent,
+    p: usize,
+) -> Inserted
     requires { ⌜ Puts (now at) (now m) (now next) (now tail) q p × FoundLeaf (now at) (now m) q p s l f cell ⌝ }
     ensures { λ r. ⌜ Placed (now (at .entry)) (now (m .exit)) (now (next .exit)) (now (tail .exit)) (q .extent) p r ⌝ }
 {
@@ -181,7 +192,14 @@ fn at_leaf(m: &mut [u64], at: &[f64], next: &mut [u32], tail: &mut [u32], q: Qua
 }
 
 // p goes into a tree whose extent holds it.
-fn place(m: &mut [u64], at: &[f64], next: &mut [u32], tail: &mut [u32], q: Quadtree, p: usize) -> Inserted
+fn place(
+    m: &mut [u64],
+    at: &[f64],
+    next: &mut [u32],
+    tail: &mut [u32],
+    q: Quadtree,
+    p: usize,
+) -> Inserted
     requires { ⌜ Puts (now at) (now m) (now next) (now tail) q p × (0 < q .root) ⌝ }
     ensures { λ r. ⌜ Placed (now (at .entry)) (now (m .exit)) (now (next .exit)) (now (tail .exit)) (q .extent) p r ⌝ }
 {
@@ -233,7 +251,15 @@ fn wrap(m: &mut [u64], at: &[f64], q: Quadtree, covered: Covered, p: usize) -> Q
 }
 
 // p lies outside the extent of an internal root, so it comes into another quarter of the last new root.
-fn enlarge(m: &mut [u64], at: &[f64], next: &mut [u32], tail: &mut [u32], q: Quadtree, covered: Covered, p: usize) -> Inserted
+fn enlarge(
+    m: &mut [u64],
+    at: &[f64],
+    next: &mut [u32],
+    tail: &mut [u32],
+    q: Quadtree,
+    covered: Covered,
+    p: usize,
+) -> Inserted
     requires { ⌜ Puts (now at) (now m) (now next) (now tail) q p × Enlarges (now at) (now m) q covered p ⌝ }
     ensures { λ r. ⌜ Placed (now (at .entry)) (now (m .exit)) (now (next .exit)) (now (tail .exit)) (covered .extent) p r ⌝ }
 {
@@ -249,7 +275,15 @@ fn enlarge(m: &mut [u64], at: &[f64], next: &mut [u32], tail: &mut [u32], q: Qua
 }
 
 // p goes into the tree of the particles before it; `covered` is the extent with p.
-pub fn insert(m: &mut [u64], at: &[f64], next: &mut [u32], tail: &mut [u32], q: Quadtree, covered: Covered, p: usize) -> Inserted
+pub fn insert(
+    m: &mut [u64],
+    at: &[f64],
+    next: &mut [u32],
+    tail: &mut [u32],
+    q: Quadtree,
+    covered: Covered,
+    p: usize,
+) -> Inserted
     requires { ⌜ Inserts (now at) (now m) (now next) (now tail) q covered p ⌝ }
     ensures { λ r. ⌜ Placed (now (at .entry)) (now (m .exit)) (now (next .exit)) (now (tail .exit)) (covered .extent) p r ⌝ }
 {

@@ -36,9 +36,10 @@ wrap-requires c κs =
 place-requires : tie.Need-place-requires
 place-requires c κs =
     let w = c .before .before .before .before .before in
-    let s = start (w .before .before .before .before .before .before .before) in
-    (enlarge-puts (s .args .at .now) (s .args .m .now) (s .args .next .now) (s .args .tail .now) (s .args .q) (s .args .covered) (s .args .p) (s .pre .0) (s .pre .1) (w .wrap .last .0) (w .wrap .result) (w .wrap .ensures),
-    w .wrap .ensures .rooted)
+    let s = start (w .before .before .before .before .before .before .before) in (
+      enlarge-puts (s .args .at .now) (s .args .m .now) (s .args .next .now) (s .args .tail .now) (s .args .q) (s .args .covered) (s .args .p) (s .pre .0) (s .pre .1) (w .wrap .last .0) (w .wrap .result) (w .wrap .ensures),
+      w .wrap .ensures .rooted,
+    )
 
 returns-3 : tie.Need-returns-3
 returns-3 c =

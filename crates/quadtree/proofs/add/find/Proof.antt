@@ -91,13 +91,14 @@ loop-again c =
     let s = entry d in
     let k = b .get-and-descend .result in
     let x = d .before .before .before .before .x-at .ensures in
-    let y = d .before .before .before .y-at .ensures in
-    (step-own (s .args .at .now) (s .args .p) (cellOf (d .loop .ix)) _ _ k (b .get-and-descend .ensures) x y,
-    λ q h er ee.
-      (let (u, r, e) = d .loop .inv .1 q h er ee in
-      let i = way-inner (s .args .at .now) (s .args .p) (s .args .m .now) q h (d .loop .s) (d .loop .l) (cellOf (d .loop .ix)) u r e (sym (b .before .before .tag .ensures) ∙ b .before .if1 .left) in
-      let (v, w, f) = way-down (s .args .at .now) (s .args .p) (s .args .m .now) q h (d .loop .s) (d .loop .l) (cellOf (d .loop .ix)) i (k .quadrant) (quadrant-is b) (getD (a .children .result) (k .quadrant) 0) (child-is a) (c .before .if2 .left) in
-      (v, subst (λ (e : Extent). Reaches (s .args .at .now) (s .args .p) (d .loop .l + 1) (q .extent) (h .tree) e v) (sym (step-cell (s .args .at .now) (s .args .p) (cellOf (d .loop .ix)) _ _ k (b .get-and-descend .ensures) x y)) w, f)))
+    let y = d .before .before .before .y-at .ensures in (
+      step-own (s .args .at .now) (s .args .p) (cellOf (d .loop .ix)) _ _ k (b .get-and-descend .ensures) x y,
+      λ q h er ee.
+          (let (u, r, e) = d .loop .inv .1 q h er ee in
+          let i = way-inner (s .args .at .now) (s .args .p) (s .args .m .now) q h (d .loop .s) (d .loop .l) (cellOf (d .loop .ix)) u r e (sym (b .before .before .tag .ensures) ∙ b .before .if1 .left) in
+          let (v, w, f) = way-down (s .args .at .now) (s .args .p) (s .args .m .now) q h (d .loop .s) (d .loop .l) (cellOf (d .loop .ix)) i (k .quadrant) (quadrant-is b) (getD (a .children .result) (k .quadrant) 0) (child-is a) (c .before .if2 .left) in
+          (v, subst (λ (e : Extent). Reaches (s .args .at .now) (s .args .p) (d .loop .l + 1) (q .extent) (h .tree) e v) (sym (step-cell (s .args .at .now) (s .args .p) (cellOf (d .loop .ix)) _ _ k (b .get-and-descend .ensures) x y)) w, f)),
+    )
 
 pub find-spec : {M : Type 1} → statement M
 find-spec =

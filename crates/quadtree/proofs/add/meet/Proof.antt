@@ -50,9 +50,12 @@ loop-again c =
     let k = step-side (s .args .at .now) (s .args .p) e _ _ r (b .get-and-descend .ensures) x y in
     let j = b .before .get .ensures ∙ ap₂ (quadrant e) (d .before .before .before .x-at2 .ensures) (d .before .before .y-at2 .ensures) in
     let z = meet-more (s .args .at .now) (s .args .p) (d .loop .l) (s .args .f) e (b .before .before .loop-test .taken) (r .quadrant) k (c .before .if1 .left ∙ j) in
-    let w = ap (λ (q : Extent). gap (s .args .at .now) (s .args .p) (64 - (d .loop .l + 1)) q (s .args .f)) (step-cell (s .args .at .now) (s .args .p) e _ _ r (b .get-and-descend .ensures) x y) in
-    (omega (arith, d .loop .inv .0), omega (arith, b .before .before .loop-test .taken), step-own (s .args .at .now) (s .args .p) e _ _ r (b .get-and-descend .ensures) x y,
-    omega (arith, d .loop .inv .3, d .loop .inv .0))
+    let w = ap (λ (q : Extent). gap (s .args .at .now) (s .args .p) (64 - (d .loop .l + 1)) q (s .args .f)) (step-cell (s .args .at .now) (s .args .p) e _ _ r (b .get-and-descend .ensures) x y) in (
+      omega (arith, d .loop .inv .0),
+      omega (arith, b .before .before .loop-test .taken),
+      step-own (s .args .at .now) (s .args .p) e _ _ r (b .get-and-descend .ensures) x y,
+      omega (arith, d .loop .inv .3, d .loop .inv .0),
+    )
 
 returns-2 : tie.Need-returns-2 Inv-loop μ-loop
 returns-2 c =

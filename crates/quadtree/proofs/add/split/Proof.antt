@@ -45,13 +45,14 @@ loop-again c =
     let y = d .before .before .y-at .ensures in
     let at = s .args .at .now in
     let p = s .args .p in
-    let w = a .put-internal .ensures ∙ ap (putInternal (d .loop .m) (d .loop .slot)) (a .before .before .only .ensures) in
-    (a .put-internal .kept .0 ∙ d .loop .inv .0,
-    search needs,
-    step-own at p e _ _ r (b .get-and-descend .ensures) x y,
-    ap (λ (c : Extent). splitted at p (s .args .f) (d .loop .left - 1) c (d .loop .free) (d .loop .free + 1) (a .put-internal .last .0)) (step-cell at p e _ _ r (b .get-and-descend .ensures) x y)
-    ∙ split-turn at p (s .args .f) (d .loop .left) (r .quadrant) e (d .loop .slot) (d .loop .free) (d .loop .m) (a .put-internal .last .0) (b .before .loop-test .taken) (step-side at p e _ _ r (b .get-and-descend .ensures) x y) w
-    ∙ d .loop .inv .3)
+    let w = a .put-internal .ensures ∙ ap (putInternal (d .loop .m) (d .loop .slot)) (a .before .before .only .ensures) in (
+      a .put-internal .kept .0 ∙ d .loop .inv .0,
+      search needs,
+      step-own at p e _ _ r (b .get-and-descend .ensures) x y,
+      ap (λ (c : Extent). splitted at p (s .args .f) (d .loop .left - 1) c (d .loop .free) (d .loop .free + 1) (a .put-internal .last .0)) (step-cell at p e _ _ r (b .get-and-descend .ensures) x y)
+          ∙ split-turn at p (s .args .f) (d .loop .left) (r .quadrant) e (d .loop .slot) (d .loop .free) (d .loop .m) (a .put-internal .last .0) (b .before .loop-test .taken) (step-side at p e _ _ r (b .get-and-descend .ensures) x y) w
+          ∙ d .loop .inv .3,
+    )
 
 -- the quadrants of the two leaves
 first-is : (c : tie.After-get2 Inv-loop μ-loop)

@@ -49,9 +49,10 @@ only-requires c κs =
     let b = c .before in
     let d = b .before .before in
     let s = start d in
-    let w = left-wraps d in
-    (wrap-quadrant (s .args .at .now) (d .loop .m) (d .loop .wrapped) (s .args .covered .extent) (s .args .p) (d .loop .left) w (b .before .loop-test .taken) (b .double-once .result) (doubled b),
-    (let r = wrap-root (s .args .at .now) (d .loop .m) (d .loop .wrapped) (s .args .covered .extent) (s .args .p) (d .loop .left) w in omega (arith, w .small)))
+    let w = left-wraps d in (
+      wrap-quadrant (s .args .at .now) (d .loop .m) (d .loop .wrapped) (s .args .covered .extent) (s .args .p) (d .loop .left) w (b .before .loop-test .taken) (b .double-once .result) (doubled b),
+      (let r = wrap-root (s .args .at .now) (d .loop .m) (d .loop .wrapped) (s .args .covered .extent) (s .args .p) (d .loop .left) w in omega (arith, w .small)),
+    )
 
 put-internal-requires : tie.Need-put-internal-requires Inv-loop μ-loop
 put-internal-requires c κs =
@@ -65,9 +66,10 @@ loop-again c =
     let b = a .before .before .before .before in
     let d = b .before .before in
     let s = start d in
-    let e = a .put-internal .ensures ∙ ap (putInternal (d .loop .m) (d .loop .wrapped .nodes)) (a .before .before .only .ensures) in
-    (a .put-internal .kept .0 ∙ d .loop .inv .0,
-    λ to w. wrap-turn (s .args .at .now) (d .loop .m) (d .loop .wrapped) to (s .args .p) (d .loop .left) (d .loop .inv .1 to w) (b .before .loop-test .taken) (b .double-once .result) (doubled b) (a .put-internal .last .0) e)
+    let e = a .put-internal .ensures ∙ ap (putInternal (d .loop .m) (d .loop .wrapped .nodes)) (a .before .before .only .ensures) in (
+      a .put-internal .kept .0 ∙ d .loop .inv .0,
+      λ to w. wrap-turn (s .args .at .now) (d .loop .m) (d .loop .wrapped) to (s .args .p) (d .loop .left) (d .loop .inv .1 to w) (b .before .loop-test .taken) (b .double-once .result) (doubled b) (a .put-internal .last .0) e,
+    )
 
 returns : tie.Need-returns Inv-loop μ-loop
 returns c =
