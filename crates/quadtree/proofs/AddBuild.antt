@@ -1,8 +1,7 @@
 -- The turns of building: the extent grows with each particle, the tree stands at the end, and the check of all prefixes is what the loop has done.
-use mathlib.Core.Path.{_≡_, refl, sym, ap, ap₂, _∙_, subst}
-use mathlib.Core.Bool.{Bool, true, false, true≢false}
-use mathlib.Core.List.{List, [], _∷_, _++_, List·Memᴰ, List·Memᴰ·head, List·Memᴰ·tail}
-use mathlib.Core.Logic.{inl, inr}
+use mathlib.Core.Path.{_≡_, refl, sym, ap, _∙_, subst}
+use mathlib.Core.Bool.{true≢false}
+use mathlib.Core.List.{List, List·Memᴰ, List·Memᴰ·head, List·Memᴰ·tail}
 use Prim.Native.Nat.{ℕ, zero, suc, _+_, _-_, _*_, _/_, _≤_, _<_}
 use native.Mathlib.Omega.{arith}
 use native.Mathlib.Decide.{ℕ-discrete}
@@ -11,30 +10,31 @@ use lib.ListN.{length}
 use lib.Ieee.{Float}
 use borrow.Author.Tests.{le-leb, lt-leb}
 use Rattle.rules.specs.declared.Extent.{Extent}
-use Rattle.rules.specs.Plain.{countFrom, upTo, foldl}
+use Rattle.rules.specs.Plain.{countFrom, upTo}
 use Rattle.rules.specs.Number.{within, xAt, yAt}
 use Rattle.rules.specs.Floor.{floor}
 use Rattle.rules.specs.Cell.{nowhere}
 use Rattle.rules.specs.Cover.{coverPoint, nothing, holds, coverAll, coverFirst, extentOf}
-use Rattle.rules.specs.Outcome.{Check, refused, refusal, fine, require, _then_, _>>=_, checkFrom}
-use Rattle.rules.specs.Tree.{Tree, none, leaf, node, depth, nodes, alike, treeIn, treeOf, fitsCheck, treeCheck, greatestLevel}
+use Rattle.rules.specs.Outcome.{Check, refused, refusal, fine, _>>=_, checkFrom}
+use Rattle.rules.specs.Tree.{Tree, none, leaf, node, depth, nodes, alike, treeIn, treeOf, fitsCheck, treeCheck}
 use Rattle.rules.proofs.CellCount.{upTo-snoc}
 use Rattle.rules.proofs.CellInside.{Inside}
 use Rattle.rules.proofs.CellIs.{Is, grow-none}
 use Rattle.rules.proofs.CellChain.{EachLeaf, Chain}
 use Rattle.quadtree.specs.declared.Quadtree.{Quadtree}
 use Rattle.quadtree.specs.declared.cover.Covered.{Covered}
-use Rattle.quadtree.specs.declared.add.Inserted.{Inserted}
 use Rattle.quadtree.specs.declared.add.Inserted.the-variants.{Done, Deep, Full}
 use Rattle.quadtree.specs.Slots.{inCells, Follows as Chained, Leads, Stands}
 use Rattle.quadtree.specs.Cover.{squareOf, Reachable, Near, CoveredTo}
-use Rattle.quadtree.specs.Add.{lead, Holds, Linked, Ranged, Puts, Placed, Covers, Inserts}
+use Rattle.quadtree.specs.Chain.{Linked}
+use Rattle.quadtree.specs.Add.{lead, Holds, Ranged, Placed, Inserts}
 use Rattle.quadtree.specs.declared.build.Built.the-variants as Built
 use Rattle.quadtree.specs.Build.{particles, Builds, Follows, Extends}
 use Rattle.quadtree.proofs.CoverLaws as Laws
 use Rattle.quadtree.proofs.SlotsTree.{stored-leads}
 use Rattle.quadtree.proofs.AddChain.{chain-follows}
 use Rattle.quadtree.proofs.AddHold.{cells-depth, cells-nodes, holds-is, holds-chains}
+use Rattle.quadtree.proofs.AddInsert.{is-T}
 use Rattle.quadtree.proofs.AddPlaced.{ranged-points}
 
 -- ---- members of 0, 1, .. , n - 1
@@ -47,9 +47,6 @@ member-less k (suc n) i (List·Memᴰ·tail m) = omega (arith, member-less (k + 
 less-member : (k n i : ℕ) → k ≤ i → i < k + n → List·Memᴰ i (countFrom k n)
 less-member k zero i h g = absurd (omega arith)
 less-member k (suc n) i h g = elim (ℕ-discrete i k) [ yes e ↦ List·Memᴰ·head e | no ne ↦ List·Memᴰ·tail (less-member (k + 1) n i (omega arith) (omega arith)) ]
-
-pub is-T : (b : Bool) → b ≡ true → T b
-is-T b e = subst T (sym e) tt
 
 -- ---- the extent
 
@@ -254,7 +251,8 @@ module _ (at : List Float) where
   build-end slots m next tail q p b r le ge s =
       let n : ℕ = particles at in
       let z : p ≡ n = omega arith in
-      let e : q .extent ≡ extentOf (coverFirst at n) = b .extent ∙ ap (λ (i : ℕ). extentOf (coverFirst at i)) z in
-      (ap (treeCheck at n) s ∙ b .check ∙ left-end n slots p ge,
-      holds-stands n m next tail q r (subst (λ (i : ℕ). Holds at (upTo i) m q) z (b .holds)) (subst (λ (i : ℕ). Linked at next tail i) z (b .linked)) e,
-      e)
+      let e : q .extent ≡ extentOf (coverFirst at n) = b .extent ∙ ap (λ (i : ℕ). extentOf (coverFirst at i)) z in (
+        ap (treeCheck at n) s ∙ b .check ∙ left-end n slots p ge,
+        holds-stands n m next tail q r (subst (λ (i : ℕ). Holds at (upTo i) m q) z (b .holds)) (subst (λ (i : ℕ). Linked at next tail i) z (b .linked)) e,
+        e,
+      )

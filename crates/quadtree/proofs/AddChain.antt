@@ -2,20 +2,20 @@
 use mathlib.Core.Path.{_≡_, refl, sym, ap, _∙_, subst}
 use mathlib.Core.Bool.{Bool, true, false, cond}
 use mathlib.Core.List.{List, [], _∷_}
-use mathlib.Core.Logic.{_⊎_, inl, inr, ⊎-elim}
-use Prim.Native.Nat.{ℕ, zero, suc, _+_, _-_, _≤_, _<_}
+use mathlib.Core.Logic.{inl, inr, ⊎-elim}
+use Prim.Native.Nat.{ℕ, zero, suc, _+_, _≤_, _<_}
 use native.Mathlib.Omega.{arith}
 use native.Mathlib.Decide.{ℕ-discrete, decLt}
 use lib.ListN.{length, getD, set, length-set}
 use lib.Seq.{getD-set-same, getD-set-other}
 use lib.Ieee.{Float}
 use Rattle.rules.specs.Plain.{countFrom, upTo, keep}
-use Rattle.rules.specs.Tree.{Tree, none, leaf, node, same}
+use Rattle.rules.specs.Tree.{same}
 use Rattle.rules.proofs.CellList.{In, in-keep, keep-in}
 use Rattle.rules.proofs.CellPoints.{same-sym, same-trans}
-use Rattle.rules.proofs.CellChain.{EachLeaf, Chain}
+use Rattle.rules.proofs.CellChain.{Chain}
 use Rattle.quadtree.specs.Slots.{Follows, first}
-use Rattle.quadtree.specs.Add.{Link, Earliest, Last, Linked}
+use Rattle.quadtree.specs.Chain.{Link, Earliest, Last, Linked}
 
 -- ---- numbers in order
 

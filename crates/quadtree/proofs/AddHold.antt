@@ -1,33 +1,33 @@
 -- A subtree takes the place of another where a point's way has come to: the slots then hold the tree of one point more, or that tree is refused.
-use mathlib.Core.Path.{_≡_, refl, sym, ap, ap₂, _∙_, subst}
+use mathlib.Core.Path.{_≡_, refl, sym, ap, _∙_, subst}
 use mathlib.Core.Bool.{Bool, true, false, true≢false}
 use mathlib.Core.List.{List, [], _∷_, _++_}
 use mathlib.Core.Logic.{inl, inr}
 use Prim.Native.Nat.{ℕ, zero, suc, _+_, _-_, _*_, _^_, _≤_, _<_, max}
 use native.Mathlib.Omega.{arith}
 use lib.Dec.{leb}
-use lib.ListN.{length, getD, set}
+use lib.ListN.{length, set}
 use borrow.Author.Tests.{leb-true, leb-false}
 use lib.Ieee.{Float}
 use Rattle.rules.specs.declared.Extent.{Extent}
-use Rattle.rules.specs.Plain.{all, keep, upTo}
+use Rattle.rules.specs.Plain.{all, upTo}
 use Rattle.rules.specs.Cell.{quarter}
 use Rattle.rules.specs.Tree.{Tree, none, leaf, node, depth, nodes, same, alike, inQuarter, pointsIn, treeIn, greatestLevel}
-use Rattle.rules.proofs.CellList.{In, all-in, in-keep, keep-in}
-use Rattle.rules.proofs.CellPoints.{same-trans, same-sym, same-quarter}
+use Rattle.rules.proofs.CellList.{In, all-in, keep-in}
+use Rattle.rules.proofs.CellPoints.{same-trans, same-quarter}
 use Rattle.rules.proofs.CellCount.{leaves, Fruitful, fruitful, upTo-snoc, length-upTo}
 use Rattle.rules.proofs.CellChain.{EachLeaf, Points, Chain}
-use Rattle.rules.proofs.CellDeep.{quarterOf, inQuarter-own}
+use Rattle.rules.proofs.CellDeep.{inQuarter-own}
 use Rattle.rules.proofs.CellIs.{Is}
-use Rattle.rules.proofs.CellInsert.{insertT, into}
-use Rattle.rules.proofs.CellRule.{tree-whole, chains, nodes-points, insert-tree, insert-refused, insert-none, insert-same, insert-node}
+use Rattle.rules.proofs.CellInsert.{insertT}
+use Rattle.rules.proofs.CellRule.{tree-whole, chains, nodes-points, insert-tree, insert-refused, insert-none, insert-same}
 use Rattle.quadtree.specs.declared.Quadtree.{Quadtree}
-use Rattle.quadtree.specs.Slots.{word, kids, first, putInternal, putLeaf, EachSlot, Apart, Once, inCells}
-use Rattle.quadtree.specs.Add.{lead, Stored, Holds, pick, side, Reaches, gap, hung, splitted}
+use Rattle.quadtree.specs.Slots.{kids, putInternal, putLeaf, EachSlot, Once, inCells}
+use Rattle.quadtree.specs.Add.{lead, Stored, Holds, pick, side, Reaches, gap, hung}
 use Rattle.quadtree.proofs.Slots.{Same, same-trans as slot-trans, internal-length, internal-same, internal-tag, internal-kids, leaf-length, leaf-same, leaf-tag}
-use Rattle.quadtree.proofs.SlotsTree.{each-map, each-both, lead-le, over, upd, leads, upd-all, upd-below, each-child, each-over, stored-over, stored-child, leads-upd, leads-small, depth-upd, nodes-upd, once-out, once-apart, once-child, once-over, pair-upd, frame, apart-sym, nodes-pos}
-use Rattle.quadtree.proofs.AddWay.{up, up-is, side-lt, reach-all, reach-each, reach-stored, reach-once, reach-depth, plug, plug-each, plug-nodes, plug-depth, Renews, plug-renews, plug-once, plug-stored, into-upd, plug-cells, plug-deep}
-use Rattle.quadtree.proofs.AddSplit.{splitT, split-lead, split-each, split-once, split-depth, split-nodes, split-length, split-same, split-stored, split-cells, split-deep, gap-le}
+use Rattle.quadtree.proofs.SlotsTree.{each-map, each-both, lead-le, over, upd, leads, upd-below, each-child, stored-over, stored-child, leads-upd, leads-small, once-out, frame}
+use Rattle.quadtree.proofs.AddWay.{up, up-is, side-lt, reach-all, reach-each, reach-stored, reach-once, reach-depth, plug, plug-nodes, plug-depth, Renews, plug-renews, plug-once, plug-stored, plug-cells, plug-deep}
+use Rattle.quadtree.proofs.AddSplit.{splitT, split-lead, split-each, split-once, split-depth, split-nodes, split-cells, split-deep}
 
 -- ---- levels, nodes and leaves with cells for slots
 

@@ -1,18 +1,17 @@
 -- The turns of wrapping, and what an insertion with a covered extent does or refuses.
 use mathlib.Core.Path.{_≡_, refl, sym, ap, _∙_, subst}
 use mathlib.Core.Bool.{Bool, true, false}
-use mathlib.Core.List.{List, [], _∷_, _++_}
-use Prim.Native.Nat.{ℕ, zero, suc, _+_, _-_, _*_, _/_, _^_, _≤_, _<_}
+use mathlib.Core.List.{List, [], _∷_}
+use Prim.Native.Nat.{ℕ, suc, _+_, _-_, _*_, _/_, _≤_, _<_}
 use native.Mathlib.Omega.{arith}
 use lib.Dec.{T}
 use lib.IntN.{ℤ}
-use lib.ListN.{length, getD, set}
+use lib.ListN.{length, set}
 use lib.Ieee.{Float}
 use Rattle.rules.specs.declared.Extent.{Extent}
 use Rattle.rules.specs.Plain.{upTo}
 use Rattle.rules.specs.Number.{within, xAt, yAt}
 use Rattle.rules.specs.Floor.{floor}
-use Rattle.rules.specs.Cell.{quarter}
 use Rattle.rules.specs.Cover.{Square, inside, holds, extentOf}
 use Rattle.rules.specs.Tree.{Tree, none, leaf, node, depth, nodes, treeIn, greatestLevel}
 use Rattle.rules.proofs.CoverTerms.{Grows, done, more, next}
@@ -27,18 +26,19 @@ use Rattle.quadtree.specs.declared.cover.Doubled.{Doubled}
 use Rattle.quadtree.specs.declared.cover.Covered.{Covered}
 use Rattle.quadtree.specs.declared.add.Inserted.the-variants.{Done, Deep, Full}
 use Rattle.quadtree.specs.Slots.{word, putInternal, putLeaf, inCells}
-use Rattle.quadtree.specs.Cover.{squareOf, Reachable, Near, DoubledTo, CoveredTo}
-use Rattle.quadtree.specs.Add.{lead, Stored, Holds, childless, Linked, Ranged, Puts, Placed, Covers, Wraps, Wrapped, Enlarges, Inserts}
+use Rattle.quadtree.specs.Cover.{squareOf, Near, DoubledTo}
+use Rattle.quadtree.specs.Chain.{Linked}
+use Rattle.quadtree.specs.Add.{lead, Stored, Holds, childless, Ranged, Puts, Placed, Covers, Wraps, Wrapped, Enlarges}
 use Rattle.quadtree.proofs.CoverEnds.{doubled-square}
 use Rattle.quadtree.proofs.CoverLaws.{Lies, covered-grows}
 use Rattle.quadtree.proofs.Slots.{internal-length, internal-tag, leaf-length, leaf-tag}
 use Rattle.quadtree.proofs.SlotsTree.{lead-le}
-use Rattle.quadtree.proofs.AddChain.{upTo-in, in-upTo, begin-linked}
+use Rattle.quadtree.proofs.AddChain.{upTo-in, in-upTo}
 use Rattle.quadtree.proofs.AddHold.{cells-depth, cells-nodes, holds-is}
-use Rattle.quadtree.proofs.AddWrap.{inExtent, Internal, leaf-regrown, wrappedIn, wrap-holds, next-near, next-within, next-less, wrap-deep, wrap-full}
+use Rattle.quadtree.proofs.AddWrap.{grows-none, inExtent, Internal, leaf-regrown, wrappedIn, wrap-holds, next-near, next-within, next-less, wrap-deep, wrap-full}
 use Rattle.quadtree.proofs.AddPlaced.{few, begun}
 
-is-T : (b : Bool) → b ≡ true → T b
+pub is-T : (b : Bool) → b ≡ true → T b
 is-T b e = subst T (sym e) tt
 
 -- a root whose word is 0 is internal
@@ -60,10 +60,6 @@ root-slot at is m q h l = omega (arith, h .root, lead-le (q .nodes) (h .tree) (h
 grows-some : (x y : ℤ) {n : ℕ} {s t : Square} → Grows x y n s t → 0 < n → (inside s x y ≡ false) × Grows x y (n - 1) (next s x y) t
 grows-some x y (done e) l = absurd (omega arith)
 grows-some x y (more {n = n} {s = s} {t = t} e g) l = (e, subst (λ (k : ℕ). Grows x y k (next s x y) t) (let z : n ≡ suc n - 1 = omega arith in z) g)
-
-grows-none : (x y : ℤ) {n : ℕ} {s t : Square} → Grows x y n s t → n ≡ 0 → s ≡ t
-grows-none x y (done e) z = refl
-grows-none x y (more e g) z = absurd (omega arith)
 
 module _ (at : List Float) where
   in-range : (p : ℕ) → Ranged at p → (i : ℕ) → In i (upTo p) → T (within (xAt at i)) × T (within (yAt at i))
@@ -120,7 +116,7 @@ module _ (at : List Float) where
 
     pub wrap-end : n ≤ 0 → Wrapped at m to p q
     wrap-end z =
-        let e : squareOf (q .extent) ≡ squareOf to = grows-none (floor (xAt at p)) (floor (yAt at p)) (w .grows) (omega arith) in
+        let e : squareOf (q .extent) ≡ squareOf to = grows-none (floor (xAt at p)) (floor (yAt at p)) (w .grows) (omega arith) .0 in
         record { holds = w .holds; extent = w .near .reachable .is ∙ ap (λ (s : Square). extentOf (holds s)) e ∙ sym (w .end .is); rooted = w .rooted }
 
   -- ---- an insertion
@@ -172,7 +168,7 @@ module _ (at : List Float) where
 
     pub unmoved : Covers at q c p → c .doublings ≡ 0 → q .extent ≡ c .extent
     unmoved f z =
-        let e : squareOf (q .extent) ≡ squareOf (c .extent) = grows-none (floor (xAt at p)) (floor (yAt at p)) (covered-grows (f .near) (f .covered)) z in
+        let e : squareOf (q .extent) ≡ squareOf (c .extent) = grows-none (floor (xAt at p)) (floor (yAt at p)) (covered-grows (f .near) (f .covered)) z .0 in
         f .near .reachable .is ∙ ap (λ (s : Square). extentOf (holds s)) e ∙ sym (f .covered .reachable .is)
 
     -- a leaf root

@@ -2,22 +2,21 @@
 use mathlib.Core.Path.{_≡_, refl, sym, ap, _∙_, subst, subst₂}
 use mathlib.Core.Bool.{true, false}
 use mathlib.Core.List.{List, [], _∷_, _++_}
-use Prim.Native.Nat.{ℕ, suc, _+_, _-_, _*_, _/_, _^_, _≤_, _<_, max}
+use Prim.Native.Nat.{ℕ, _+_, _-_, _*_, _/_, _^_, _≤_, _<_, max}
 use native.Mathlib.Omega.{arith}
 use lib.ListN.{length, getD, set}
 use lib.Ieee.{Float}
 use Rattle.rules.specs.declared.Extent.{Extent}
 use Rattle.rules.specs.Plain.{upTo}
 use Rattle.rules.specs.Number.{within, xAt, yAt}
-use Rattle.rules.specs.Tree.{Tree, none, leaf, node, depth, nodes, same, treeIn, greatestLevel}
+use Rattle.rules.specs.Tree.{Tree, none, leaf, node, depth, nodes, same}
 use Rattle.rules.proofs.CellList.{In, both}
-use Rattle.rules.proofs.CellChain.{Points, Chain}
+use Rattle.rules.proofs.CellChain.{Points}
 use Rattle.rules.proofs.CellRule.{points}
 use Rattle.quadtree.specs.declared.Quadtree.{Quadtree}
 use Rattle.quadtree.specs.declared.add.Inserted.the-variants.{Done, Deep, Full}
-use Rattle.quadtree.specs.Slots.{EachSlot}
-use Rattle.quadtree.specs.Add.{lead, Holds, pick, side, Reaches, gap, hung, splitted, Earliest, Linked, Ranged, Puts, FoundLeaf, FoundHole, Splits, Placed, Chains}
-use Rattle.quadtree.proofs.Slots.{Same}
+use Rattle.quadtree.specs.Chain.{Earliest, Linked, Chains}
+use Rattle.quadtree.specs.Add.{Holds, pick, side, Reaches, gap, hung, parted, Ranged, Puts, FoundLeaf, FoundHole, Splits, Placed}
 use Rattle.quadtree.proofs.SlotsTree.{over, upd}
 use Rattle.quadtree.proofs.AddWay.{side-lt, reach-each, reach-depth}
 use Rattle.quadtree.proofs.AddSplit.{splitT, gap-le, split-length, split-same, split-stored}
@@ -117,13 +116,13 @@ module _ (at : List Float) (m next tail : List ℕ) (q : Quadtree) (p : ℕ) (g 
               new-place = g .read;
             }
 
-        pub placed-split : (w a b : List ℕ) (r : Quadtree) → w ≡ splitted at p f k c s (q .nodes) m → a ≡ set next p 0 → b ≡ set tail p p → r .nodes ≤ length m / 8
+        pub placed-split : (w a b : List ℕ) (r : Quadtree) → w ≡ parted at p f k c s (q .nodes) m → a ≡ set next p 0 → b ≡ set tail p p → r .nodes ≤ length m / 8
             → r .extent ≡ q .extent → r .root ≡ q .root → r .nodes ≡ q .nodes + k + 2 → r .deepest ≡ max (q .deepest) (l + k + 1) → Placed at w a b (q .extent) p (Done r)
         placed-split w a b r ew ea eb fits ex ro nn de =
             let v : Tree ℕ = splitT at p (f ∷ h .rest) k c s (q .nodes) in
             let z = split-asks (r .nodes) nn fits in (
               subst (λ (w : List ℕ). Holds at (upTo (p + 1)) w r) (sym ew)
-                  (next-holds at p m q (h .holds) l (64 - l) c u v (q .nodes + (k + 2)) (k + 2) way split-replaces (splitted at p f k c s (q .nodes) m) r
+                  (next-holds at p m q (h .holds) l (64 - l) c u v (q .nodes + (k + 2)) (k + 2) way split-replaces (parted at p f k c s (q .nodes) m) r
                   (split-stored at p (f ∷ h .rest) f k c s (q .nodes) m refl leaf-below (z .room) (z .small))
                   (λ j y n. split-same at p f k c s (q .nodes) m j (λ e. n (ap (λ (i : ℕ). i + 1) (sym e))) y)
                   (omega (arith, split-length at p f k c s (q .nodes) m)) ex ro (omega arith) (de ∙ ap (max (q .deepest)) (level l k))),

@@ -1,24 +1,24 @@
 -- A leaf that is split: the tree that takes its place, what is written, and that this is the tree of the cell rule.
-use mathlib.Core.Path.{_≡_, refl, sym, ap, ap₂, _∙_, subst}
-use mathlib.Core.Bool.{Bool, true, false, true≢false}
-use mathlib.Core.List.{List, [], _∷_, _++_}
+use mathlib.Core.Path.{_≡_, refl, sym, ap, _∙_, subst}
+use mathlib.Core.Bool.{Bool, true, false}
+use mathlib.Core.List.{List, [], _∷_}
 use Prim.Native.Nat.{ℕ, zero, suc, _+_, _*_, _^_, _≤_, _<_, max}
 use native.Mathlib.Omega.{arith}
 use lib.Dec.{eqb}
-use lib.ListN.{length, getD, set}
+use lib.ListN.{length, set}
 use lib.Ieee.{Float}
 use borrow.Author.Tests.{eqb-true, eqb-false, eq-eqb, ne-eqb}
 use Rattle.rules.specs.declared.Extent.{Extent}
 use Rattle.rules.specs.Plain.{branch}
 use Rattle.rules.specs.Number.{xAt, yAt}
 use Rattle.rules.specs.Cell.{quadrant, quarter}
-use Rattle.rules.specs.Tree.{Tree, none, leaf, node, depth, nodes, same, inQuarter}
+use Rattle.rules.specs.Tree.{Tree, none, leaf, depth, nodes, same, inQuarter}
 use Rattle.rules.proofs.CellInsert.{insertT, into, moved, ends, below, insert-apart, insert-together, insert-other, insert-node}
 use Rattle.rules.proofs.CellDeep.{quarterOf, inQuarter-is, inQuarter-own}
-use Rattle.quadtree.specs.Slots.{word, kids, first, putInternal, putLeaf, EachSlot, Apart, Once, inCells}
-use Rattle.quadtree.specs.Add.{lead, Stored, pick, side, Reaches, childless, gap, hung, splitted}
+use Rattle.quadtree.specs.Slots.{kids, first, putInternal, putLeaf, EachSlot, Apart, Once, inCells}
+use Rattle.quadtree.specs.Add.{lead, Stored, pick, side, childless, gap, parted}
 use Rattle.quadtree.proofs.Slots.{Same, Small, same-trans, internal-length, internal-same, internal-tag, internal-kids, leaf-length, leaf-same, leaf-tag}
-use Rattle.quadtree.proofs.SlotsTree.{each-map, each-both, each-true, apart-sym, lead-each, lead-le, over, upd, bare, leads, upd-all, upd-below, each-over, stored-over, leads-upd, leads-small, depth-upd, nodes-upd, depth-child, once-over, pair-upd, frame}
+use Rattle.quadtree.proofs.SlotsTree.{each-true, apart-sym, over, upd, bare, leads, upd-all, upd-below, each-over, stored-over, leads-upd, leads-small, depth-upd, nodes-upd, depth-child, once-over, pair-upd}
 use Rattle.quadtree.proofs.AddWay.{quadrant-lt, pick-ap, side-lt}
 
 module _ (at : List Float) (p : ℕ) where
@@ -126,16 +126,16 @@ module _ (at : List Float) (p : ℕ) where
 
   -- ---- what is written
 
-  pub split-length : (f g : ℕ) (c : Extent) (s x : ℕ) (m : List ℕ) → length (splitted at p f g c s x m) ≡ length m
+  pub split-length : (f g : ℕ) (c : Extent) (s x : ℕ) (m : List ℕ) → length (parted at p f g c s x m) ≡ length m
   split-length f zero c s x m = simp (leaf-length, internal-length)
   split-length f (suc g) c s x m = split-length f g (quarter (side at p c) c) x (x + 1) _ ∙ simp internal-length
 
-  pub split-same : (f g : ℕ) (c : Extent) (s x : ℕ) (m : List ℕ) (j : ℕ) → (j ≡ s → ⊥) → j < x → Same m (splitted at p f g c s x m) j
+  pub split-same : (f g : ℕ) (c : Extent) (s x : ℕ) (m : List ℕ) (j : ℕ) → (j ≡ s → ⊥) → j < x → Same m (parted at p f g c s x m) j
   split-same f zero c s x m j n l =
       same-trans m _ _ j (same-trans m _ _ j (internal-same m s _ j n) (leaf-same _ x f j (omega arith))) (leaf-same _ (x + 1) p j (omega arith))
   split-same f (suc g) c s x m j n l = same-trans m _ _ j (internal-same m s _ j n) (split-same f g (quarter (side at p c) c) x (x + 1) _ j (omega arith) (omega arith))
 
-  pub split-stored : (is : List ℕ) (f g : ℕ) (c : Extent) (s x : ℕ) (m : List ℕ) → f ≡ first is → s < x → (x + g + 2) * 8 ≤ length m → x + g + 2 < 2 ^ 32 → Stored (splitted at p f g c s x m) (splitT is g c s x)
+  pub split-stored : (is : List ℕ) (f g : ℕ) (c : Extent) (s x : ℕ) (m : List ℕ) → f ≡ first is → s < x → (x + g + 2) * 8 ≤ length m → x + g + 2 < 2 ^ 32 → Stored (parted at p f g c s x m) (splitT is g c s x)
   split-stored is f zero c s x m e lt room small =
       let q : ℕ = quadrant c (xAt at f) (yAt at f) in
       let k0 : ℕ → Tree ℕ = upd bare q (leaf x is) in
@@ -161,7 +161,7 @@ module _ (at : List Float) (p : ℕ) where
       let ks : List ℕ = set childless (side at p c) (x + 1) in
       let numbers : ks ≡ leads k = leads-upd bare (side at p c) (x + 1) t (side-lt at p c) (sym (split-lead is g (quarter (side at p c) c) x (x + 1))) in
       let m1 : List ℕ = putInternal m s ks in
-      let w : List ℕ = splitted at p f g (quarter (side at p c) c) x (x + 1) m1 in
+      let w : List ℕ = parted at p f g (quarter (side at p c) c) x (x + 1) m1 in
       let own : Same m1 w s = split-same f g (quarter (side at p c) c) x (x + 1) m1 s (omega arith) (omega arith) in
       let fits : Small (leads k) = leads-small (x + 1) k (omega arith)
       (upd-below (λ r u. lead u ≤ x + 1) bare (side at p c) t (omega (arith, split-lead is g (quarter (side at p c) c) x (x + 1))) (λ r l n. omega arith)) in

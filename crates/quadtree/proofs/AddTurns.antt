@@ -1,6 +1,5 @@
 -- The turns of the loops that find a particle's way, count the levels that two share, and split a leaf.
 use mathlib.Core.Path.{_≡_, refl, sym, ap, ap₂, _∙_, subst}
-use mathlib.Core.Bool.{Bool, true, false}
 use mathlib.Core.List.{List, [], _∷_}
 use Prim.Native.Nat.{ℕ, zero, suc, _+_, _-_, _*_, _≤_, _<_}
 use native.Mathlib.Omega.{arith}
@@ -9,19 +8,19 @@ use lib.ListN.{length, getD, set}
 use lib.Ieee.{Float}
 use borrow.Author.Tests.{eq-eqb, ne-eqb}
 use Rattle.rules.specs.declared.Extent.{Extent}
-use Rattle.rules.specs.Plain.{branch, upTo}
+use Rattle.rules.specs.Plain.{upTo}
 use Rattle.rules.specs.Number.{xAt, yAt}
 use Rattle.rules.specs.Cell.{quadrant, quarter}
-use Rattle.rules.specs.Tree.{Tree, none, leaf, node, depth, inQuarter}
+use Rattle.rules.specs.Tree.{Tree, none, leaf, node, inQuarter}
 use Rattle.quadtree.specs.declared.Quadtree.{Quadtree}
 use Rattle.quadtree.specs.declared.indexer.Indexer.{Indexer}
 use Rattle.quadtree.specs.declared.indexer.Descent.{Descent}
 use Rattle.quadtree.specs.Indexer.{indexer, cellOf, Descends}
-use Rattle.quadtree.specs.Slots.{word, kids, first, putInternal, EachSlot, inCells}
-use Rattle.quadtree.specs.Add.{lead, Holds, childless, pick, side, Reaches, gap, splitted, FoundLeaf, FoundHole}
+use Rattle.quadtree.specs.Slots.{word, kids, putInternal}
+use Rattle.quadtree.specs.Add.{lead, Holds, childless, pick, side, Reaches, gap, forked, parted, FoundLeaf, FoundHole}
 use Rattle.quadtree.proofs.SlotsTree.{lead-each, leads}
-use Rattle.quadtree.proofs.AddWay.{side-lt, reach-each, reach-stored, reach-depth, reach-down}
-use Rattle.quadtree.proofs.AddHold.{reached, leaf-level, node-level}
+use Rattle.quadtree.proofs.AddWay.{side-lt, reach-each, reach-stored, reach-down}
+use Rattle.quadtree.proofs.AddHold.{reached, node-level}
 
 -- one of four numbers in a list
 leads-at : (k : ℕ → Tree ℕ) (q : ℕ) → q < 4 → getD (leads k) q 0 ≡ lead (k q)
@@ -68,14 +67,6 @@ module _ (at : List Float) (p : ℕ) where
   module _ (m : List ℕ) (q : Quadtree) (h : Holds at (upTo p) m q) (s l : ℕ) (c : Extent) (u : Tree ℕ) (r : Reaches at p l (q .extent) (h .tree) c u) (e : lead u ≡ s + 1) where
     pub way-slot : s * 8 + 8 ≤ length m
     way-slot = let b = lead-each (λ j. j < q .nodes) u s e (reach-each at p l (q .extent) (h .tree) c u r (λ j. j < q .nodes) (h .below)) in omega (arith, h .room)
-
-    pub way-level : l ≤ 64
-    way-level = omega (arith, reach-depth at p l (q .extent) (h .tree) c u r, h .most, some u e)
-      where
-        some : (u : Tree ℕ) → lead u ≡ s + 1 → 0 < depth u
-        some none e = absurd (omega arith)
-        some (leaf s is) e = omega arith
-        some (node s t0 t1 t2 t3) e = omega arith
 
   pub way-leaf : (m : List ℕ) (q : Quadtree) (h : Holds at (upTo p) m q) (s l : ℕ) (c : Extent) (u : Tree ℕ) → Reaches at p l (q .extent) (h .tree) c u → lead u ≡ s + 1 → (word m s 0 ≡ 0 → ⊥)
       → FoundLeaf at m q p s l (word m s 0 - 1) c
@@ -156,9 +147,9 @@ module _ (at : List Float) (p : ℕ) where
 
   -- ---- a split
 
-  pub split-turn : (f left k : ℕ) (c : Extent) (s x : ℕ) (m w : List ℕ) → 0 < left → k ≡ side at p c → w ≡ putInternal m s (set childless k (x + 1)) → splitted at p f (left - 1) (quarter k c) x (x + 1) w ≡ splitted at p f left c s x m
+  pub split-turn : (f left k : ℕ) (c : Extent) (s x : ℕ) (m w : List ℕ) → 0 < left → k ≡ side at p c → w ≡ putInternal m s (set childless k (x + 1)) → parted at p f (left - 1) (quarter k c) x (x + 1) w ≡ parted at p f left c s x m
   split-turn f zero k c s x m w l e g = absurd (omega arith)
   split-turn f (suc n) k c s x m w l e g = let z : suc n - 1 ≡ n = omega arith in rw (z, g, e)
 
-  pub split-end : (f left : ℕ) (c : Extent) (s x : ℕ) (m : List ℕ) → left ≤ 0 → splitted at p f 0 c s x m ≡ splitted at p f left c s x m
-  split-end f left c s x m l = let z : left ≡ 0 = omega arith in rw z
+  pub split-end : (f left j k : ℕ) (c : Extent) (s x : ℕ) (m w : List ℕ) → left ≤ 0 → j ≡ quadrant c (xAt at f) (yAt at f) → k ≡ side at p c → w ≡ forked f p m s j k x → w ≡ parted at p f left c s x m
+  split-end f left j k c s x m w l ej ek e = let z : left ≡ 0 = omega arith in e ∙ rw (z, ej, ek)

@@ -1,12 +1,12 @@
 -- A point's way down a tree, and the tree with another subtree where the way has come to.
-use mathlib.Core.Path.{_≡_, refl, sym, ap, ap₂, _∙_, subst}
+use mathlib.Core.Path.{_≡_, refl, sym, ap, _∙_, subst}
 use mathlib.Core.Bool.{Bool, true, false, cond}
-use mathlib.Core.List.{List, [], _∷_}
+use mathlib.Core.List.{List}
 use Prim.Native.Nat.{ℕ, zero, suc, _+_, _≤_, _<_, max}
 use native.Mathlib.Omega.{arith}
 use lib.Dec.{eqb}
 use lib.Ieee.{Float, le}
-use borrow.Author.Tests.{eqb-true, eqb-false}
+use borrow.Author.Tests.{eqb-true}
 use Rattle.rules.specs.declared.Extent.{Extent}
 use Rattle.rules.specs.Plain.{branch}
 use Rattle.rules.specs.Number.{xAt, yAt}
@@ -14,10 +14,10 @@ use Rattle.rules.specs.Cell.{xm, ym, quadrant, quarter}
 use Rattle.rules.specs.Tree.{Tree, none, leaf, node, depth, nodes, inQuarter}
 use Rattle.rules.proofs.CellInsert.{insertT, into, insert-node}
 use Rattle.rules.proofs.CellDeep.{inQuarter-own}
-use Rattle.quadtree.specs.Slots.{word, kids, EachSlot, Apart, Once, inCells}
+use Rattle.quadtree.specs.Slots.{EachSlot, Apart, Once, inCells}
 use Rattle.quadtree.specs.Add.{lead, Stored, pick, side, Reaches}
 use Rattle.quadtree.proofs.Slots.{Same}
-use Rattle.quadtree.proofs.SlotsTree.{each-map, each-both, apart-sym, lead-each, over, upd, leads, each-child, stored-child, upd-all, upd-below, each-over, stored-over, leads-keep, depth-upd, nodes-upd, depth-child, once-out, once-apart, once-child, once-over, pair-upd, frame}
+use Rattle.quadtree.proofs.SlotsTree.{each-map, each-both, apart-sym, lead-each, over, upd, each-child, stored-child, upd-below, each-over, stored-over, leads-keep, depth-upd, nodes-upd, depth-child, once-out, once-apart, once-child, once-over, pair-upd, frame}
 
 pub quadrant-lt : (c : Extent) (x y : Float) → quadrant c x y < 4
 unfolding quadrant

@@ -1,43 +1,46 @@
 -- A larger extent: a leaf root stays where it is, an internal root is wrapped once for each doubling, and where that is refused.
-use mathlib.Core.Path.{_≡_, refl, sym, ap, ap₂, _∙_, subst}
-use mathlib.Core.Logic.{_≢_}
+use mathlib.Core.Path.{_≡_, refl, sym, ap, _∙_, subst}
 use mathlib.Core.Bool.{Bool, true, false}
 use mathlib.Core.List.{List, [], _∷_, _++_}
 use Prim.Native.Nat.{ℕ, zero, suc, _+_, _-_, _*_, _^_, _≤_, _<_, max}
 use native.Mathlib.Omega.{arith}
 use lib.Dec.{T, eqb}
 use lib.IntN.{ℤ}
-use lib.ListN.{length, getD, set}
+use lib.ListN.{length, set}
 use lib.Ieee.{Float}
-use borrow.Author.Tests.{eqb-true, eqb-false, ne-eqb}
+use borrow.Author.Tests.{eqb-true, ne-eqb}
 use Rattle.rules.specs.declared.Extent.{Extent}
-use Rattle.rules.specs.Plain.{branch, upTo}
+use Rattle.rules.specs.Plain.{branch}
 use Rattle.rules.specs.Number.{within, xAt, yAt}
 use Rattle.rules.specs.Floor.{floor}
 use Rattle.rules.specs.Cell.{quadrant, quarter}
 use Rattle.rules.specs.Cover.{Square, inside, oldQuadrant, holds, extentOf}
-use Rattle.rules.specs.Tree.{Tree, none, leaf, node, depth, nodes, treeIn, greatestLevel}
+use Rattle.rules.specs.Tree.{Tree, none, leaf, node, depth, nodes, treeIn}
 use Rattle.rules.proofs.CoverTerms.{Grows, done, more, next}
 use Rattle.rules.proofs.Cover.{old-quadrant-less}
 use Rattle.rules.proofs.CellList.{In}
 use Rattle.rules.proofs.CellIs.{Is}
 use Rattle.rules.proofs.CellInside.{Inside}
-use Rattle.rules.proofs.CellCount.{upTo-snoc}
 use Rattle.rules.proofs.CellInsert.{insertT, insert-none}
 use Rattle.rules.proofs.CellSize.{childAt, node-nodes, node-depth}
 use Rattle.rules.proofs.CellWrap.{onlyAt, wrapT}
 use Rattle.rules.proofs.CellRule.{tree-grown, tree-passes, tree-more, insert-tree, wrapped}
 use Rattle.quadtree.specs.declared.Quadtree.{Quadtree}
 use Rattle.quadtree.specs.declared.cover.Doubled.{Doubled}
-use Rattle.quadtree.specs.Slots.{word, kids, putInternal, EachSlot, Apart, Once, inCells}
+use Rattle.quadtree.specs.Slots.{kids, putInternal, EachSlot, Apart, Once, inCells}
 use Rattle.quadtree.specs.Cover.{squareOf, Reachable, Near, DoubledTo}
-use Rattle.quadtree.specs.Add.{lead, Stored, Holds, childless, pick, side}
+use Rattle.quadtree.specs.Add.{lead, Stored, Holds, childless, side}
 use Rattle.quadtree.proofs.CoverEnds.{doubled-to, doubled-square}
 use Rattle.quadtree.proofs.CoverLaws.{Lies, inside-lies, doubled-lies, other-quadrant}
-use Rattle.quadtree.proofs.Slots.{Same, Small, internal-length, internal-same, internal-tag, internal-kids}
-use Rattle.quadtree.proofs.SlotsTree.{each-map, each-true, lead-le, over, upd, bare, leads, upd-all, upd-below, each-over, stored-over, leads-upd, leads-small, depth-upd, nodes-upd, once-over, pair-upd, frame}
+use Rattle.quadtree.proofs.Slots.{Small, internal-length, internal-same, internal-tag, internal-kids}
+use Rattle.quadtree.proofs.SlotsTree.{each-map, each-true, lead-le, over, upd, bare, leads, upd-below, each-over, stored-over, leads-upd, leads-small, depth-upd, nodes-upd, once-over, pair-upd, frame}
 use Rattle.quadtree.proofs.AddWay.{side-lt}
-use Rattle.quadtree.proofs.AddHold.{cells-depth, cells-nodes, holds-is}
+use Rattle.quadtree.proofs.AddHold.{cells-depth, holds-is}
+
+-- no doubling: the point is inside already
+pub grows-none : (x y : ℤ) {n : ℕ} {s t : Square} → Grows x y n s t → n ≡ 0 → (s ≡ t) × (inside t x y ≡ true)
+grows-none x y (done e) z = (refl, e)
+grows-none x y (more e g) z = absurd (omega arith)
 
 -- with another extent
 abbrev pub inExtent : Extent → Quadtree → Quadtree
@@ -195,10 +198,6 @@ module _ (at : List Float) where
       levels : depth tree ≡ depth t + n
       count : nodes tree ≡ nodes t + n
 
-    grows-none : {n : ℕ} {s t : Square} → Grows (floor x) (floor y) n s t → n ≡ 0 → (s ≡ t) × (inside t (floor x) (floor y) ≡ true)
-    grows-none (done e) z = (refl, e)
-    grows-none (more e g) z = absurd (omega arith)
-
     module _ (e : Extent) (near : Near e x y) (w : Within is e) (out : inside (squareOf e) (floor x) (floor y) ≡ false) where
       abbrev answer : Doubled
       answer = record { extent = extentOf (holds (next (squareOf e) (floor x) (floor y))); quadrant = oldQuadrant (squareOf e) (floor x) (floor y) }
@@ -235,7 +234,7 @@ module _ (at : List Float) where
         let to : squareOf (r .extent) ≡ next (squareOf e) (floor x) (floor y) = doubled-square near out d in
         let next-to = to ∙ ap (λ (s : Square). next s (floor x) (floor y)) z in
         let rest = wraps go (r .extent) v next-to (next-near e near w out d) (next-within e near w out d) (k .2) (next-is e near w out u g)
-        (λ b. let a = grows-none go b in next-hole e near w out u (subst (λ (s : Square). inside s (floor x) (floor y) ≡ true) (sym (next-to ∙ a .0)) (a .1))) in
+        (λ b. let a = grows-none (floor x) (floor y) go b in next-hole e near w out u (subst (λ (s : Square). inside s (floor x) (floor y) ≡ true) (sym (next-to ∙ a .0)) (a .1))) in
         record {
           extent = rest .extent;
           tree = rest .tree;

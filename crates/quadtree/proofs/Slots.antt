@@ -1,13 +1,11 @@
 -- Laws of the slots: what a word, the children and a tree are after a write.
-use mathlib.Core.Path.{_≡_, refl, sym, ap, ap₂, _∙_}
+use mathlib.Core.Path.{_≡_, refl, ap₂, _∙_}
 use mathlib.Core.List.{List, [], _∷_}
-use Prim.Native.Nat.{ℕ, zero, suc, _+_, _*_, _/_, _%_, _^_, _≤_, _<_}
+use Prim.Native.Nat.{ℕ, _+_, _*_, _/_, _%_, _^_, _≤_, _<_}
 use native.Mathlib.Omega.{arith}
-use lib.ListN.{length, getD, set, length-set}
+use lib.ListN.{length, getD, length-set}
 use lib.Seq.{getD-set-same, getD-set-other}
-use Rattle.rules.specs.Tree.{Tree, none, leaf, node}
-use Rattle.quadtree.specs.Slots.{word, put, kid, kids, first, putInternal, putLeaf, Follows, Leads, EachSlot, Apart, Once}
-use Rattle.quadtree.specs.Add.{lead, Stored}
+use Rattle.quadtree.specs.Slots.{word, put, kids, putInternal, putLeaf}
 
 -- ---- words
 

@@ -1,16 +1,16 @@
 -- Laws of trees in slots: what holds of each slot, no slot twice, four children by their numbers, and a tree that lives on where its slots keep their words.
-use mathlib.Core.Path.{_≡_, refl, sym, ap, _∙_, subst}
+use mathlib.Core.Path.{_≡_, refl, sym, _∙_, subst}
 use mathlib.Core.Bool.{Bool, true, false}
 use mathlib.Core.List.{List, [], _∷_}
-use Prim.Native.Nat.{ℕ, zero, suc, _+_, _*_, _^_, _≤_, _<_, max}
+use Prim.Native.Nat.{ℕ, zero, suc, _+_, _^_, _≤_, _<_, max}
 use native.Mathlib.Omega.{arith}
 use lib.Dec.{eqb}
-use lib.ListN.{length, getD, set}
+use lib.ListN.{getD, set}
 use borrow.Author.Tests.{eqb-true, eqb-false}
 use Rattle.rules.specs.Plain.{branch}
 use Rattle.rules.specs.Tree.{Tree, none, leaf, node, depth, nodes}
 use Rattle.rules.proofs.CellChain.{EachLeaf}
-use Rattle.quadtree.specs.Slots.{word, kids, first, Follows, Leads, EachSlot, Apart, Once}
+use Rattle.quadtree.specs.Slots.{word, kids, Follows, Leads, EachSlot, Apart, Once}
 use Rattle.quadtree.specs.Add.{lead, Stored, pick}
 use Rattle.quadtree.proofs.Slots.{Same, Small}
 
@@ -164,11 +164,6 @@ depth-child s t0 t1 t2 t3 (suc zero) = omega arith
 depth-child s t0 t1 t2 t3 (suc (suc zero)) = omega arith
 depth-child s t0 t1 t2 t3 (suc (suc (suc r))) = omega arith
 
-pub nodes-pos : (t : Tree ℕ) (j : ℕ) → lead t ≡ j + 1 → 0 < depth t
-nodes-pos none j e = absurd (omega arith)
-nodes-pos (leaf s is) j e = omega arith
-nodes-pos (node s t0 t1 t2 t3) j e = omega arith
-
 -- ---- no slot twice
 
 module _ (s : ℕ) (t0 t1 t2 t3 : Tree ℕ) (h : Once (node s t0 t1 t2 t3)) where
@@ -232,16 +227,6 @@ frame m w P f (node s t0 t1 t2 t3) a h =
     (e .0 ∙ h .0, e .1 ∙ h .1, frame m w P f t0 (a .1) (h .2), frame m w P f t1 (a .2) (h .3), frame m w P f t2 (a .3) (h .4), frame m w P f t3 (a .4) (h .5))
 
 -- ---- with and without the chains
-
-pub leads-stored : (m next : List ℕ) (p : ℕ) (t : Tree ℕ) → Leads m next p t → (p ≡ lead t) × Stored m t
-leads-stored m next p none h = (h, tt)
-leads-stored m next p (leaf s is) h = (h .0, h .1)
-leads-stored m next p (node s t0 t1 t2 t3) h =
-    let a = leads-stored m next _ t0 (h .2) in
-    let b = leads-stored m next _ t1 (h .3) in
-    let c = leads-stored m next _ t2 (h .4) in
-    let d = leads-stored m next _ t3 (h .5) in
-    (h .0, (h .1, rw (a .0, b .0, c .0, d .0), a .1, b .1, c .1, d .1))
 
 pub stored-leads : (m next : List ℕ) (p : ℕ) (t : Tree ℕ) → p ≡ lead t → Stored m t → EachLeaf (λ _. Follows next) t → Leads m next p t
 stored-leads m next p none e h f = e

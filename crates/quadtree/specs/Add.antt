@@ -1,18 +1,16 @@
--- Insertion into a tree in slots: where a point's way down ends, what is written there, and the chains. Definitions only.
+-- Insertion into a tree in slots: where a point's way down ends and what is written there. Definitions only.
 use mathlib.Core.Path.{_≡_}
 use mathlib.Core.Bool.{true}
 use mathlib.Core.List.{List, [], _∷_}
-use mathlib.Core.Logic.{_⊎_}
 use Prim.Native.Nat.{ℕ, zero, suc, _+_, _-_, _*_, _^_, _≤_, _<_}
-use lib.Dec.{eqb}
-use lib.ListN.{length, getD, set}
+use lib.ListN.{length, set}
 use lib.Ieee.{Float}
 use Rattle.rules.specs.declared.Extent.{Extent}
 use Rattle.rules.specs.Plain.{branch, upTo}
 use Rattle.rules.specs.Number.{within, xAt, yAt}
 use Rattle.rules.specs.Floor.{floor}
 use Rattle.rules.specs.Cell.{quadrant, quarter}
-use Rattle.rules.specs.Tree.{Tree, none, leaf, node, nodes, depth, same, inQuarter, treeIn, greatestLevel}
+use Rattle.rules.specs.Tree.{Tree, none, leaf, node, nodes, depth, inQuarter, treeIn, greatestLevel}
 use Rattle.rules.proofs.CellInside.{Inside}
 use Rattle.rules.proofs.CoverTerms.{Grows}
 use Rattle.quadtree.specs.declared.Quadtree.{Quadtree}
@@ -22,6 +20,7 @@ use Rattle.quadtree.specs.declared.add.Stop.the-variants.{Leaf, Hole}
 use Rattle.quadtree.specs.declared.add.Inserted.{Inserted}
 use Rattle.quadtree.specs.declared.add.Inserted.the-variants.{Done, Deep, Full}
 use Rattle.quadtree.specs.Cover.{squareOf, Reachable, Near, CoveredTo}
+use Rattle.quadtree.specs.Chain.{Linked}
 use Rattle.quadtree.specs.Slots.{word, kids, first, putInternal, putLeaf, EachSlot, Once, inCells}
 
 -- ---- trees in slots, whatever their chains
@@ -93,34 +92,9 @@ module _ (at : List Float) (p : ℕ) where
   -- ---- what is written where it ends
 
   -- The leaf of f in slot s is split: internal nodes for the g + 1 levels from the cell c on, the first in slot s and the others from slot x on, then the leaves of f and p.
-  abbrev pub splitted : ℕ → ℕ → Extent → ℕ → ℕ → List ℕ → List ℕ
-  splitted f zero c s x m = forked f p m s (quadrant c (xAt at f) (yAt at f)) (side c) x
-  splitted f (suc g) c s x m = splitted f g (quarter (side c) c) x (x + 1) (putInternal m s (set childless (side c) (x + 1)))
-
--- ---- chains
-
-module _ (at : List Float) where
-  -- v is the link of i among the first p particles: 0 where no later one has the same point, else j + 1 for the next that has
-  abbrev pub Link : ℕ → ℕ → ℕ → Type 0
-  Link p i v =
-      ((v ≡ 0) × ((j : ℕ) → i < j → j < p → same at i j ≡ true → ⊥))
-      ⊎ ((j : ℕ) × (v ≡ j + 1) × (i < j) × (j < p) × (same at i j ≡ true) × ((h : ℕ) → i < h → h < j → same at i h ≡ true → ⊥))
-
-  -- no particle before i has its point
-  abbrev pub Earliest : ℕ → Type 0
-  Earliest i = (j : ℕ) → j < i → same at j i ≡ true → ⊥
-
-  -- l is the last of the first p particles that has the point of i
-  pub record Last (p i l : ℕ) : Type 0 where
-    pub low : i ≤ l
-    pub less : l < p
-    pub point : same at i l ≡ true
-    pub last : (j : ℕ) → l < j → j < p → same at i j ≡ true → ⊥
-
-  -- Every link of the first p particles, and for the first of each chain its last.
-  pub record Linked (next tail : List ℕ) (p : ℕ) : Type 0 where
-    pub links : (i : ℕ) → i < p → Link p i (getD next i 0)
-    pub tails : (i : ℕ) → i < p → Earliest i → Last p i (getD tail i 0)
+  abbrev pub parted : ℕ → ℕ → Extent → ℕ → ℕ → List ℕ → List ℕ
+  parted f zero c s x m = forked f p m s (quadrant c (xAt at f) (yAt at f)) (side c) x
+  parted f (suc g) c s x m = parted f g (quarter (side c) c) x (x + 1) (putInternal m s (set childless (side c) (x + 1)))
 
 -- ---- what is asked and answered
 
@@ -230,10 +204,3 @@ pub record Wrapped (at : List Float) (m : List ℕ) (to : Extent) (p : ℕ) (r :
   pub holds : Holds at (upTo p) m r
   pub extent : r .extent ≡ to
   pub rooted : 0 < r .root
-
--- the chain of f, and a particle p to join it
-pub record Chains (next tail : List ℕ) (f p : ℕ) : Type 0 where
-  pub first : f < length tail
-  pub last : getD tail f 0 < length next
-  pub new : p < length next
-  pub few : p < 4096

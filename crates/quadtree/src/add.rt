@@ -3,7 +3,7 @@ ghost use mathlib.Core.Path.{_≡_};
 ghost use Prim.Native.Nat.{_+_, _-_, _*_, _/_, _^_, _≤_, _<_, max};
 ghost use lib.ListN.{length, set};
 ghost use Rattle.quadtree.specs.Indexer.{indexer, cellOf};
-ghost use Rattle.quadtree.specs.Add.{childless, hung, gap, forked, splitted, Forks, Splits, Finds, Found, Puts, FoundLeaf, Placed, Wraps, Wrapped, Enlarges, Inserts};
+ghost use Rattle.quadtree.specs.Add.{childless, hung, gap, forked, parted, Forks, Splits, Finds, Found, Puts, FoundLeaf, Placed, Wraps, Wrapped, Enlarges, Inserts};
 use crate::Quadtree;
 use crate::chain;
 use crate::cover;
@@ -130,7 +130,7 @@ fn fork(m: &mut [u64], s: usize, j: usize, k: usize, x: usize, f: usize, p: usiz
 // The leaf of f in slot s becomes an internal node over g more, new ones, with the leaves of f and p at the end.
 fn split(m: &mut [u64], at: &[f64], s: usize, cell: Extent, g: usize, x: usize, f: usize, p: usize)
     requires { ⌜ Splits (length (now m)) (length (now at)) s x g f p ⌝ }
-    ensures { λ _. ⌜ now (m .exit) ≡ splitted (now (at .entry)) p f g cell s x (now (m .entry)) ⌝ }
+    ensures { λ _. ⌜ now (m .exit) ≡ parted (now (at .entry)) p f g cell s x (now (m .entry)) ⌝ }
 {
     let u = point::x_at(at, p);
     let v = point::y_at(at, p);

@@ -2,7 +2,7 @@
 ghost use mathlib.Core.Path.{_≡_};
 ghost use Prim.Native.Nat.{_+_, _<_};
 ghost use lib.ListN.{length, getD, set};
-ghost use Rattle.quadtree.specs.Add.{Chains};
+ghost use Rattle.quadtree.specs.Chain.{Chains};
 
 // A chain of p alone.
 pub fn begin(next: &mut [u32], tail: &mut [u32], p: usize)

@@ -1,7 +1,5 @@
-use mathlib.Core.Path.{_≡_, subst}
-use Prim.Native.Nat.{_+_, _/_, _≤_, _<_}
+use mathlib.Core.Path.{subst}
 use native.Mathlib.Omega.{arith}
-use lib.ListN.{length}
 use borrow.Author.Needs.{needs}
 use Rattle.rules.specs.declared.Extent.{Extent}
 use Rattle.quadtree.specs.Add.{Placed}

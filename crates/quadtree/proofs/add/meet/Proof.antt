@@ -1,12 +1,11 @@
-use mathlib.Core.Path.{_≡_, refl, sym, ap, ap₂, _∙_, subst}
-use Prim.Native.Nat.{ℕ, suc, _+_, _-_, _≤_, _<_}
+use mathlib.Core.Path.{_≡_, ap, ap₂, _∙_, subst}
+use Prim.Native.Nat.{_+_, _-_, _≤_}
 use native.Mathlib.Omega.{arith}
 use borrow.Author.Needs.{needs}
 use Rattle.rules.specs.declared.Extent.{Extent}
 use Rattle.rules.specs.Cell.{quadrant}
-use Rattle.rules.specs.Number.{xAt, yAt}
 use Rattle.quadtree.specs.Indexer.{indexer, cellOf}
-use Rattle.quadtree.specs.Add.{side, gap}
+use Rattle.quadtree.specs.Add.{gap}
 use Rattle.quadtree.proofs.AddTurns.{indexed, step-side, step-own, step-cell, meet-more, meet-stop, meet-end}
 use Rattle.quadtree.proofs.add.meet.Statement.{statement}
 use Rattle.quadtree.proofs.add.meet.Tie as tie

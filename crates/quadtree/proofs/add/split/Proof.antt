@@ -1,6 +1,5 @@
 use mathlib.Core.Path.{_≡_, refl, sym, ap, ap₂, _∙_, subst}
-use mathlib.Core.List.{List}
-use Prim.Native.Nat.{ℕ, _+_, _-_, _*_, _≤_, _<_}
+use Prim.Native.Nat.{ℕ, _+_, _-_, _≤_, _<_}
 use native.Mathlib.Omega.{arith}
 use lib.ListN.{length}
 use borrow.Author.Needs.{needs}
@@ -9,7 +8,7 @@ use Rattle.rules.specs.Number.{xAt, yAt}
 use Rattle.rules.specs.Cell.{quadrant}
 use Rattle.quadtree.specs.Indexer.{indexer, cellOf}
 use Rattle.quadtree.specs.Slots.{putInternal}
-use Rattle.quadtree.specs.Add.{Splits, side, forked, splitted}
+use Rattle.quadtree.specs.Add.{Splits, side, parted}
 use Rattle.quadtree.proofs.AddWay.{quadrant-lt}
 use Rattle.quadtree.proofs.AddTurns.{indexed, step-side, step-less, step-own, step-cell, split-turn, split-end}
 use Rattle.quadtree.proofs.add.split.Statement.{statement}
@@ -17,7 +16,7 @@ use Rattle.quadtree.proofs.add.split.Tie as tie
 
 abbrev Inv-loop : tie.InvT-loop
 Inv-loop m₀ at s g x f p u v ix₀ slot₀ free₀ left₀ m ix slot free left =
-    (length m ≡ length m₀) × Splits (length m) (length at) slot free left f p × (ix ≡ indexer (cellOf ix)) × (splitted at p f left (cellOf ix) slot free m ≡ splitted at p f g (cellOf ix₀) s x m₀)
+    (length m ≡ length m₀) × Splits (length m) (length at) slot free left f p × (ix ≡ indexer (cellOf ix)) × (parted at p f left (cellOf ix) slot free m ≡ parted at p f g (cellOf ix₀) s x m₀)
 
 abbrev μ-loop : tie.MeasureT-loop
 μ-loop m₀ at s g x f p u v ix₀ slot₀ free₀ left₀ m ix slot free left = left
@@ -49,7 +48,7 @@ loop-again c =
       a .put-internal .kept .0 ∙ d .loop .inv .0,
       search needs,
       step-own at p e _ _ r (b .get-and-descend .ensures) x y,
-      ap (λ (c : Extent). splitted at p (s .args .f) (d .loop .left - 1) c (d .loop .free) (d .loop .free + 1) (a .put-internal .last .0)) (step-cell at p e _ _ r (b .get-and-descend .ensures) x y)
+      ap (λ (c : Extent). parted at p (s .args .f) (d .loop .left - 1) c (d .loop .free) (d .loop .free + 1) (a .put-internal .last .0)) (step-cell at p e _ _ r (b .get-and-descend .ensures) x y)
           ∙ split-turn at p (s .args .f) (d .loop .left) (r .quadrant) e (d .loop .slot) (d .loop .free) (d .loop .m) (a .put-internal .last .0) (b .before .loop-test .taken) (step-side at p e _ _ r (b .get-and-descend .ensures) x y) w
           ∙ d .loop .inv .3,
     )
@@ -85,12 +84,9 @@ returns c =
     let g = k .before .before in
     let d = g .before .before .before .before .before in
     let s = d .before .before .before .before .before .before in
-    let e = cellOf (d .loop .ix) in
-    k .fork .ensures
-    ∙ ap₂ (λ (i j : ℕ). forked (s .args .f) (s .args .p) (d .loop .m) (d .loop .slot) i j (d .loop .free)) (first-is g) (new-is g)
-    ∙ split-end (s .args .at .now) (s .args .p) (s .args .f) (d .loop .left) e (d .loop .slot) (d .loop .free) (d .loop .m) (g .before .before .before .before .loop-test .left)
+    split-end (s .args .at .now) (s .args .p) (s .args .f) (d .loop .left) (g .before .get .result) (g .get2 .result) (cellOf (d .loop .ix)) (d .loop .slot) (d .loop .free) (d .loop .m) (k .fork .last .0) (g .before .before .before .before .loop-test .left) (first-is g) (new-is g) (k .fork .ensures)
     ∙ d .loop .inv .3
-    ∙ ap (λ (c : Extent). splitted (s .args .at .now) (s .args .p) (s .args .f) (s .args .g) c (s .args .s) (s .args .x) (s .args .m .now)) (ap cellOf (d .before .with-extent .ensures))
+    ∙ ap (λ (c : Extent). parted (s .args .at .now) (s .args .p) (s .args .f) (s .args .g) c (s .args .s) (s .args .x) (s .args .m .now)) (ap cellOf (d .before .with-extent .ensures))
 
 pub split-spec : {M : Type 1} → statement M
 split-spec =

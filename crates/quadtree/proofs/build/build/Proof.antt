@@ -1,9 +1,8 @@
-use mathlib.Core.Path.{_≡_, refl, sym, ap, _∙_, subst}
-use Prim.Native.Nat.{ℕ, _+_, _-_, _/_, _≤_, _<_}
+use mathlib.Core.Path.{_≡_, refl, ap, _∙_, subst}
+use Prim.Native.Nat.{ℕ, _-_, _/_, _≤_}
 use native.Mathlib.Omega.{arith}
 use lib.ListN.{length}
 use borrow.Author.Needs.{needs}
-use Rattle.rules.specs.Outcome.{refused, refusal}
 use Rattle.rules.specs.Tree.{treeCheck}
 use Rattle.quadtree.specs.declared.add.Inserted.{Inserted}
 use Rattle.quadtree.specs.Add.{Placed}
@@ -81,13 +80,14 @@ loop-again c =
     let k = c .before .before .before .before .before .before .before .before .before in
     let b = k .before .before .before .before in
     let d = b .before .before in
-    let s = start d in
-    (k .insert .kept .1 .1 .0 ∙ d .loop .inv .0,
-    k .insert .kept .1 .1 .1 .0 ∙ d .loop .inv .1,
-    k .insert .kept .0 ∙ d .loop .inv .2,
-    omega (arith, b .before .loop-test .taken),
-    build-done (s .args .at .now) (length (s .args .m .now) / 8) (d .loop .m) (d .loop .next) (d .loop .tail) (d .loop .q) (d .loop .p) (d .loop .inv .4) (s .pre .ranged) (b .before .loop-test .taken) (b .extend .result) (b .extend .ensures)
-    (k .insert .last .0) (k .insert .last .1 .1 .0) (k .insert .last .1 .1 .1 .0) (same-slots k) (c .before .answer .given .0 .0) (placed k _ (c .before .answer .given .1)))
+    let s = start d in (
+      k .insert .kept .1 .1 .0 ∙ d .loop .inv .0,
+      k .insert .kept .1 .1 .1 .0 ∙ d .loop .inv .1,
+      k .insert .kept .0 ∙ d .loop .inv .2,
+      omega (arith, b .before .loop-test .taken),
+      build-done (s .args .at .now) (length (s .args .m .now) / 8) (d .loop .m) (d .loop .next) (d .loop .tail) (d .loop .q) (d .loop .p) (d .loop .inv .4) (s .pre .ranged) (b .before .loop-test .taken) (b .extend .result) (b .extend .ensures)
+          (k .insert .last .0) (k .insert .last .1 .1 .0) (k .insert .last .1 .1 .1 .0) (same-slots k) (c .before .answer .given .0 .0) (placed k _ (c .before .answer .given .1)),
+    )
 
 returns-3 : tie.Need-returns-3 Inv-loop μ-loop
 returns-3 c =

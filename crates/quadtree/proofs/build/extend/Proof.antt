@@ -1,15 +1,14 @@
-use mathlib.Core.Path.{_≡_, sym, ap₂, _∙_, subst, subst₂}
-use mathlib.Core.Bool.{Bool, true}
+use mathlib.Core.Path.{sym, ap₂, _∙_, subst₂}
 use native.Mathlib.Omega.{arith}
 use lib.Dec.{T}
-use lib.IntN.{ℤ}
 use lib.Ieee.{Float}
 use borrow.Author.Needs.{needs}
 use Rattle.rules.specs.Number.{within}
 use Rattle.rules.specs.Floor.{floor}
 use Rattle.rules.specs.Cover.{coverPoint, nothing, extentOf}
 use Rattle.quadtree.specs.Cover.{Near, CoveredTo}
-use Rattle.quadtree.proofs.AddBuild.{is-T, first-extends, extend-near, next-extends}
+use Rattle.quadtree.proofs.AddInsert.{is-T}
+use Rattle.quadtree.proofs.AddBuild.{first-extends, extend-near, next-extends}
 use Rattle.quadtree.proofs.build.extend.Statement.{statement}
 use Rattle.quadtree.proofs.build.extend.Tie as tie
 

@@ -1,6 +1,6 @@
-use mathlib.Core.Path.{_≡_, refl, sym, ap, ap₂, _∙_}
+use mathlib.Core.Path.{_≡_, sym, ap, ap₂, _∙_}
 use mathlib.Core.Bool.{Bool, true, false, cond}
-use Prim.Native.Nat.{ℕ, _+_}
+use Prim.Native.Nat.{_+_}
 use lib.Ieee.{Float, le}
 use Rattle.rules.specs.Cell.{xm, ym, quadrant}
 use Rattle.quadtree.specs.declared.indexer.Indexer.{Indexer}
