@@ -14,7 +14,7 @@ use Rattle.rules.specs.declared.Refusal.{Refusal}
 use Rattle.rules.specs.Plain.{upTo}
 use Rattle.rules.specs.Outcome.{Outcome, done, refused, refusal, Check, fine, require, _then_, _>>=_, checkFrom, refusalOf, zeroesWork}
 use Rattle.rules.specs.Number.{placeRange, speedRange}
-use Rattle.rules.specs.Refusal.{countCheck, mostParticles}
+use Rattle.rules.specs.Refusal.{countCheck, lengthsCheck, mostParticles}
 use Rattle.rules.specs.Sheet.{recordSize, lengthCheck, recordCheck, recordsCheck, countOf, particlesOf}
 use Rattle.rules.specs.Tree.{Tree, depth, nodes, treeOf, fitsCheck, treeCheck, greatestLevel}
 use Rattle.rules.specs.Calls.{slotsOf, TreeInput, treeLengths, treeOfSheet, treeResult}
@@ -131,28 +131,34 @@ module _ (most : ℕ) (l : TreeInput) where
     a : lengthCheck (l .sheet) ≡ fine
     a = no-number (lengthCheck (l .sheet)) r length-numbered e z
 
-    pub stop-2 : (s : Refusal) → s ≡ refusalOf lengths → Numbered s → treeResult most l ≡ refused s
-    stop-2 s f h = stages ∙ rw (a, is-refused lengths s f h)
+    -- the lengths agree or not
+    module _ (agreed : Bool) (o : agreed ≡ (eqb (length (l .rows)) (slotsOf (l .work) * 4) && eqb (length (l .chains)) n)) (s : Refusal)
+        (k : s ≡ refusalOf (countCheck most n then lengthsCheck agreed)) where
+      f : s ≡ refusalOf lengths
+      f = k ∙ ap (λ (b : Bool). refusalOf (countCheck most n then lengthsCheck b)) o
 
-    module _ (s : Refusal) (f : s ≡ refusalOf lengths) (y : s .number ≡ 0) where
-      b : lengths ≡ fine
-      b = no-number lengths s lengths-numbered f y
+      pub stop-2 : Numbered s → treeResult most l ≡ refused s
+      stop-2 h = stages ∙ rw (a, is-refused lengths s f h)
 
-      pub stop-3 : (t : Refusal) → t ≡ refusalOf records → Numbered t → treeResult most l ≡ refused t
-      stop-3 t g h = stages ∙ rw (a, b, is-refused records t g h)
+      module _ (y : s .number ≡ 0) where
+        b : lengths ≡ fine
+        b = no-number lengths s lengths-numbered f y
 
-      module _ (t : Refusal) (g : t ≡ refusalOf records) (x : t .number ≡ 0) where
-        c : records ≡ fine
-        c = no-number records t (records-numbered (particlesOf (l .sheet))) g x
+        pub stop-3 : (t : Refusal) → t ≡ refusalOf records → Numbered t → treeResult most l ≡ refused t
+        stop-3 t g h = stages ∙ rw (a, b, is-refused records t g h)
 
-        -- with none of them the tree is built
-        pub goes-on : treeResult most l ≡ built l
-        goes-on = stages ∙ rw (a, b, c)
+        module _ (t : Refusal) (g : t ≡ refusalOf records) (x : t .number ≡ 0) where
+          c : records ≡ fine
+          c = no-number records t (records-numbered (particlesOf (l .sheet))) g x
 
-        pub passed : most ≤ mostParticles → Passed l
-        passed m =
-            let h = tests (leb n most) (eqb (length (l .rows)) (slotsOf (l .work) * 4)) (eqb (length (l .chains)) n) b in
-            record { few = omega (arith, leb-true n most (h .0)); rows = eqb-true _ _ (h .1); chains = eqb-true _ _ (h .2); sound = c }
+          -- with none of them the tree is built
+          pub goes-on : treeResult most l ≡ built l
+          goes-on = stages ∙ rw (a, b, c)
+
+          pub passed : most ≤ mostParticles → Passed l
+          passed m =
+              let h = tests (leb n most) (eqb (length (l .rows)) (slotsOf (l .work) * 4)) (eqb (length (l .chains)) n) b in
+              record { few = omega (arith, leb-true n most (h .0)); rows = eqb-true _ _ (h .1); chains = eqb-true _ _ (h .2); sound = c }
 
 -- ---- for callers that lend the right lengths
 

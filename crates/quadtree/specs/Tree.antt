@@ -15,6 +15,7 @@ use Rattle.rules.specs.Cell.{nowhere}
 use Rattle.rules.specs.Tree.{Tree, treeOf, treeCheck}
 use Rattle.rules.specs.Calls.{slotsOf, TreeInput, treeAnswer, rowsAfter, chainsAfter, treeWorkAfter}
 
+-- what is lent to the call
 abbrev pub lent : List ℕ → List ℕ → List ℕ → List ℕ → TreeInput
 lent sheet rows chains work = record { sheet = sheet; rows = rows; chains = chains; work = work }
 
@@ -25,11 +26,11 @@ pub record Ends (l : TreeInput) (o : Outcome (Tree Extent)) (r : TreeAnswer) (ro
   pub chained : chains ≡ chainsAfter l o
   pub worked : work ≡ treeWorkAfter l o
 
--- counts zero, no extent
+-- the answer to a refusal: counts zero, no extent
 abbrev pub refusedTree : Refusal → TreeAnswer
 refusedTree r = record { refusal = r; nodes = 0; extent = nowhere }
 
--- and the work slots with them
+-- the work slots after a refusal
 abbrev pub refusedWork : Refusal → List ℕ → List ℕ
 refusedWork r work = cond (zeroesWork r) (zeros work) work
 

@@ -46,10 +46,17 @@ fn refuse(work: &mut [u64], refusal: Refusal) -> TreeAnswer
     answer
 }
 
-// 1 for too many particles, then 2: four numbers a slot, one a particle.
-fn lent_check(most: usize, n: usize, rows: usize, slots: usize, chains: usize) -> Refusal
+// Four numbers a slot, one a particle.
+fn agree(rows: usize, slots: usize, chains: usize, n: usize) -> bool
     requires { ⌜ slots < 2 ^ 61 ⌝ }
-    ensures { λ r. ⌜ r ≡ refusalOf (countCheck most n then lengthsCheck (eqb rows (slots * 4) && eqb chains n)) ⌝ }
+    ensures { λ r. ⌜ r ≡ (eqb rows (slots * 4) && eqb chains n) ⌝ }
+{
+    rows == slots * 4 && chains == n
+}
+
+// 1 for too many particles, then 2 for lengths that disagree.
+fn lent_check(most: usize, n: usize, agreed: bool) -> Refusal
+    ensures { λ r. ⌜ r ≡ refusalOf (countCheck most n then lengthsCheck agreed) ⌝ }
 {
     if most < n {
         return Refusal {
@@ -57,13 +64,7 @@ fn lent_check(most: usize, n: usize, rows: usize, slots: usize, chains: usize) -
             place: 0,
         };
     }
-    if rows != slots * 4 {
-        return Refusal {
-            number: 2,
-            place: 0,
-        };
-    }
-    if chains != n {
+    if !agreed {
         return Refusal {
             number: 2,
             place: 0,
@@ -148,13 +149,9 @@ pub fn tree_within(
     if number != 0 {
         return refuse(work, bad);
     }
-    let bad = lent_check(
-        most,
-        records.len() / 40,
-        rows.len(),
-        work.len() / 8,
-        chains.len(),
-    );
+    let n = records.len() / 40;
+    let agreed = agree(rows.len(), work.len() / 8, chains.len(), n);
+    let bad = lent_check(most, n, agreed);
     let number = bad.number;
     if number != 0 {
         return refuse(work, bad);

@@ -1,5 +1,4 @@
-use borrow.Author.Needs.{needs}
-use borrow.Author.Tests.{le-leb, lt-leb, eq-eqb, ne-eqb}
+use borrow.Author.Tests.{le-leb, lt-leb, not-true, not-false}
 use Rattle.quadtree.proofs.tree.lent_check.Statement.{statement}
 use Rattle.quadtree.proofs.tree.lent_check.Tie as tie
 
@@ -8,7 +7,5 @@ lent-check-spec =
     tie.close
     (tie.spec
     (λ c. rw (lt-leb _ _ (c .if1 .taken)))
-    (λ c. search needs)
-    (λ c. rw (le-leb _ _ (c .before .if1 .left), ne-eqb _ _ (c .if2 .taken)))
-    (λ c. rw (le-leb _ _ (c .before .before .if1 .left), eq-eqb _ _ (c .before .if2 .left), ne-eqb _ _ (c .if3 .taken)))
-    (λ c. rw (le-leb _ _ (c .before .before .if1 .left), eq-eqb _ _ (c .before .if2 .left), eq-eqb _ _ (c .if3 .left))))
+    (λ c. rw (le-leb _ _ (c .before .if1 .left), not-true (c .before .before .args .agreed) (c .if2 .taken)))
+    (λ c. rw (le-leb _ _ (c .before .if1 .left), not-false (c .before .before .args .agreed) (c .if2 .left))))

@@ -1,5 +1,6 @@
 use borrow.Author.Needs.{needs}
 use mathlib.Core.Path.{refl, _∙_}
+use native.Mathlib.Omega.{arith}
 use Rattle.quadtree.proofs.TreeEnds.{refusal-keeps, refusal-above, refusal-clears}
 use Rattle.quadtree.proofs.tree.refuse.Statement.{statement}
 use Rattle.quadtree.proofs.tree.refuse.Tie as tie
@@ -8,8 +9,8 @@ pub refuse-spec : {M : Type 1} → statement M
 refuse-spec =
     tie.close
     (tie.spec
-    (λ c. (refl, refusal-keeps _ _ (c .before .before .pre) (c .if1 .taken)))
-    (λ c. (refl, refusal-above _ _ (c .if2 .taken)))
+    (λ c. (refl, refusal-keeps _ _ (c .before .before .pre) (omega arith)))
+    (λ c. (refl, refusal-above _ _ (omega arith)))
     (λ c κs. search needs)
     (λ c. search needs)
-    (λ c. (refl, c .before .before .clear .ensures ∙ refusal-clears _ (c .before .before .before .before .before .before .before .args .work .now) (c .before .before .before .before .before .if1 .left) (c .before .before .before .before .if2 .left))))
+    (λ c. (refl, c .before .before .clear .ensures ∙ refusal-clears _ (c .before .before .before .before .before .before .before .args .work .now) (omega arith) (omega arith))))
