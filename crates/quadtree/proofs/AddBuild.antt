@@ -22,15 +22,15 @@ use Rattle.rules.proofs.CellInside.{Inside}
 use Rattle.rules.proofs.CellIs.{Is, grow-none}
 use Rattle.rules.proofs.CellChain.{EachLeaf, Chain}
 use Rattle.quadtree.specs.declared.Quadtree.{Quadtree}
-use Rattle.quadtree.specs.declared.cover.Covered.{Covered}
+use Rattle.cells.specs.declared.cover.Covered.{Covered}
 use Rattle.quadtree.specs.declared.add.Inserted.the-variants.{Done, Deep, Full}
 use Rattle.quadtree.specs.Slots.{inCells, Follows as Chained, Leads, Stands}
-use Rattle.quadtree.specs.Cover.{squareOf, Reachable, Near, CoveredTo}
+use Rattle.cells.specs.Cover.{squareOf, Reachable, Near, CoveredTo}
 use Rattle.quadtree.specs.Chain.{Linked}
 use Rattle.quadtree.specs.Add.{lead, Holds, Ranged, Placed, Inserts}
 use Rattle.quadtree.specs.declared.build.Built.the-variants as Built
 use Rattle.quadtree.specs.Build.{particles, Builds, Follows, Extends}
-use Rattle.quadtree.proofs.CoverLaws as Laws
+use Rattle.cells.proofs.CoverLaws as Laws
 use Rattle.quadtree.proofs.SlotsTree.{stored-leads}
 use Rattle.quadtree.proofs.AddChain.{chain-follows}
 use Rattle.quadtree.proofs.AddHold.{cells-depth, cells-nodes, holds-is, holds-chains}

@@ -22,15 +22,15 @@ use Rattle.rules.proofs.CellIs.{Is}
 use Rattle.rules.proofs.CellCount.{upTo-snoc}
 use Rattle.rules.proofs.CellRule.{insert-tree, insert-none}
 use Rattle.quadtree.specs.declared.Quadtree.{Quadtree}
-use Rattle.quadtree.specs.declared.cover.Doubled.{Doubled}
-use Rattle.quadtree.specs.declared.cover.Covered.{Covered}
+use Rattle.cells.specs.declared.cover.Doubled.{Doubled}
+use Rattle.cells.specs.declared.cover.Covered.{Covered}
 use Rattle.quadtree.specs.declared.add.Inserted.the-variants.{Done, Deep, Full}
 use Rattle.quadtree.specs.Slots.{word, putInternal, putLeaf, inCells}
-use Rattle.quadtree.specs.Cover.{squareOf, Near, DoubledTo}
+use Rattle.cells.specs.Cover.{squareOf, Near, DoubledTo}
 use Rattle.quadtree.specs.Chain.{Linked}
 use Rattle.quadtree.specs.Add.{lead, Stored, Holds, childless, Ranged, Puts, Placed, Covers, Wraps, Wrapped, Enlarges}
-use Rattle.quadtree.proofs.CoverEnds.{doubled-square}
-use Rattle.quadtree.proofs.CoverLaws.{Lies, covered-grows}
+use Rattle.cells.proofs.CoverEnds.{doubled-square}
+use Rattle.cells.proofs.CoverLaws.{Lies, covered-grows}
 use Rattle.quadtree.proofs.Slots.{internal-length, internal-tag, leaf-length, leaf-tag}
 use Rattle.quadtree.proofs.SlotsTree.{lead-le}
 use Rattle.quadtree.proofs.AddChain.{upTo-in, in-upTo}

@@ -19,7 +19,8 @@ use Rattle.quadtree.specs.Slots.{kids, first, putInternal, putLeaf, Each
 use Rattle.quadtree.specs.Add.{lead, Stored, pick, side, childless, gap, parted}
 use Rattle.quadtree.proofs.Slots.{Same, Small, same-trans, internal-length, internal-same, internal-tag, internal-kids, leaf-length, leaf-same, leaf-tag}
 use Rattle.quadtree.proofs.SlotsTree.{each-true, apart-sym, over, upd, bare, leads, upd-all, upd-below, each-over, stored-over, leads-upd, leads-small, depth-upd, nodes-upd, depth-child, once-over, pair-upd}
-use Rattle.quadtree.proofs.AddWay.{quadrant-lt, pick-ap, side-lt}
+use Rattle.quadtree.proofs.AddWay.{pick-ap, side-lt}
+use Rattle.cells.proofs.Quadrant.{quadrant-lt}
 
 module _ (at : List Float) (p : ℕ) where
   -- the leaf of the chain `is` and the new leaf of p below g + 1 internal nodes, the first in slot s, the others from slot x on

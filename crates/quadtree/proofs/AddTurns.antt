@@ -13,9 +13,9 @@ use Rattle.rules.specs.Number.{xAt, yAt}
 use Rattle.rules.specs.Cell.{quadrant, quarter}
 use Rattle.rules.specs.Tree.{Tree, none, leaf, node, inQuarter}
 use Rattle.quadtree.specs.declared.Quadtree.{Quadtree}
-use Rattle.quadtree.specs.declared.indexer.Indexer.{Indexer}
-use Rattle.quadtree.specs.declared.indexer.Descent.{Descent}
-use Rattle.quadtree.specs.Indexer.{indexer, cellOf, Descends}
+use Rattle.cells.specs.declared.indexer.Indexer.{Indexer}
+use Rattle.cells.specs.declared.indexer.Descent.{Descent}
+use Rattle.cells.specs.Indexer.{indexer, cellOf, Descends}
 use Rattle.quadtree.specs.Slots.{word, kids, putInternal}
 use Rattle.quadtree.specs.Add.{lead, Holds, childless, pick, side, Reaches, gap, forked, parted, FoundLeaf, FoundHole}
 use Rattle.quadtree.proofs.SlotsTree.{lead-each, leads}

@@ -18,16 +18,7 @@ use Rattle.quadtree.specs.Slots.{EachSlot, Apart, Once, inCells}
 use Rattle.quadtree.specs.Add.{lead, Stored, pick, side, Reaches}
 use Rattle.quadtree.proofs.Slots.{Same}
 use Rattle.quadtree.proofs.SlotsTree.{each-map, each-both, apart-sym, lead-each, over, upd, each-child, stored-child, upd-below, each-over, stored-over, leads-keep, depth-upd, nodes-upd, depth-child, once-out, once-apart, once-child, once-over, pair-upd, frame}
-
-pub quadrant-lt : (c : Extent) (x y : Float) → quadrant c x y < 4
-unfolding quadrant
-quadrant-lt c x y = go (le (ym c) y) (le (xm c) x)
-  where
-    go : (a b : Bool) → cond a 2 0 + cond b 1 0 < 4
-    go true true = omega arith
-    go true false = omega arith
-    go false true = omega arith
-    go false false = omega arith
+use Rattle.cells.proofs.Quadrant.{quadrant-lt}
 
 -- n levels more
 abbrev pub up : ℕ → ℕ → ℕ

@@ -26,12 +26,12 @@ use Rattle.rules.proofs.CellSize.{childAt, node-nodes, node-depth}
 use Rattle.rules.proofs.CellWrap.{onlyAt, wrapT}
 use Rattle.rules.proofs.CellRule.{tree-grown, tree-passes, tree-more, insert-tree, wrapped}
 use Rattle.quadtree.specs.declared.Quadtree.{Quadtree}
-use Rattle.quadtree.specs.declared.cover.Doubled.{Doubled}
+use Rattle.cells.specs.declared.cover.Doubled.{Doubled}
 use Rattle.quadtree.specs.Slots.{kids, putInternal, EachSlot, Apart, Once, inCells}
-use Rattle.quadtree.specs.Cover.{squareOf, Reachable, Near, DoubledTo}
+use Rattle.cells.specs.Cover.{squareOf, Reachable, Near, DoubledTo}
 use Rattle.quadtree.specs.Add.{lead, Stored, Holds, childless, side}
-use Rattle.quadtree.proofs.CoverEnds.{doubled-to, doubled-square}
-use Rattle.quadtree.proofs.CoverLaws.{Lies, inside-lies, doubled-lies, other-quadrant}
+use Rattle.cells.proofs.CoverEnds.{doubled-to, doubled-square}
+use Rattle.cells.proofs.CoverLaws.{Lies, inside-lies, doubled-lies, other-quadrant}
 use Rattle.quadtree.proofs.Slots.{Small, internal-length, internal-same, internal-tag, internal-kids}
 use Rattle.quadtree.proofs.SlotsTree.{each-map, each-true, lead-le, over, upd, bare, leads, upd-below, each-over, stored-over, leads-upd, leads-small, depth-upd, nodes-upd, once-over, pair-upd, frame}
 use Rattle.quadtree.proofs.AddWay.{side-lt}

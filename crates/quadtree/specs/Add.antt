@@ -14,12 +14,12 @@ use Rattle.rules.specs.Tree.{Tree, none, leaf, node, nodes, depth, inQuarter, t
 use Rattle.rules.proofs.CellInside.{Inside}
 use Rattle.rules.proofs.CoverTerms.{Grows}
 use Rattle.quadtree.specs.declared.Quadtree.{Quadtree}
-use Rattle.quadtree.specs.declared.cover.Covered.{Covered}
+use Rattle.cells.specs.declared.cover.Covered.{Covered}
 use Rattle.quadtree.specs.declared.add.Stop.{Stop}
 use Rattle.quadtree.specs.declared.add.Stop.the-variants.{Leaf, Hole}
 use Rattle.quadtree.specs.declared.add.Inserted.{Inserted}
 use Rattle.quadtree.specs.declared.add.Inserted.the-variants.{Done, Deep, Full}
-use Rattle.quadtree.specs.Cover.{squareOf, Reachable, Near, CoveredTo}
+use Rattle.cells.specs.Cover.{squareOf, Reachable, Near, CoveredTo}
 use Rattle.quadtree.specs.Chain.{Linked}
 use Rattle.quadtree.specs.Slots.{word, kids, first, putInternal, putLeaf, EachSlot, Once, inCells}
 

@@ -8,7 +8,7 @@ use Rattle.rules.specs.Cover.{coverFirst, extentOf}
 use Rattle.rules.specs.Outcome.{refused, fine}
 use Rattle.rules.specs.Tree.{treeCheck}
 use Rattle.quadtree.specs.declared.Quadtree.{Quadtree}
-use Rattle.quadtree.specs.declared.cover.Covered.{Covered}
+use Rattle.cells.specs.declared.cover.Covered.{Covered}
 use Rattle.quadtree.specs.declared.build.Built.{Built}
 use Rattle.quadtree.specs.declared.build.Built.the-variants.{Tree, Refused}
 use Rattle.quadtree.specs.Slots.{Stands}

@@ -2,15 +2,15 @@
 ghost use mathlib.Core.Path.{_≡_};
 ghost use Prim.Native.Nat.{_+_, _-_, _*_, _/_, _^_, _≤_, _<_, max};
 ghost use lib.ListN.{length, set};
-ghost use Rattle.quadtree.specs.Indexer.{indexer, cellOf};
+ghost use Rattle.cells.specs.Indexer.{indexer, cellOf};
 ghost use Rattle.quadtree.specs.Add.{childless, hung, gap, forked, parted, Forks, Splits, Finds, Found, Puts, FoundLeaf, Placed, Wraps, Wrapped, Enlarges, Inserts};
 use crate::Quadtree;
 use crate::chain;
-use crate::cover;
-use crate::cover::Covered;
-use crate::indexer::Indexer;
 use crate::point;
 use crate::store;
+use cells::cover;
+use cells::cover::Covered;
+use cells::indexer::Indexer;
 use rules::Extent;
 
 // Where a point's way down the tree ends.

@@ -6,9 +6,9 @@ ghost use Rattle.quadtree.specs.Build.{Lent, Builds, Follows, Extends};
 use crate::Quadtree;
 use crate::add;
 use crate::add::Inserted;
-use crate::cover;
-use crate::cover::Covered;
 use crate::point;
+use cells::cover;
+use cells::cover::Covered;
 use rules::Extent;
 use rules::Refusal;
 

@@ -1,17 +1,9 @@
-// The quadtree in lent slots, after fjadra's src/quadtree and src/extent.rs.
+// The quadtree in lent slots: laying it out, inserting and building, after src/quadtree/{store,add,mod}.rs of fjadra.
 pub mod add;
 pub mod build;
 pub mod chain;
-pub mod cover;
-pub mod extent;
-pub mod indexer;
-pub mod list;
 pub mod point;
 pub mod store;
-pub mod trial;
-pub mod visit;
-pub mod visit_after;
-pub mod tree;
 
 use rules::Extent;
 

@@ -6,7 +6,7 @@ use lib.ListN.{length, getD}
 use borrow.Author.Needs.{needs}
 use Rattle.rules.specs.declared.Extent.{Extent}
 use Rattle.rules.specs.Tree.{Tree}
-use Rattle.quadtree.specs.Indexer.{indexer, cellOf}
+use Rattle.cells.specs.Indexer.{indexer, cellOf}
 use Rattle.quadtree.specs.Slots.{word, kids}
 use Rattle.quadtree.specs.Add.{lead, side, Reaches, FoundLeaf}
 use Rattle.quadtree.proofs.AddTurns.{indexed, step-side, step-less, step-own, step-cell, Way, Inner, way-start, way-slot, way-leaf, way-inner, way-hole, way-down}

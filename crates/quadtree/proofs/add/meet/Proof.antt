@@ -4,7 +4,7 @@ use native.Mathlib.Omega.{arith}
 use borrow.Author.Needs.{needs}
 use Rattle.rules.specs.declared.Extent.{Extent}
 use Rattle.rules.specs.Cell.{quadrant}
-use Rattle.quadtree.specs.Indexer.{indexer, cellOf}
+use Rattle.cells.specs.Indexer.{indexer, cellOf}
 use Rattle.quadtree.specs.Add.{gap}
 use Rattle.quadtree.proofs.AddTurns.{indexed, step-side, step-own, step-cell, meet-more, meet-stop, meet-end}
 use Rattle.quadtree.proofs.add.meet.Statement.{statement}

@@ -6,10 +6,10 @@ use borrow.Author.Needs.{needs}
 use Rattle.rules.specs.declared.Extent.{Extent}
 use Rattle.rules.specs.Number.{xAt, yAt}
 use Rattle.rules.specs.Cell.{quadrant}
-use Rattle.quadtree.specs.Indexer.{indexer, cellOf}
+use Rattle.cells.specs.Indexer.{indexer, cellOf}
 use Rattle.quadtree.specs.Slots.{putInternal}
 use Rattle.quadtree.specs.Add.{Splits, side, parted}
-use Rattle.quadtree.proofs.AddWay.{quadrant-lt}
+use Rattle.cells.proofs.Quadrant.{quadrant-lt}
 use Rattle.quadtree.proofs.AddTurns.{indexed, step-side, step-less, step-own, step-cell, split-turn, split-end}
 use Rattle.quadtree.proofs.add.split.Statement.{statement}
 use Rattle.quadtree.proofs.add.split.Tie as tie

@@ -6,7 +6,7 @@ use borrow.Author.Needs.{needs}
 use Rattle.rules.specs.Number.{within}
 use Rattle.rules.specs.Floor.{floor}
 use Rattle.rules.specs.Cover.{coverPoint, nothing, extentOf}
-use Rattle.quadtree.specs.Cover.{Near, CoveredTo}
+use Rattle.cells.specs.Cover.{Near, CoveredTo}
 use Rattle.quadtree.proofs.AddInsert.{is-T}
 use Rattle.quadtree.proofs.AddBuild.{first-extends, extend-near, next-extends}
 use Rattle.quadtree.proofs.build.extend.Statement.{statement}

@@ -1,0 +1,7 @@
+pub mod Quadrant
+pub mod CoverEnds
+pub mod CoverDoublings
+mod CoverRounding
+pub mod CoverMiddles
+pub mod CoverCells
+pub mod CoverLaws

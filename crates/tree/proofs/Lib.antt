@@ -1,0 +1,6 @@
+mod ListChain
+mod ListRows
+mod ListTree
+mod ListWhole
+pub mod TreeChecks
+mod TreeEnds

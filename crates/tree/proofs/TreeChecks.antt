@@ -1,0 +1,178 @@
+-- The checks of the tree call: what comes of each, in their order.
+use mathlib.Core.Path.{_≡_, refl, sym, ap, subst, _∙_}
+use mathlib.Core.Bool.{Bool, true, false, _&&_}
+use mathlib.Core.List.{List, [], _∷_}
+use Prim.Native.Nat.{ℕ, _+_, _*_, _%_, _≤_, _<_}
+use native.Mathlib.Omega.{arith}
+use borrow.Author.Tests.{leb-true, eqb-true, eq-eqb, lt-leb}
+use lib.Dec.{leb, eqb}
+use lib.ListN.{length}
+use lib.Ieee.{Float}
+use Rattle.rules.specs.declared.Extent.{Extent}
+use Rattle.rules.specs.declared.Particle.{Particle}
+use Rattle.rules.specs.declared.Refusal.{Refusal}
+use Rattle.rules.specs.Plain.{upTo}
+use Rattle.rules.specs.Outcome.{Outcome, done, refused, refusal, Check, fine, require, _then_, _>>=_, checkFrom, refusalOf, zeroesWork}
+use Rattle.rules.specs.Number.{placeRange, speedRange}
+use Rattle.rules.specs.Refusal.{countCheck, lengthsCheck, mostParticles}
+use Rattle.rules.specs.Sheet.{recordSize, lengthCheck, recordCheck, recordsCheck, countOf, particlesOf}
+use Rattle.rules.specs.Tree.{Tree, depth, nodes, treeOf, fitsCheck, treeCheck, greatestLevel}
+use Rattle.rules.specs.Calls.{slotsOf, TreeInput, treeLengths, treeOfSheet, treeResult}
+use Rattle.tree.specs.Tree.{built, Passed}
+
+-- ---- one check after the other
+
+-- the same stages, 1 and 2 taken as one
+in-order : {A : Type 0} (a b c d : Check) (f : Unit {0} → Outcome A) → (a then b then c then d >>= f) ≡ (a >>= λ _. b then c >>= λ _. d >>= f)
+in-order (refused r) b c d f = refl
+in-order (done t) (refused r) c d f = refl
+in-order (done t) (done u) (refused r) d f = refl
+in-order (done t) (done u) (done v) d f = refl
+
+-- a refusal with a number is what the check came to
+pub is-refused : (c : Check) (r : Refusal) → r ≡ refusalOf c → (r .number ≡ 0 → ⊥) → c ≡ refused r
+is-refused (done t) r e h = absurd (h (ap (λ (r : Refusal). r .number) e))
+is-refused (refused q) r e h = ap refused (sym e)
+
+-- ---- what all refusals of a check have in common
+
+abbrev Refuses : (Refusal → Type 0) → Check → Type 0
+Refuses P c = (r : Refusal) → c ≡ refused r → P r
+
+module _ (P : Refusal → Type 0) where
+  of-require : (ok : Bool) (n i : ℕ) → P (refusal n i) → Refuses P (require ok n i)
+  of-require true n i h r e = absurd (let z : _≡_ {A = ℕ} 0 1 = cc in omega arith)
+  of-require false n i h r e = let q : refusal n i ≡ r = cc in subst P q h
+
+  of-then : (a b : Check) → Refuses P a → Refuses P b → Refuses P (a then b)
+  of-then (done t) b f g r e = g r e
+  of-then (refused q) b f g r e = f r e
+
+  of-from : {A : Type 0} (c : ℕ → A → Check) → ((i : ℕ) (a : A) → Refuses P (c i a)) → (i : ℕ) (l : List A) → Refuses P (checkFrom c i l)
+  of-from c f i [] r e = absurd (let z : _≡_ {A = ℕ} 0 1 = cc in omega arith)
+  of-from c f i (a ∷ l) r e = go (c i a) refl (of-from c f (i + 1) l r) e
+    where
+      go : (k : Check) → c i a ≡ k → (checkFrom c (i + 1) l ≡ refused r → P r) → (k >>= λ _. checkFrom c (i + 1) l) ≡ refused r → P r
+      go (done t) h g e = g e
+      go (refused q) h g e = f i a r (h ∙ e)
+
+-- a number
+abbrev Numbered : Refusal → Type 0
+Numbered r = r .number ≡ 0 → ⊥
+
+-- a check whose refusals have numbers is fine where it answers none
+no-number : (c : Check) (r : Refusal) → Refuses Numbered c → r ≡ refusalOf c → r .number ≡ 0 → c ≡ fine
+no-number (done t) r h e z = refl
+no-number (refused q) r h e z = absurd (h q refl (sym (ap (λ (r : Refusal). r .number) e) ∙ z))
+
+record-numbered : (i : ℕ) (p : Particle) → Refuses Numbered (recordCheck i p)
+unfolding recordCheck
+record-numbered i p =
+    of-then Numbered (require (leb (p .flags) 3) 10 i then require (placeRange (p .x) (p .y)) 4 i) (require (speedRange (p .vx) (p .vy)) 5 i)
+    (of-then Numbered (require (leb (p .flags) 3) 10 i) (require (placeRange (p .x) (p .y)) 4 i)
+    (of-require Numbered (leb (p .flags) 3) 10 i (λ z. omega arith)) (of-require Numbered (placeRange (p .x) (p .y)) 4 i (λ z. omega arith)))
+    (of-require Numbered (speedRange (p .vx) (p .vy)) 5 i (λ z. omega arith))
+
+records-numbered : (ps : List Particle) → Refuses Numbered (recordsCheck ps)
+unfolding recordsCheck
+records-numbered ps = of-from Numbered recordCheck record-numbered 0 ps
+
+-- 6 and 7 clear the work slots
+abbrev Clears : Refusal → Type 0
+Clears r = Numbered r × (zeroesWork r ≡ true)
+
+fits-clears : (slots i : ℕ) (t : Tree Extent) → Refuses Clears (fitsCheck slots i t)
+unfolding fitsCheck zeroesWork
+fits-clears slots i t =
+    of-then Clears (require (leb (depth t) (greatestLevel + 1)) 6 i) (require (leb (nodes t) slots) 7 i)
+    (of-require Clears (leb (depth t) (greatestLevel + 1)) 6 i (λ z. omega arith, refl)) (of-require Clears (leb (nodes t) slots) 7 i (λ z. omega arith, refl))
+
+pub tree-clears : (at : List Float) (n slots : ℕ) → Refuses Clears (treeCheck at n slots)
+unfolding treeCheck
+tree-clears at n slots = of-from Clears (λ i _. fitsCheck slots i (treeOf at (i + 1))) (λ i _. fits-clears slots i (treeOf at (i + 1))) 0 (upTo n)
+
+-- ---- the order of the call
+
+-- 1 and 2 are fine: each of their tests holds
+tests : (a b c : Bool) → require a 1 0 then require (b && c) 2 0 ≡ fine → (a ≡ true) × (b ≡ true) × (c ≡ true)
+tests true true true e = (refl, refl, refl)
+tests true true false e = absurd (let z : _≡_ {A = ℕ} 0 1 = cc in omega arith)
+tests true false c e = absurd (let z : _≡_ {A = ℕ} 0 1 = cc in omega arith)
+tests false b c e = absurd (let z : _≡_ {A = ℕ} 0 1 = cc in omega arith)
+
+module _ (most : ℕ) (l : TreeInput) where
+  abbrev n : ℕ
+  n = countOf (l .sheet)
+
+  abbrev lengths : Check
+  lengths = countCheck most n then treeLengths l
+
+  abbrev records : Check
+  records = recordsCheck (particlesOf (l .sheet))
+
+  stages : treeResult most l ≡ (lengthCheck (l .sheet) >>= λ _. lengths >>= λ _. records >>= λ _. built l)
+  unfolding treeResult treeOfSheet
+  stages = in-order (lengthCheck (l .sheet)) (countCheck most n) (treeLengths l) records (λ _. built l)
+
+  length-numbered : Refuses Numbered (lengthCheck (l .sheet))
+  unfolding lengthCheck
+  length-numbered = of-require Numbered (eqb (length (l .sheet) % recordSize) 0) 10 0 (λ z. omega arith)
+
+  lengths-numbered : Refuses Numbered lengths
+  lengths-numbered =
+      of-then Numbered (countCheck most n) (treeLengths l) (of-require Numbered (leb n most) 1 0 (λ z. omega arith))
+      (of-require Numbered (eqb (length (l .rows)) (slotsOf (l .work) * 4) && eqb (length (l .chains)) n) 2 0 (λ z. omega arith))
+
+  -- r, s and t are what the three checks answered; the first with a number decides
+  pub stop-1 : (r : Refusal) → r ≡ refusalOf (lengthCheck (l .sheet)) → Numbered r → treeResult most l ≡ refused r
+  stop-1 r e h = stages ∙ rw (is-refused (lengthCheck (l .sheet)) r e h)
+
+  module _ (r : Refusal) (e : r ≡ refusalOf (lengthCheck (l .sheet))) (z : r .number ≡ 0) where
+    a : lengthCheck (l .sheet) ≡ fine
+    a = no-number (lengthCheck (l .sheet)) r length-numbered e z
+
+    -- the lengths agree or not
+    module _ (agreed : Bool) (o : agreed ≡ (eqb (length (l .rows)) (slotsOf (l .work) * 4) && eqb (length (l .chains)) n)) (s : Refusal)
+        (k : s ≡ refusalOf (countCheck most n then lengthsCheck agreed)) where
+      f : s ≡ refusalOf lengths
+      f = k ∙ ap (λ (b : Bool). refusalOf (countCheck most n then lengthsCheck b)) o
+
+      pub stop-2 : Numbered s → treeResult most l ≡ refused s
+      stop-2 h = stages ∙ rw (a, is-refused lengths s f h)
+
+      module _ (y : s .number ≡ 0) where
+        b : lengths ≡ fine
+        b = no-number lengths s lengths-numbered f y
+
+        pub stop-3 : (t : Refusal) → t ≡ refusalOf records → Numbered t → treeResult most l ≡ refused t
+        stop-3 t g h = stages ∙ rw (a, b, is-refused records t g h)
+
+        module _ (t : Refusal) (g : t ≡ refusalOf records) (x : t .number ≡ 0) where
+          c : records ≡ fine
+          c = no-number records t (records-numbered (particlesOf (l .sheet))) g x
+
+          -- with none of them the tree is built
+          pub goes-on : treeResult most l ≡ built l
+          goes-on = stages ∙ rw (a, b, c)
+
+          pub passed : most ≤ mostParticles → Passed l
+          passed m =
+              let h = tests (leb n most) (eqb (length (l .rows)) (slotsOf (l .work) * 4)) (eqb (length (l .chains)) n) b in
+              record { few = omega (arith, leb-true n most (h .0)); rows = eqb-true _ _ (h .1); chains = eqb-true _ _ (h .2); sound = c }
+
+-- ---- for callers that lend the right lengths
+
+-- where the lists have their lengths, only the sheet decides
+pub lengths-right : (most : ℕ) (l : TreeInput) → length (l .rows) ≡ slotsOf (l .work) * 4 → length (l .chains) ≡ countOf (l .sheet)
+    → treeResult most l ≡ treeOfSheet most (slotsOf (l .work)) fine (l .sheet)
+unfolding treeResult
+lengths-right most l r c = rw (eq-eqb _ _ r, eq-eqb _ _ c)
+
+-- a sheet of too many particles is refused before the lengths are looked at
+pub too-many : (most : ℕ) (l : TreeInput) → most < countOf (l .sheet) → treeResult most l ≡ treeOfSheet most (slotsOf (l .work)) fine (l .sheet)
+unfolding treeResult treeOfSheet
+too-many most l h = go (lengthCheck (l .sheet)) (treeLengths l) (recordsCheck (particlesOf (l .sheet))) (leb (countOf (l .sheet)) most) (lt-leb _ _ h)
+  where
+    go : (a c d : Check) (b : Bool) → b ≡ false → (a then require b 1 0 then c then d >>= λ _. built l) ≡ (a then require b 1 0 then fine then d >>= λ _. built l)
+    go (refused r) c d b e = refl
+    go (done t) c d b e = rw e

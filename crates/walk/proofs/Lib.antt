@@ -1,0 +1,11 @@
+pub mod WalkStack
+pub mod WalkTurns
+pub mod Walking
+pub mod WalkStands
+pub mod Trials
+pub mod WalkClimb
+pub mod WalkSteps
+pub mod WalkValues
+pub mod WalkFill
+pub mod WalkAfter
+pub mod WalkTheorems
