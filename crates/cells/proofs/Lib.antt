@@ -5,3 +5,4 @@ mod CoverRounding
 pub mod CoverMiddles
 pub mod CoverCells
 pub mod CoverLaws
+pub mod Prefix
