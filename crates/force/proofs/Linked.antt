@@ -20,7 +20,7 @@ use Rattle.force.specs.declared.draws.Jiggled.{Jiggled}
 use Rattle.force.specs.declared.draws.Spent.{Spent}
 use Rattle.force.specs.Draws.{shakenOf, spentOf}
 use Rattle.force.specs.Links.{strengthOr, endsAt}
-use Rattle.force.proofs.Pairs.{two-off}
+use Rattle.force.proofs.Pairs.{pair-off}
 
 -- ---- strengths
 
@@ -98,11 +98,8 @@ module _ (vs draws : List Float) (r : Spent) where
   unfolding spentOf
   spent-on h = rw h
 
-ends-drop : (links : List ℕ) (k m : ℕ) → k * 2 + 1 < length links → endsFrom (drop (k * 2) links) (suc m) ≡ endsAt links k ∷ endsFrom (drop ((k + 1) * 2) links) m
-ends-drop links k m h = rw (two-off links (k * 2) 0 h, e)
-  where
-    e : (k + 1) * 2 ≡ k * 2 + 2
-    e = omega arith
+ends-drop : (links : List ℕ) (k m : ℕ) → k < length links / 2 → endsFrom (drop (k * 2) links) (suc m) ≡ endsAt links k ∷ endsFrom (drop ((k + 1) * 2) links) m
+ends-drop links k m h = rw (pair-off links k 0 h)
 
 -- the links from number k on, n being how many there are
 abbrev pub endsLeft : List ℕ → ℕ → ℕ → List Ends
@@ -119,7 +116,7 @@ module _ (at : List Float) (links : List ℕ) (ss ds : List Float) (alpha : Floa
   pull-next : (k : ℕ) (σ : Flow) → k < length links / 2
       → pullLeft k σ ≡ pull at (endsOf links) ss ds alpha k (endsAt links k) σ >>= λ σ. pullLeft (k + 1) σ
   unfolding pullFrom
-  pull-next k σ h = rw (e, ends-drop links k (length links / 2 - (k + 1)) (omega arith))
+  pull-next k σ h = rw (e, ends-drop links k (length links / 2 - (k + 1)) h)
     where
       e : length links / 2 - k ≡ suc (length links / 2 - (k + 1))
       e = omega arith

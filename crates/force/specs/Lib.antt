@@ -1,3 +1,4 @@
 pub mod Draws
 pub mod Ran
 pub mod Links
+pub mod Columns

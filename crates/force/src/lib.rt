@@ -1,6 +1,8 @@
 // The forces on velocities, Center and the closing move, after fjadra's src/force.
+pub mod center;
 mod draws;
 pub mod link;
+pub mod particle;
 mod push;
 
 pub use draws::Drawn;
