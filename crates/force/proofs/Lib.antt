@@ -1,5 +1,6 @@
 pub mod Drawing
 pub mod Pairs
+pub mod Scans
 pub mod Tallies
 pub mod Linked
 pub mod Centring

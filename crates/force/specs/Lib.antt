@@ -2,3 +2,4 @@ pub mod Draws
 pub mod Ran
 pub mod Links
 pub mod Columns
+pub mod Checks

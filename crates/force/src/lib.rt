@@ -1,5 +1,6 @@
 // The forces on velocities, Center and the closing move, after fjadra's src/force.
 pub mod center;
+pub mod check;
 mod draws;
 pub mod link;
 pub mod particle;
