@@ -5,3 +5,4 @@ pub mod Tallies
 pub mod Linked
 pub mod Centring
 pub mod Closing
+pub mod Called

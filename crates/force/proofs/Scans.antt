@@ -23,12 +23,15 @@ use Rattle.force.proofs.Pairs.{pair-off}
 
 -- ---- one check and the refusal that was answered for it
 
--- a refusal has a number
+-- a check that refuses by 1 to 5
+abbrev pub Early : ℕ → Type 0
+Early n = (1 ≤ n) × (n ≤ 5)
+
 abbrev pub Real : Check → Type 0
 Real (done t) = Unit {0}
-Real (refused r) = r .number ≡ 0 → ⊥
+Real (refused r) = Early (r .number)
 
-pub real-require : (ok : Bool) (n i : ℕ) → (n ≡ 0 → ⊥) → Real (require ok n i)
+pub real-require : (ok : Bool) (n i : ℕ) → Early n → Real (require ok n i)
 real-require true n i h = tt
 real-require false n i h = h
 
@@ -47,7 +50,7 @@ real-from f h i (a ∷ l) = real-bind (f i a) (λ _. checkFrom f (i + 1) l) (h i
 -- number 0 is a check that is fine
 pub passes : (c : Check) → Real c → refusalOf c .number ≡ 0 → c ≡ fine
 passes (done t) h e = refl
-passes (refused r) h e = absurd (h e)
+passes (refused r) h e = absurd (omega arith)
 
 -- any other is a check that refuses
 pub stops : (c : Check) → (refusalOf c .number ≡ 0 → ⊥) → c ≡ refused (refusalOf c)
@@ -135,11 +138,11 @@ module _ {A : Type 0} (ok : A → Bool) (l : List A) (i : ℕ) (d : A) (b : Bool
 
 pub real-coordinates : (n : ℕ) (places : List Float) → Real (coordinatesCheck n places)
 real-coordinates n places =
-    real-from (λ i _. coordinateCheck i (xAt places i) (yAt places i)) (λ i a. real-require (placeRange (xAt places i) (yAt places i)) 4 i (λ z. omega arith)) 0 (upTo n)
+    real-from (λ i _. coordinateCheck i (xAt places i) (yAt places i)) (λ i a. real-require (placeRange (xAt places i) (yAt places i)) 4 i (omega arith)) 0 (upTo n)
 
 pub real-velocities : (n : ℕ) (speeds : List Float) → Real (velocitiesCheck n speeds)
 real-velocities n speeds =
-    real-from (λ i _. velocityCheck i (xAt speeds i) (yAt speeds i)) (λ i a. real-require (speedRange (xAt speeds i) (yAt speeds i)) 5 i (λ z. omega arith)) 0 (upTo n)
+    real-from (λ i _. velocityCheck i (xAt speeds i) (yAt speeds i)) (λ i a. real-require (speedRange (xAt speeds i) (yAt speeds i)) 5 i (omega arith)) 0 (upTo n)
 
-pub real-all : {A : Type 0} (ok : A → Bool) (number : ℕ) → (number ≡ 0 → ⊥) → (l : List A) → Real (requireAll ok number l)
+pub real-all : {A : Type 0} (ok : A → Bool) (number : ℕ) → Early number → (l : List A) → Real (requireAll ok number l)
 real-all ok number h l = real-from (λ i a. require (ok a) number i) (λ i a. real-require (ok a) number i h) 0 l

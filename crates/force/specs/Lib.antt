@@ -3,3 +3,4 @@ pub mod Ran
 pub mod Links
 pub mod Columns
 pub mod Checks
+pub mod Calls

@@ -14,9 +14,10 @@ ghost use lib.ListN.{length};
 ghost use Rattle.rules.specs.Plain.{all};
 ghost use Rattle.rules.specs.Outcome.{refusalOf, requireAll, _then_};
 ghost use Rattle.rules.specs.Number as Number;
-ghost use Rattle.rules.specs.Refusal.{strengthsCheck, distancesCheck, drawsCheck, settingsCheck, resultCheck};
+ghost use Rattle.rules.specs.Refusal.{strengthsCheck, distancesCheck, drawsCheck, settingsCheck, resultCheck, countCheck, lengthsCheck};
 ghost use Rattle.rules.specs.Link.{ends};
 ghost use Rattle.rules.specs.Force.{endsOf, endsRange};
+ghost use Rattle.force.specs.Calls.{firstOf};
 ghost use Rattle.force.specs.Checks.{coordinatesCheck, velocitiesCheck};
 
 // The place is the index of the first strength out of range.
@@ -215,6 +216,49 @@ pub fn result_check(places: &[f64], speeds: &[f64]) -> Refusal
     }
     Refusal {
         number: 9,
+        place: 0,
+    }
+}
+
+// What two checks answer, one after the other.
+pub fn first(a: Refusal, b: Refusal) -> Refusal
+    ensures { λ r. ⌜ r ≡ firstOf a b ⌝ }
+{
+    let number = a.number;
+    if number == 0 {
+        return b;
+    }
+    a
+}
+
+// 1: more than `most`.
+pub fn count_check(most: usize, n: usize) -> Refusal
+    ensures { λ r. ⌜ r ≡ refusalOf (countCheck most n) ⌝ }
+{
+    if n <= most {
+        return Refusal {
+            number: 0,
+            place: 0,
+        };
+    }
+    Refusal {
+        number: 1,
+        place: 0,
+    }
+}
+
+// 2: lengths that disagree.
+pub fn lengths_check(agree: bool) -> Refusal
+    ensures { λ r. ⌜ r ≡ refusalOf (lengthsCheck agree) ⌝ }
+{
+    if agree {
+        return Refusal {
+            number: 0,
+            place: 0,
+        };
+    }
+    Refusal {
+        number: 2,
         place: 0,
     }
 }

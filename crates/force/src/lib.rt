@@ -1,4 +1,5 @@
 // The forces on velocities, Center and the closing move, after fjadra's src/force.
+pub mod call;
 pub mod center;
 pub mod check;
 mod draws;

@@ -39,7 +39,7 @@ loop-again c =
       omega arith,
       o .inv .1
           ∙ answer-on (λ i _. coordinateCheck i (xAt l i) (yAt l i)) (λ i. countFrom i (n - i)) (o .i) (o .i) (count-left n (o .i) (omega arith))
-          (w .coordinate-check .result) (w .coordinate-check .ensures) (real-require (placeRange (xAt l (o .i)) (yAt l (o .i))) 4 (o .i) (λ z. omega arith)) (c .if1 .left),
+          (w .coordinate-check .result) (w .coordinate-check .ensures) (real-require (placeRange (xAt l (o .i)) (yAt l (o .i))) 4 (o .i) (omega arith)) (c .if1 .left),
     )
 
 returns-2 : tie.Need-returns-2 Inv-loop μ-loop

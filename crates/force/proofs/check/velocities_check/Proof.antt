@@ -39,7 +39,7 @@ loop-again c =
       omega arith,
       o .inv .1
           ∙ answer-on (λ i _. velocityCheck i (xAt l i) (yAt l i)) (λ i. countFrom i (n - i)) (o .i) (o .i) (count-left n (o .i) (omega arith))
-          (w .velocity-check .result) (w .velocity-check .ensures) (real-require (speedRange (xAt l (o .i)) (yAt l (o .i))) 5 (o .i) (λ z. omega arith)) (c .if1 .left),
+          (w .velocity-check .result) (w .velocity-check .ensures) (real-require (speedRange (xAt l (o .i)) (yAt l (o .i))) 5 (o .i) (omega arith)) (c .if1 .left),
     )
 
 returns-2 : tie.Need-returns-2 Inv-loop μ-loop
