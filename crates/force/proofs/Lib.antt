@@ -6,3 +6,4 @@ pub mod Linked
 pub mod Centring
 pub mod Closing
 pub mod Called
+pub mod LinkCalled

@@ -4,6 +4,7 @@ pub mod center;
 pub mod check;
 mod draws;
 pub mod link;
+pub mod link_call;
 pub mod particle;
 mod push;
 
