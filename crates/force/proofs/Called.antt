@@ -27,7 +27,7 @@ use Rattle.force.specs.declared.Ran.{Ran}
 use Rattle.force.specs.Ran.{standing, ranOf, Runs}
 use Rattle.force.specs.Checks.{coordinatesCheck, velocitiesCheck}
 use Rattle.force.specs.Calls.{lent, firstOf, noCounts, countsAfter, Settled, Answered, lentCheck, numbersCheck}
-use Rattle.force.proofs.Scans.{Early, Real, real-require, real-then, real-from, real-all, real-coordinates, real-velocities, passes}
+use Rattle.force.proofs.Scans.{Early, Real, real-require, real-then, real-from, real-all, real-coordinates, real-velocities, passes, first-then}
 
 -- ---- lengths
 
@@ -40,13 +40,6 @@ module _ (n m k start : ℕ) where
 
   pub agrees : n ≡ k * 2 → start + k * 16 ≤ m → true ≡ eqb n (k * 2) && leb (start + k * 16) m
   agrees e h = rw (eq-eqb n (k * 2) e, le-leb (start + k * 16) m h)
-
--- ---- checks one after the other
-
-pub first-then : (c d : Check) → Real c → firstOf (refusalOf c) (refusalOf d) ≡ refusalOf (c then d)
-unfolding firstOf
-first-then (done t) d h = refl
-first-then (refused r) d h = rw (ne-eqb (r .number) 0 (λ z. omega arith))
 
 -- ---- a force that has run
 

@@ -23,8 +23,8 @@ use Rattle.force.specs.Checks.{coordinatesCheck, velocitiesCheck}
 use Rattle.force.specs.Calls.{firstOf, lentCheck, numbersCheck}
 use Rattle.force.specs.Links.{EndsLent, ListsLent, endsAt}
 use Rattle.force.proofs.Tallies.{ends-length}
-use Rattle.force.proofs.Scans.{real-require, real-then, real-all, real-coordinates, real-velocities, endsLeft, ends-first, ends-left}
-use Rattle.force.proofs.Called.{Lent, and-both, then-both, require-true, first-then, first-four}
+use Rattle.force.proofs.Scans.{real-require, real-then, real-all, real-coordinates, real-velocities, endsLeft, ends-first, ends-left, first-then}
+use Rattle.force.proofs.Called.{Lent, and-both, then-both, require-true, first-four}
 
 pub ends-count : (links : List ℕ) → length (endsOf links) ≡ length links / 2
 ends-count links = ends-length links (length links / 2) (omega arith)

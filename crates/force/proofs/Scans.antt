@@ -6,7 +6,7 @@ use Prim.Native.Nat.{ℕ, zero, suc, _+_, _-_, _*_, _/_, _≤_, _<_}
 use native.Mathlib.Nat.{sub-zero}
 use native.Mathlib.Numerals.{add-one}
 use native.Mathlib.Omega.{arith}
-use borrow.Author.Tests.{not-true, not-false}
+use borrow.Author.Tests.{not-true, not-false, ne-eqb}
 use lib.ListN.{length, getD, drop}
 use lib.Seq.{drop-cons}
 use lib.Ieee.{Float}
@@ -18,6 +18,7 @@ use Rattle.rules.specs.Force.{endsFrom, endsOf}
 use Rattle.rules.specs.Number.{xAt, yAt, placeRange, speedRange}
 use Rattle.rules.specs.Refusal.{coordinateCheck, velocityCheck}
 use Rattle.force.specs.Links.{endsAt}
+use Rattle.force.specs.Calls.{firstOf}
 use Rattle.force.specs.Checks.{coordinatesCheck, velocitiesCheck}
 use Rattle.force.proofs.Pairs.{pair-off}
 
@@ -57,12 +58,11 @@ pub stops : (c : Check) → (refusalOf c .number ≡ 0 → ⊥) → c ≡ refuse
 stops (done t) h = absurd (h refl)
 stops (refused r) h = refl
 
--- the first of two checks decides, or the second
-pub then-first : (c d : Check) (r : Refusal) → r ≡ refusalOf c → (r .number ≡ 0 → ⊥) → r ≡ refusalOf (c then d)
-then-first c d r is h = is ∙ ap (λ (c : Check). refusalOf (c then d)) (sym (stops c (λ z. h (ap (λ (r : Refusal). r .number) is ∙ z))))
-
-pub then-second : (c d : Check) (r : Refusal) → r ≡ refusalOf c → Real c → r .number ≡ 0 → refusalOf d ≡ refusalOf (c then d)
-then-second c d r is real z = ap (λ (c : Check). refusalOf (c then d)) (sym (passes c real (sym (ap (λ (r : Refusal). r .number) is) ∙ z)))
+-- two checks one after the other
+pub first-then : (c d : Check) → Real c → firstOf (refusalOf c) (refusalOf d) ≡ refusalOf (c then d)
+unfolding firstOf
+first-then (done t) d h = refl
+first-then (refused r) d h = rw (ne-eqb (r .number) 0 (λ z. omega arith))
 
 -- ---- a scan, `left i` being what is left from number i on
 

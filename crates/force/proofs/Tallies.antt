@@ -112,34 +112,31 @@ module _ {n : ℕ} {links : List ℕ} (lent : EndsLent n links) (k : ℕ) (h : k
         lent .few,
       )
 
-  -- the first end has a count, and one more fits
-  pub first-room : (s : ℕ) → s ≡ getD links (k * 2) 0 → (s < length cs) × (getD cs s 0 < 2 ^ 31)
-  first-room s e = (omega (arith, long, hs), omega (arith, small s hs))
-    where
-      hs : s < n
-      hs = rw e (lent .range (k * 2) (omega arith))
+  module _ (s t : ℕ) (es' : s ≡ getD links (k * 2) 0) (et : t ≡ getD links (k * 2 + 1) 0) where
+    hs : s < n
+    hs = rw es' (lent .range (k * 2) (omega arith))
 
-  -- so has the second, after it
-  pub second-room : (s t : ℕ) (cs' : List ℕ) → s ≡ getD links (k * 2) 0 → t ≡ getD links (k * 2 + 1) 0 → cs' ≡ counted cs s
-      → (t < length cs') × (getD cs' t 0 < 2 ^ 31)
-  second-room s t cs' e f g =
-      (omega (arith, long, kept, ht), omega (arith, small t ht, ap (λ (l : List ℕ). getD l t 0) g ∙ counted-at cs s t (first-room s e .0), one-most (eqb s t)))
-    where
-      ht : t < n
-      ht = rw f (lent .range (k * 2 + 1) (omega arith))
+    ht : t < n
+    ht = rw et (lent .range (k * 2 + 1) (omega arith))
 
-      kept : length cs' ≡ length cs
-      kept = ap length g ∙ length-set cs s (getD cs s 0 + 1)
+    -- both ends have counts, and one more fits each
+    pub count-room : (s < length cs) × (t < length cs) × (getD cs s 0 < 2 ^ 31) × (getD (counted cs s) t 0 < 2 ^ 31)
+    count-room =
+        let hl : s < length cs = omega (arith, long, hs) in (
+          hl,
+          omega (arith, long, ht),
+          omega (arith, small s hs),
+          omega (arith, small t ht, counted-at cs s t hl, one-most (eqb s t)),
+        )
 
-  -- both are counted
-  pub count-turn : (s t : ℕ) (cs' cs'' : List ℕ) → s ≡ getD links (k * 2) 0 → t ≡ getD links (k * 2 + 1) 0 → cs' ≡ counted cs s → cs'' ≡ counted cs' t
-      → cs'' ≡ tallies n (endsFrom links (k + 1))
-  count-turn s t cs' cs'' e f g g' =
-      g'
-      ∙ ap (λ (l : List ℕ). counted l t) (g ∙ ap (λ (l : List ℕ). counted l s) is)
-      ∙ tally-turn n (endsFrom links k) s t (rw e (lent .range (k * 2) (omega arith))) (rw f (lent .range (k * 2 + 1) (omega arith)))
-      ∙ ap₂ (λ (a b : ℕ). tallies n (endsFrom links k ++ (ends a b ∷ []))) e f
-      ∙ ap (tallies n) (sym (ends-more links k (omega arith)))
+    -- both are counted
+    pub count-turn : (cs' : List ℕ) → cs' ≡ counted (counted cs s) t → cs' ≡ tallies n (endsFrom links (k + 1))
+    count-turn cs' g =
+        g
+        ∙ ap (λ (l : List ℕ). counted (counted l s) t) is
+        ∙ tally-turn n (endsFrom links k) s t hs ht
+        ∙ ap₂ (λ (a b : ℕ). tallies n (endsFrom links k ++ (ends a b ∷ []))) es' et
+        ∙ ap (tallies n) (sym (ends-more links k (omega arith)))
 
 -- ---- the counts once they are all made
 

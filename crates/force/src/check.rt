@@ -170,12 +170,9 @@ fn velocities_check(speeds: &[f64]) -> Refusal
 pub fn points_check(places: &[f64], speeds: &[f64]) -> Refusal
     ensures { λ r. ⌜ r ≡ refusalOf (coordinatesCheck (length (now (places .entry)) / 2) (now (places .entry)) then velocitiesCheck (length (now (speeds .entry)) / 2) (now (speeds .entry))) ⌝ }
 {
-    let r = coordinates_check(places);
-    let number = r.number;
-    if number != 0 {
-        return r;
-    }
-    velocities_check(speeds)
+    let places = coordinates_check(places);
+    let speeds = velocities_check(speeds);
+    first(places, speeds)
 }
 
 fn all_within(l: &[f64]) -> bool

@@ -27,12 +27,13 @@ pub fn index(x: u32) -> usize
     x as usize
 }
 
-// One end more of particle i.
-fn count_end(counts: &mut [u32], i: usize)
-    requires { ⌜ (i < length (now counts)) × (getD (now counts) i 0 < 2 ^ 31) ⌝ }
-    ensures { λ _. ⌜ now (counts .exit) ≡ counted (now (counts .entry)) i ⌝ }
+// Both ends of a link, also where they are the same particle.
+fn count_link(counts: &mut [u32], source: usize, target: usize)
+    requires { ⌜ (source < length (now counts)) × (target < length (now counts)) × (getD (now counts) source 0 < 2 ^ 31) × (getD (counted (now counts) source) target 0 < 2 ^ 31) ⌝ }
+    ensures { λ _. ⌜ now (counts .exit) ≡ counted (counted (now (counts .entry)) source) target ⌝ }
 {
-    counts[i] = counts[i] + 1;
+    counts[source] = counts[source] + 1;
+    counts[target] = counts[target] + 1;
 }
 
 // How many ends each particle has, from counts that are all zero.
@@ -44,8 +45,7 @@ fn count_ends(links: &[u32], counts: &mut [u32])
     let mut k: usize = 0;
     while k < n {
         let at = k * 2;
-        count_end(counts, index(links[at]));
-        count_end(counts, index(links[at + 1]));
+        count_link(counts, index(links[at]), index(links[at + 1]));
         k = k + 1;
     }
 }

@@ -38,8 +38,9 @@ fn moved_axis(held: bool, home: f64, decay: f64, p: f64, v: f64) -> Axis
             speed: 0.0,
         };
     }
+    let step = clamp(v, -2147483648.0, 2147483647.0);
     Axis {
-        place: p + clamp(v, -2147483648.0, 2147483647.0),
+        place: p + step,
         speed: v * decay,
     }
 }

@@ -5,7 +5,7 @@ use borrow.Author.Needs.{needs}
 use lib.ListN.{length}
 use Rattle.rules.specs.Force.{endsFrom}
 use Rattle.force.specs.Links.{tallies}
-use Rattle.force.proofs.Tallies.{first-room, second-room, count-turn}
+use Rattle.force.proofs.Tallies.{count-room, count-turn}
 use Rattle.force.proofs.link.count_ends.Statement.{statement}
 use Rattle.force.proofs.link.count_ends.Tie as tie
 
@@ -18,33 +18,23 @@ Inv-loop links counts₀ n k₀ counts k =
 abbrev μ-loop : tie.MeasureT-loop
 μ-loop links counts₀ n k₀ counts k = n - k
 
-count-end-requires : tie.Need-count-end-requires Inv-loop μ-loop
-count-end-requires c κs =
-    let l = c .before .before .before .before .loop in
-    let s = c .before .before .before .before .before .before .before in
-    first-room (s .pre .0) (l .k) (c .before .before .before .loop-test .taken) (l .counts) (l .inv .2) (c .index .result) (c .index .ensures)
-
-count-end-requires-2 : tie.Need-count-end-requires-2 Inv-loop μ-loop
-count-end-requires-2 c κs =
-    let first = c .before .before .before .before .before in
-    let b = first .before .before .before .before in
+count-link-requires : tie.Need-count-link-requires Inv-loop μ-loop
+count-link-requires c κs =
+    let b = c .before .before .before .before .before in
     let l = b .before .loop in
-    let s = b .before .before .before .before in
-    second-room (s .pre .0) (l .k) (b .loop-test .taken) (l .counts) (l .inv .2) (first .before .index .result) (c .index2 .result)
-    (first .count-end .last .0) (first .before .index .ensures) (c .index2 .ensures) (first .count-end .ensures)
+    count-room (b .before .before .before .before .pre .0) (l .k) (b .loop-test .taken) (l .counts) (l .inv .2) (c .before .before .index .result) (c .index2 .result)
+    (c .before .before .index .ensures) (c .index2 .ensures)
 
 loop-again : tie.Need-loop-again Inv-loop μ-loop
 loop-again c =
-    let second = c .before .before in
-    let first = second .before .before .before .before .before .before in
-    let b = first .before .before .before .before in
-    let l = b .before .loop in
-    let s = b .before .before .before .before in (
+    let d = c .before .before in
+    let i = d .before in
+    let b = i .before .before .before .before .before in
+    let l = b .before .loop in (
       omega arith,
-      second .count-end2 .kept .0 ∙ first .count-end .kept .0 ∙ l .inv .1,
-      count-turn (s .pre .0) (l .k) (b .loop-test .taken) (l .counts) (l .inv .2) (first .before .index .result) (second .before .index2 .result)
-          (first .count-end .last .0) (second .count-end2 .last .0) (first .before .index .ensures) (second .before .index2 .ensures)
-          (first .count-end .ensures) (second .count-end2 .ensures),
+      d .count-link .kept .0 ∙ l .inv .1,
+      count-turn (b .before .before .before .before .pre .0) (l .k) (b .loop-test .taken) (l .counts) (l .inv .2) (i .before .before .index .result) (i .index2 .result)
+          (i .before .before .index .ensures) (i .index2 .ensures) (d .count-link .last .0) (d .count-link .ensures),
     )
 
 returns : tie.Need-returns Inv-loop μ-loop
@@ -65,12 +55,11 @@ count-ends-spec =
     (λ c. omega arith)
     (λ c. omega arith)
     (λ c κs. search needs)
-    count-end-requires
     (λ c. omega arith)
     (λ c. omega arith)
     (λ c. omega arith)
     (λ c κs. search needs)
-    count-end-requires-2
+    count-link-requires
     (λ c. omega arith)
     (λ c. omega arith)
     loop-again

@@ -10,6 +10,7 @@ use Rattle.rules.specs.Sheet.{pairsFrom}
 use Rattle.rules.specs.Flow.{flow}
 use Rattle.rules.specs.Force.{Push, link, endsOf}
 use Rattle.rules.specs.Calls.{ForceInput, slotsOf, speeds}
+use Rattle.force.specs.Ran.{ranOf}
 use Rattle.force.specs.Links.{EndsLent}
 use Rattle.force.specs.Calls.{lent, numbersCheck}
 use Rattle.force.proofs.Called.{Lent, lent-all, real-numbers, stopped, passed, result-numbers, result-ran, answered-refused, answered-ran}
@@ -95,7 +96,7 @@ returns-2 c =
     (real-numbers (a .places .now) vs (force s) (a .draws .now) (a .alpha ∷ [])) (n .numbers-check .ensures) (e .before .before .if1 .left) in
     answered-ran (input s) _ (e .link .result) (e .link .last .1 .0) (t .settle .result) (t .settle .last .1 .0) (t .settle .last .1 .1 .1 .1 .0)
     (result-ran (input s) (force s) (eqb (length (a .links .now) % 2) 0) (a .alpha) (a .alpha ∷ []) (s .pre .0) vs (read d) ok (e .link .last .1 .0) (e .link .result)
-    (link-runs _ (endsOf (a .links .now)) (a .strengths .now) (a .distances .now) (a .iterations) (a .places .now) (a .alpha) (slotsOf (a .work .now)) 0 (flow vs (a .draws .now))
+    (link-runs (ranOf (e .link .last .1 .0) (a .draws .now) (e .link .result)) (endsOf (a .links .now)) (a .strengths .now) (a .distances .now) (a .iterations) (a .places .now) (a .alpha) (slotsOf (a .work .now)) 0 (flow vs (a .draws .now))
     (e .link .ensures .is)))
     (e .link .ensures .draws .reach) (e .link .ensures .late) refl (t .settle .ensures)
 
