@@ -1,7 +1,7 @@
 -- A force called alone, stated over any force f that changes velocities.
-use mathlib.Core.Path.{_≡_, refl, sym, ap, ap₂, _∙_}
+use mathlib.Core.Path.{_≡_, refl, sym, ap, _∙_}
 use mathlib.Core.Bool.{Bool, true, false, cond, _&&_, false≢true}
-use mathlib.Core.List.{List, [], _∷_, _++_, append-assoc, append-nil}
+use mathlib.Core.List.{List, [], _∷_, _++_, append-assoc}
 use Prim.Native.Nat.{ℕ, zero, suc, _+_, _-_, _*_, _/_, _%_, _≤_, _<_}
 use native.Mathlib.Nat.{add-zero, zero-add, add-assoc}
 use native.Mathlib.Omega.{arith}
@@ -14,7 +14,7 @@ use Rattle.rules.specs.declared.Refusal.{Refusal}
 use Rattle.rules.specs.declared.Counts.{Counts}
 use Rattle.rules.specs.Plain.{all, overwritten, zeros}
 use Rattle.rules.specs.Number.{within, finite, distanceRange, drawRange}
-use Rattle.rules.specs.Outcome.{Outcome, done, refused, refusal, Check, fine, require, _then_, _>>=_, refusalOf, ifDone, zeroesWork, workAfter}
+use Rattle.rules.specs.Outcome.{Outcome, done, refused, refusal, Check, fine, require, _then_, _>>=_, refusalOf, zeroesWork}
 use Rattle.rules.specs.Refusal.{mostParticles, mostLinks, mostIterations, countCheck, strengthsCheck, distancesCheck, lengthsCheck, resultCheck, drawsCheck, settingsCheck}
 use Rattle.rules.specs.Sheet.{wordOf, wordAt, pairsFrom, pairsBytes}
 use Rattle.rules.specs.Walk.{Counted, counted}
@@ -24,7 +24,7 @@ use Rattle.rules.specs.Calls.{ForceInput, slotsOf, count, speeds, inputLengths,
 use Rattle.sheet.specs.Columns.{putPairs}
 use Rattle.sheet.proofs.Columns.{put-beside}
 use Rattle.force.specs.declared.Ran.{Ran}
-use Rattle.force.specs.Ran.{standing, ranOf, Runs}
+use Rattle.force.specs.Ran.{standing, ranOf}
 use Rattle.force.specs.Checks.{coordinatesCheck, velocitiesCheck}
 use Rattle.force.specs.Calls.{lent, firstOf, noCounts, countsAfter, Settled, Answered, lentCheck, numbersCheck}
 use Rattle.force.proofs.Scans.{Early, Real, real-require, real-then, real-from, real-all, real-coordinates, real-velocities, passes, first-then}

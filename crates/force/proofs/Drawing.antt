@@ -1,18 +1,16 @@
 -- What the code's answers about draws say against the rules.
-use mathlib.Core.Path.{_≡_, refl, sym, ap, _∙_}
+use mathlib.Core.Path.{_≡_, refl}
 use mathlib.Core.Bool.{Bool, true, false}
-use mathlib.Core.List.{List, []}
+use mathlib.Core.List.{List}
 use Prim.Native.Nat.{ℕ, _+_, _≤_, _<_}
 use native.Mathlib.Numerals.{add-one}
 use lib.ListN.{length, getD, drop, drop-of-length-le}
 use lib.Seq.{drop-cons}
 use lib.Ieee.{Float, nan, eq}
-use Rattle.rules.specs.Outcome.{Outcome, done, refused, refusal, _>>=_}
+use Rattle.rules.specs.Outcome.{done, refused, refusal, _>>=_}
 use Rattle.rules.specs.Number.{0·}
-use Rattle.rules.specs.Flow as Flow
 use Rattle.rules.specs.Flow.{next, nonzero, shaken, drawn, gap}
 use Rattle.force.specs.declared.draws.Drawn.{Drawn}
-use Rattle.force.specs.declared.draws.Jiggled.{Jiggled}
 use Rattle.force.specs.Draws.{drawnOf, shakenOf}
 
 module _ (x : Float) (ds : List Float) (used : ℕ) where

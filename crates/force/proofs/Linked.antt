@@ -1,8 +1,8 @@
 -- What one link does, from the code's numbers to the rule.
 use mathlib.Core.Path.{_≡_, refl, sym, ap, _∙_}
-use mathlib.Core.Bool.{Bool, true, false}
+use mathlib.Core.Bool.{true, false}
 use mathlib.Core.List.{List, [], _∷_}
-use Prim.Native.Nat.{ℕ, suc, _+_, _-_, _*_, _/_, _≤_, _<_, min}
+use Prim.Native.Nat.{ℕ, _+_, _-_, _*_, _/_, _≤_, _<_, min}
 use native.Mathlib.Nat.{sub-zero}
 use native.Mathlib.Omega.{arith}
 use borrow.Author.Tests.{eq-eqb, ne-eqb}
@@ -12,10 +12,9 @@ use Rattle.rules.specs.Outcome.{Outcome, done, refused, refusal, _>>=_, foldSta
 use Rattle.rules.specs.Plain.{countFrom, upTo}
 use Rattle.rules.specs.Number.{_⊕_, _⊖_, _⊗_, _⊘_, 1·, float}
 use Rattle.rules.specs.Root.{root}
-use Rattle.rules.specs.Flow as Flow
 use Rattle.rules.specs.Flow.{Flow, flow, pushed, gap, length², shaken}
 use Rattle.rules.specs.Force.{endsOf}
-use Rattle.rules.specs.Link.{Ends, ends, countEnds, bias, defaultStrength, strengthAt, gapBetween, tied, pull, pullFrom, runLink}
+use Rattle.rules.specs.Link.{Ends, countEnds, bias, defaultStrength, strengthAt, gapBetween, tied, pull, pullFrom}
 use Rattle.force.specs.declared.draws.Jiggled.{Jiggled}
 use Rattle.force.specs.declared.draws.Spent.{Spent}
 use Rattle.force.specs.Draws.{shakenOf, spentOf}

@@ -1,8 +1,7 @@
 use mathlib.Core.Path.{refl, sym, ap, _∙_}
 use borrow.Author.Needs.{needs}
-use native.Mathlib.Omega.{arith}
 use Rattle.rules.specs.declared.Refusal.{Refusal}
-use Rattle.rules.specs.Outcome.{Check, fine, _then_}
+use Rattle.rules.specs.Outcome.{Check, _then_}
 use Rattle.rules.specs.Refusal.{resultCheck}
 use Rattle.force.proofs.Scans.{stops}
 use Rattle.force.proofs.Called.{standing-refused, standing-fine, result-fine, settled-refused, settled-done}

@@ -1,4 +1,3 @@
-use mathlib.Core.Path.{refl}
 use native.Mathlib.Nat.{min-eq-left, min-eq-right, le-of-lt}
 use borrow.Author.Needs.{needs}
 use Rattle.force.proofs.link.default_strength.Statement.{statement}

@@ -9,7 +9,7 @@ use Rattle.rules.specs.Link.{pullFrom, runLink}
 use Rattle.rules.specs.Force.{endsOf}
 use Rattle.force.specs.Draws.{From}
 use Rattle.force.specs.Ran.{standing, ranOf, visited}
-use Rattle.force.specs.Links.{EndsLent, Ready, tallies}
+use Rattle.force.specs.Links.{Ready, tallies}
 use Rattle.force.proofs.Linked.{stagesLeft, stages-first, stage-dry, stage-on, stages-end}
 use Rattle.force.proofs.link.iterate.Statement.{statement}
 use Rattle.force.proofs.link.iterate.Tie as tie

@@ -4,7 +4,6 @@ use native.Mathlib.Omega.{arith}
 use borrow.Author.Needs.{needs}
 use lib.ListN.{length}
 use Rattle.rules.specs.Force.{endsOf}
-use Rattle.rules.specs.Flow.{flow}
 use Rattle.force.specs.Draws.{spentOf}
 use Rattle.force.specs.Links.{endsAt}
 use Rattle.force.proofs.Tallies.{ready-ends}

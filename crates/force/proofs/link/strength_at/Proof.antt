@@ -1,7 +1,6 @@
 use mathlib.Core.Path.{_∙_}
 use native.Mathlib.Omega.{arith}
 use borrow.Author.Needs.{needs}
-use lib.ListN.{length}
 use Rattle.force.proofs.Linked.{no-strengths, some-strengths}
 use Rattle.force.proofs.link.strength_at.Statement.{statement}
 use Rattle.force.proofs.link.strength_at.Tie as tie

@@ -1,10 +1,6 @@
-use Prim.Native.Nat.{_/_, _%_}
-use mathlib.Core.Path.{_≡_, ap, _∙_}
-use mathlib.Core.Bool.{Bool, _&&_}
+use Prim.Native.Nat.{_%_}
 use borrow.Author.Needs.{needs}
-use lib.Dec.{eqb}
 use lib.ListN.{length}
-use Rattle.rules.specs.Force.{endsOf, noneOr}
 use Rattle.force.proofs.LinkCalled.{ends-count, no-input, odd-ends, no-distances, no-strength, each-strength}
 use Rattle.force.proofs.link_call.lengths_agree.Statement.{statement}
 use Rattle.force.proofs.link_call.lengths_agree.Tie as tie

@@ -1,11 +1,10 @@
 use mathlib.Core.Path.{_≡_, refl, sym, ap, _∙_}
-use mathlib.Core.List.{List, _++_, map}
-use Prim.Native.Nat.{_≤_, _+_, _-_, _*_}
+use mathlib.Core.List.{_++_, map}
+use Prim.Native.Nat.{_≤_, _-_, _*_}
 use native.Mathlib.Nat.{sub-zero}
 use native.Mathlib.Omega.{arith}
 use borrow.Author.Needs.{needs}
 use lib.ListN.{length, take, drop, length-set}
-use Rattle.rules.specs.declared.Particle.{Particle}
 use Rattle.rules.specs.Plain.{countFrom, upTo}
 use Rattle.rules.specs.Sheet.{placesOf, speedsOf}
 use Rattle.force.proofs.Pairs.{pair-rest, same-rest}

@@ -1,5 +1,4 @@
 use borrow.Author.Needs.{needs}
-use Rattle.rules.specs.Particle.{moved}
 use Rattle.force.proofs.Closing.{moved-is}
 use Rattle.force.proofs.particle.moved.Statement.{statement}
 use Rattle.force.proofs.particle.moved.Tie as tie

@@ -1,4 +1,3 @@
-use mathlib.Core.Path.{refl}
 use borrow.Author.Needs.{needs}
 use Rattle.rules.specs.Particle.{movedAxis}
 use Rattle.force.proofs.particle.moved_axis.Statement.{statement}
