@@ -1,0 +1,6 @@
+pub mod Draws
+pub mod Ran
+pub mod Links
+pub mod Columns
+pub mod Checks
+pub mod Calls
