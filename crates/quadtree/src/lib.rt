@@ -1,6 +1,11 @@
 // The quadtree in lent slots, after fjadra's src/quadtree and src/extent.rs.
 pub mod cover;
+pub mod extent;
+pub mod indexer;
 pub mod store;
+pub mod trial;
+pub mod visit;
+pub mod visit_after;
 
 use rules::Extent;
 

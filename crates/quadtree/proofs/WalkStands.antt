@@ -1,0 +1,95 @@
+-- A walk begins where the slots hold a tree. Assumes nothing.
+use mathlib.Core.Path.{_≡_, refl, sym, ap, _∙_, subst}
+use mathlib.Core.Bool.{Bool, true, false, cond}
+use mathlib.Core.List.{List, [], _∷_}
+use Prim.Native.Nat.{ℕ, zero, suc, _+_, _*_, _≤_, _<_}
+use native.Mathlib.Omega.{arith}
+use lib.ListN.{length}
+use lib.Ieee.{Float}
+use Rattle.rules.specs.declared.Extent.{Extent}
+use Rattle.rules.specs.Plain.{keep, countFrom, upTo, branch}
+use Rattle.rules.specs.Outcome.{Outcome}
+use Rattle.rules.specs.Cell.{quarter}
+use Rattle.rules.specs.Tree.{Tree, none, leaf, node, nodes, depth, inQuarter, pointsIn, alike, grow, treeIn, treeOf}
+use Rattle.rules.specs.Walk.{Entry, Counted, After}
+use Rattle.quadtree.specs.declared.Quadtree.{Quadtree}
+use Rattle.quadtree.specs.declared.visit.Walk.{Walk}
+use Rattle.quadtree.specs.Slots.{EachSlot, inCells, Stands}
+use Rattle.quadtree.specs.Walk.{stackOf, Sized, lay, seen, EachChain, EachBelow}
+use Rattle.quadtree.proofs.WalkTurns.{Found, nodes-seen}
+use Rattle.quadtree.proofs.Walking.{Walking, start}
+
+pub each-slot-map : (P Q : ℕ → Type 0) → ((s : ℕ) → P s → Q s) → (t : Tree ℕ) → EachSlot P t → EachSlot Q t
+each-slot-map P Q f none h = tt
+each-slot-map P Q f (leaf s is) h = f s h
+each-slot-map P Q f (node s t0 t1 t2 t3) h =
+    (f s (h .0), each-slot-map P Q f t0 (h .1), each-slot-map P Q f t1 (h .2), each-slot-map P Q f t2 (h .3), each-slot-map P Q f t3 (h .4))
+
+-- ---- cells and chains
+
+-- seen for its cells alone, a tree is that of its cells
+pub seen-cells : (c : Extent) (t : Tree ℕ) → seen (λ s c. c) c t ≡ inCells c t
+seen-cells c none = refl
+seen-cells c (leaf s is) = refl
+seen-cells c (node s t0 t1 t2 t3) = rw (seen-cells (quarter 0 c) t0, seen-cells (quarter 1 c) t1, seen-cells (quarter 2 c) t2, seen-cells (quarter 3 c) t3)
+
+pub chains-cells : (P : List ℕ → Type 0) (c : Extent) (t : Tree ℕ) → EachChain P (inCells c t) → EachChain P t
+chains-cells P c none h = tt
+chains-cells P c (leaf s is) h = h
+chains-cells P c (node s t0 t1 t2 t3) h =
+    (chains-cells P (quarter 0 c) t0 (h .0), chains-cells P (quarter 1 c) t1 (h .1), chains-cells P (quarter 2 c) t2 (h .2), chains-cells P (quarter 3 c) t3 (h .3))
+
+-- nothing is asked of a chain
+pub chains-any : {A : Type 0} (t : Tree A) → EachChain (λ _. Unit {0}) t
+chains-any none = tt
+chains-any (leaf a is) = tt
+chains-any (node a t0 t1 t2 t3) = (chains-any t0, chains-any t1, chains-any t2, chains-any t3)
+
+below-keep : (n : ℕ) (p : ℕ → Bool) (is : List ℕ) → EachBelow n is → EachBelow n (keep p is)
+below-keep n p [] h = tt
+below-keep n p (i ∷ is) h = go (p i) (below-keep n p is (h .1))
+  where
+    go : (b : Bool) → EachBelow n (keep p is) → EachBelow n (cond b (i ∷ keep p is) (keep p is))
+    go true k = (h .0, k)
+    go false k = k
+
+below-count : (n i k : ℕ) → i + k ≤ n → EachBelow n (countFrom i k)
+below-count n i zero h = tt
+below-count n i (suc k) h = (omega arith, below-count n (i + 1) k (omega arith))
+
+below-grow : (at : List Float) (n k : ℕ) (c : Extent) (is : List ℕ) → EachBelow n is → EachChain (EachBelow n) (grow at k c is)
+unfolding grow
+below-grow at n zero c is h = tt
+below-grow at n (suc k) c [] h = tt
+below-grow at n (suc k) c (i ∷ is) h =
+    go (alike at (i ∷ is)) (λ q. below-grow at n k (quarter q c) (pointsIn at c q (i ∷ is)) (below-keep n (inQuarter at c q) (i ∷ is) h))
+  where
+    go : (b : Bool) → ((q : ℕ) → EachChain (EachBelow n) (grow at k (quarter q c) (pointsIn at c q (i ∷ is))))
+        → EachChain (EachBelow n) (branch b (λ _. leaf c (i ∷ is)) (λ _. node c (grow at k (quarter 0 c) (pointsIn at c 0 (i ∷ is))) (grow at k (quarter 1 c) (pointsIn at c 1 (i ∷ is)))
+        (grow at k (quarter 2 c) (pointsIn at c 2 (i ∷ is))) (grow at k (quarter 3 c) (pointsIn at c 3 (i ∷ is)))))
+    go true f = h
+    go false f = (f 0, f 1, f 2, f 3)
+
+-- the chains of the first n points hold numbers below n
+pub below-tree : (at : List Float) (n : ℕ) → EachChain (EachBelow n) (treeOf at n)
+unfolding treeOf treeIn
+below-tree at n = below-grow at n _ _ (upTo n) (below-count n 0 n (omega arith))
+
+-- ---- the tree that stands in the slots
+
+module _ {at : List Float} {n : ℕ} {m next : List ℕ} {q : Quadtree} (s : Stands at n m next q) where
+  pub chains-below : EachChain (EachBelow n) (s .tree)
+  chains-below = chains-cells (EachBelow n) (q .extent) (s .tree) (subst (EachChain (EachBelow n)) (sym (s .is)) (below-tree at n))
+
+  -- all its slots are lent
+  pub found : (P : List ℕ → Type 0) → EachChain P (s .tree) → Found P m next (q .root) (s .tree)
+  found P h = (s .leads, each-slot-map (λ i. i < q .nodes) (λ i. i * 8 + 8 ≤ length m) (λ i b. omega (arith, s .room)) (s .tree) (s .below), h)
+
+  -- a walk over it, seen by `look`, begins with its root waiting
+  pub start-stands : {A S : Type 0} (step : Entry A → S → Outcome (After S)) (look : ℕ → Extent → A) (P : List ℕ → Type 0) (begun : Counted S) (w : Walk) → EachChain P (s .tree)
+      → Sized w → stackOf w ≡ lay (q .root) (q .extent) [] → Walking step look P m next (seen look (q .extent) (s .tree)) begun w begun
+  start-stands step look P begun w h z e =
+      start step look P m next (q .root) (q .extent) (s .tree) (seen look (q .extent) (s .tree)) begun w (found P h) (s .levels) refl z e
+
+  pub nodes-stands : {A : Type 0} (look : ℕ → Extent → A) → nodes (seen look (q .extent) (s .tree)) ≡ q .nodes
+  nodes-stands look = nodes-seen look (q .extent) (s .tree) ∙ s .count

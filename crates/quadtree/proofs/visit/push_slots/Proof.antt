@@ -1,0 +1,36 @@
+use borrow.Author.Needs.{needs}
+use Rattle.quadtree.specs.Walk.{heightAfter, putSlots}
+use Rattle.quadtree.proofs.WalkStack.{fits0, fits1, fits2}
+use Rattle.quadtree.proofs.visit.push_slots.Statement.{statement}
+use Rattle.quadtree.proofs.visit.push_slots.Tie as tie
+
+push-slot-requires : tie.Need-push-slot-requires
+push-slot-requires c κs = fits2 _ _ (c .before .pre)
+
+push-slot-requires-2 : tie.Need-push-slot-requires-2
+push-slot-requires-2 c κs = rw (c .before .push-slot .ensures .1) (fits1 _ _ (c .before .before .before .pre))
+
+push-slot-requires-3 : tie.Need-push-slot-requires-3
+push-slot-requires-3 c κs = rw (c .before .push-slot2 .ensures .1, c .before .before .before .push-slot .ensures .1) (fits0 _ _ (c .before .before .before .before .before .pre))
+
+push-slot-requires-4 : tie.Need-push-slot-requires-4
+unfolding heightAfter
+push-slot-requires-4 c κs = rw (c .before .push-slot3 .ensures .1, c .before .before .before .push-slot2 .ensures .1, c .before .before .before .before .before .push-slot .ensures .1) (c .before .before .before .before .before .before .before .pre)
+
+returns : tie.Need-returns
+unfolding putSlots heightAfter
+returns c = ((cc), (cc))
+
+pub push-slots-spec : {M : Type 1} → statement M
+push-slots-spec =
+    tie.close
+    (tie.spec
+    (λ c. search needs)
+    push-slot-requires
+    (λ c. search needs)
+    push-slot-requires-2
+    (λ c. search needs)
+    push-slot-requires-3
+    (λ c. search needs)
+    push-slot-requires-4
+    returns)
