@@ -1,0 +1,4 @@
+pub mod Drawing
+pub mod Pairs
+pub mod Tallies
+pub mod Linked

@@ -1,0 +1,3 @@
+pub mod Draws
+pub mod Ran
+pub mod Links
