@@ -2,3 +2,5 @@ pub mod Drawing
 pub mod Pairs
 pub mod Tallies
 pub mod Linked
+pub mod RadiusLaws
+pub mod CollideLaws

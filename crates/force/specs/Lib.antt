@@ -1,3 +1,5 @@
 pub mod Draws
 pub mod Ran
 pub mod Links
+pub mod Radius
+pub mod Collide

@@ -1,7 +1,9 @@
 // The forces on velocities, Center and the closing move, after fjadra's src/force.
+pub mod collide;
 mod draws;
 pub mod link;
 mod push;
+pub mod radius;
 
 pub use draws::Drawn;
 pub use draws::Jiggled;

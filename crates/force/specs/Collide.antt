@@ -1,0 +1,29 @@
+-- What Collide is lent, and its stages. Definitions only.
+use mathlib.Core.Path.{_≡_}
+use mathlib.Core.List.{List}
+use Prim.Native.Nat.{ℕ, _+_, _*_, _≤_, _<_, _^_}
+use lib.ListN.{length, drop}
+use lib.Ieee.{Float}
+use Rattle.rules.specs.Plain.{upTo}
+use Rattle.rules.specs.Outcome.{Outcome, foldStages}
+use Rattle.rules.specs.Walk.{Counted, counted, walk}
+use Rattle.rules.specs.Flow.{Flow, flow}
+use Rattle.rules.specs.Collide.{radiusTree, collideStep}
+
+-- a place and a velocity for each radius, and no draw used past the last
+pub record Spread (at vs radii draws : List Float) (used : ℕ) : Type 0 where
+  pub places : length at ≡ length radii * 2
+  pub speeds : length vs ≡ length radii * 2
+  pub drawn : used ≤ length draws
+
+-- velocities, the draws that are left, and the nodes handed out so far
+abbrev pub begun : List Float → List Float → ℕ → ℕ → Counted Flow
+begun vs draws used visits = counted (flow vs (drop used draws)) visits
+
+-- the walk of particle i
+abbrev pub walkFor : List Float → List Float → Float → Counted Flow → ℕ → Outcome (Counted Flow)
+walkFor at radii strength m i = walk (collideStep at radii strength i) (radiusTree at radii) m
+
+-- those of all particles, in index order
+unfoldable pub walkAll : List Float → List Float → Float → Counted Flow → Outcome (Counted Flow)
+walkAll at radii strength m = foldStages (walkFor at radii strength) m (upTo (length radii))
