@@ -4,3 +4,5 @@ pub mod Tallies
 pub mod Linked
 pub mod RadiusLaws
 pub mod CollideLaws
+pub mod CollideSteps
+pub mod CollideFolds

@@ -1,54 +1,38 @@
+use mathlib.Core.Path.{refl, sym, _∙_}
+use native.Mathlib.Omega.{arith}
 use borrow.Author.Needs.{needs}
+use borrow.Author.Tests.{lt-ltb, le-ltb}
+use Rattle.force.specs.Draws.{spentOf}
 use Rattle.force.proofs.collide.meet_first.Statement.{statement}
 use Rattle.force.proofs.collide.meet_first.Tie as tie
-use Rattle.force.proofs.collide.meet_first.Reads as reads
-use Rattle.force.proofs.collide.meet_first.Lts as lts
-use Rattle.force.proofs.collide.meet.Reads as meet-reads
-use Rattle.force.proofs.radius.index.Reads as index-reads
-use Rattle.quadtree.proofs.store.node_value.Reads as node-value-reads
-use Rattle.quadtree.proofs.store.tag.Reads as tag-reads
 
--- src/collide.rt:157:19
-tag-requires : tie.Need-tag-requires
-tag-requires c κs = search needs
-
--- src/collide.rt:157:19
-sub-index : tie.Need-sub-index
-sub-index c = search needs
-
--- src/collide.rt:157:9
-index-requires : tie.Need-index-requires
-index-requires c κs = search needs
-
--- src/collide.rt:159:13
-node-value-requires : tie.Need-node-value-requires
-node-value-requires c κs = search needs
-
--- src/collide.rt:160:9
-meet-requires : tie.Need-meet-requires
-meet-requires c κs = search needs
-
--- src/collide.rt:160:9
-same-length : tie.Need-same-length
-same-length c = search needs
-
--- src/collide.rt:160:9
 returns : tie.Need-returns
-returns c = ?
+returns c =
+    let p = c .before .before in
+    let v = p .before .before in
+    let k = v .before .before in (
+      rw (← k .before .tag .ensures, ← k .index .ensures, lt-ltb _ _ (v .before .if1 .taken), ← v .node-value .ensures) (p .meet .ensures .0),
+      p .meet .ensures .1,
+    )
 
--- src/collide.rt:142:1
 returns-2 : tie.Need-returns-2
-returns-2 c = ?
+unfolding spentOf
+returns-2 c =
+    let k = c .before in
+    let s = k .before .before .before .before .before .before .before in (
+      rw (← k .before .tag .ensures, ← k .index .ensures, le-ltb _ _ (c .if1 .left)),
+      omega (arith, s .pre),
+    )
 
 pub meet-first-spec : {M : Type 1} → statement M
 meet-first-spec =
     tie.close
     (tie.spec
-    tag-requires
-    sub-index
-    index-requires
-    node-value-requires
-    meet-requires
-    same-length
+    (λ c κs. search needs)
+    (λ c. search needs)
+    (λ c κs. search needs)
+    (λ c κs. search needs)
+    (λ c κs. search needs)
+    (λ c. search needs)
     returns
     returns-2)
