@@ -15,11 +15,11 @@ use Rattle.force.specs.declared.Ran.{Ran}
 use Rattle.force.specs.Ran.{standing, ranOf}
 
 module _ (vs draws : List Float) (r : Ran) where
-  pub ran-refused : (r .refusal .number ≡ 0 → ⊥) → ranOf vs draws r ≡ refused (r .refusal)
+  ran-refused : (r .refusal .number ≡ 0 → ⊥) → ranOf vs draws r ≡ refused (r .refusal)
   unfolding ranOf standing
   ran-refused h = rw (ne-eqb _ _ h)
 
-  pub ran-on : r .refusal .number ≡ 0 → ranOf vs draws r ≡ done (counted (flow vs (drop (r .used) draws)) (r .visits))
+  ran-on : r .refusal .number ≡ 0 → ranOf vs draws r ≡ done (counted (flow vs (drop (r .used) draws)) (r .visits))
   unfolding ranOf standing
   ran-on h = rw (eq-eqb _ _ h)
 
@@ -38,8 +38,8 @@ module _ (f : Counted Flow → ℕ → Outcome (Counted Flow)) where
       e = omega arith
 
   module _ (n i : ℕ) (h : i < n) (s : Counted Flow) (vs draws : List Float) (r : Ran) (is : ranOf vs draws r ≡ f s i) where
-    pub left-refused : (r .refusal .number ≡ 0 → ⊥) → refused (r .refusal) ≡ left n i s
-    left-refused k = sym (left-next n i s h ∙ rw (← is, ran-refused vs draws r k))
+    pub left-refused : (r .refusal .number ≡ 0 → ⊥) → ranOf vs draws r ≡ left n i s
+    left-refused k = ran-refused vs draws r k ∙ sym (left-next n i s h ∙ rw (← is, ran-refused vs draws r k))
 
     pub left-on : r .refusal .number ≡ 0 → left n i s ≡ left n (i + 1) (counted (flow vs (drop (r .used) draws)) (r .visits))
     left-on k = left-next n i s h ∙ rw (← is, ran-on vs draws r k)

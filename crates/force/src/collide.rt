@@ -70,17 +70,7 @@ fn longer(l: f64, was: f64, is: f64) -> f64
 }
 
 // Both are pushed apart over the gap x, y, each by the other's share.
-fn part(
-    vs: &mut [f64],
-    i: usize,
-    j: usize,
-    ri: f64,
-    rj: f64,
-    x: f64,
-    y: f64,
-    l: f64,
-    strength: f64,
-)
+fn part(vs: &mut [f64], i: usize, j: usize, ri: f64, rj: f64, x: f64, y: f64, l: f64, strength: f64)
     requires { ⌜ (i * 2 + 1 < length (now vs)) × (j * 2 + 1 < length (now vs)) ⌝ }
     ensures { λ _. ⌜ now (vs .exit) ≡ Collide.parted strength i j ri rj (ri ⊕ rj) (gap x y) l (now (vs .entry)) ⌝ }
 {
@@ -256,15 +246,11 @@ fn walk_all(
         let r = walk_for(q, m, at, vs, radii, strength, i, draws, spent, seen);
         let refusal = r.refusal;
         let number = refusal.number;
+        if number != 0 {
+            return r;
+        }
         spent = r.used;
         seen = r.visits;
-        if number != 0 {
-            return Ran {
-                refusal,
-                used: spent,
-                visits: seen,
-            };
-        }
         i += 1;
     }
     Ran {
@@ -301,15 +287,11 @@ pub fn iterate(
         let r = walk_all(q, m, at, vs, radii, strength, draws, spent, seen);
         let refusal = r.refusal;
         let number = refusal.number;
+        if number != 0 {
+            return r;
+        }
         spent = r.used;
         seen = r.visits;
-        if number != 0 {
-            return Ran {
-                refusal,
-                used: spent,
-                visits: seen,
-            };
-        }
         k += 1;
     }
     Ran {
