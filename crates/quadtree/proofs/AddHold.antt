@@ -89,7 +89,7 @@ module _ (at : List Float) where
     child-is c s t0 t1 t2 t3 is h (suc (suc (suc (suc q)))) l = absurd (omega arith)
 
     -- the points of a cell that p's way has come to: all those of the whole that have p's point are among them
-    abbrev Arrives : Extent → Tree ℕ → List ℕ → Type 0
+    abbrev pub Arrives : Extent → Tree ℕ → List ℕ → Type 0
     Arrives d u is = (js : List ℕ) × Is at d (inCells d u) js × ((i : ℕ) → In i is → same at i p ≡ true → In i js)
 
     arrives-down : (c : Extent) (s : ℕ) (t0 t1 t2 t3 : Tree ℕ) (is : List ℕ) → Arrives c (node s t0 t1 t2 t3) is → Arrives (quarter (side at p c) c) (pick t0 t1 t2 t3 (side at p c)) is
@@ -104,7 +104,7 @@ module _ (at : List Float) where
     arrives (suc n) c (node s t0 t1 t2 t3) d u is r a = arrives n (quarter (side at p c) c) (pick t0 t1 t2 t3 (side at p c)) d u is r (arrives-down c s t0 t1 t2 t3 is a)
 
     module _ (is m : List ℕ) (q : Quadtree) (h : Holds at is m q) (l : ℕ) (d : Extent) where
-      reached : (u : Tree ℕ) → Reaches at p l (q .extent) (h .tree) d u → Arrives d u is
+      pub reached : (u : Tree ℕ) → Reaches at p l (q .extent) (h .tree) d u → Arrives d u is
       reached u r = arrives l (q .extent) (h .tree) d u is r (is, holds-is is m q h, λ i a b. a)
 
       -- no point of those before is at p's, where the way comes to a hole
@@ -296,7 +296,7 @@ module _ (at : List Float) where
 
       module _ (s : ℕ) (u0 u1 u2 u3 : Tree ℕ) (r : Reaches at p l (q .extent) (h .tree) d (node s u0 u1 u2 u3)) (room : (q .nodes + 1) * 8 ≤ length m) (small : q .nodes + 1 < 2 ^ 32) where
         abbrev hangs-in : ℕ → List ℕ
-        hangs-in k = hung at p m s k (q .nodes)
+        hangs-in k = hung p m s k (q .nodes)
 
         pub hung-length : (k : ℕ) → length (hangs-in k) ≡ length m
         unfolding hung

@@ -149,7 +149,7 @@ module _ (at : List Float) where
 
   -- ---- all wraps, before anything is written
 
-  abbrev Internal : Tree Extent → Type 0
+  abbrev pub Internal : Tree Extent → Type 0
   Internal none = ⊥
   Internal (leaf d js) = ⊥
   Internal (node d t0 t1 t2 t3) = Unit {0}

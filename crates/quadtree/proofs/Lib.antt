@@ -22,3 +22,7 @@ pub mod WalkSteps
 pub mod WalkValues
 pub mod WalkFill
 pub mod WalkAfter
+pub mod AddTurns
+pub mod AddPlaced
+pub mod AddInsert
+pub mod AddBuild

@@ -1,7 +1,11 @@
 // The quadtree in lent slots, after fjadra's src/quadtree and src/extent.rs.
+pub mod add;
+pub mod build;
+pub mod chain;
 pub mod cover;
 pub mod extent;
 pub mod indexer;
+pub mod point;
 pub mod store;
 pub mod trial;
 pub mod visit;

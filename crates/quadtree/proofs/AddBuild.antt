@@ -1,0 +1,261 @@
+-- The turns of building: the extent grows with each particle, the tree stands at the end, and the check of all prefixes is what the loop has done.
+use mathlib.Core.Path.{_≡_, refl, sym, ap, ap₂, _∙_, subst}
+use mathlib.Core.Bool.{Bool, true, false, true≢false}
+use mathlib.Core.List.{List, [], _∷_, _++_, List·Memᴰ, List·Memᴰ·head, List·Memᴰ·tail}
+use mathlib.Core.Logic.{inl, inr}
+use Prim.Native.Nat.{ℕ, zero, suc, _+_, _-_, _*_, _/_, _≤_, _<_}
+use native.Mathlib.Omega.{arith}
+use native.Mathlib.Decide.{ℕ-discrete}
+use lib.Dec.{T}
+use lib.ListN.{length}
+use lib.Ieee.{Float}
+use borrow.Author.Tests.{le-leb, lt-leb}
+use Rattle.rules.specs.declared.Extent.{Extent}
+use Rattle.rules.specs.Plain.{countFrom, upTo, foldl}
+use Rattle.rules.specs.Number.{within, xAt, yAt}
+use Rattle.rules.specs.Floor.{floor}
+use Rattle.rules.specs.Cell.{nowhere}
+use Rattle.rules.specs.Cover.{coverPoint, nothing, holds, coverAll, coverFirst, extentOf}
+use Rattle.rules.specs.Outcome.{Check, refused, refusal, fine, require, _then_, _>>=_, checkFrom}
+use Rattle.rules.specs.Tree.{Tree, none, leaf, node, depth, nodes, alike, treeIn, treeOf, fitsCheck, treeCheck, greatestLevel}
+use Rattle.rules.proofs.CellCount.{upTo-snoc}
+use Rattle.rules.proofs.CellInside.{Inside}
+use Rattle.rules.proofs.CellIs.{Is, grow-none}
+use Rattle.rules.proofs.CellChain.{EachLeaf, Chain}
+use Rattle.quadtree.specs.declared.Quadtree.{Quadtree}
+use Rattle.quadtree.specs.declared.cover.Covered.{Covered}
+use Rattle.quadtree.specs.declared.add.Inserted.{Inserted}
+use Rattle.quadtree.specs.declared.add.Inserted.the-variants.{Done, Deep, Full}
+use Rattle.quadtree.specs.Slots.{inCells, Follows as Chained, Leads, Stands}
+use Rattle.quadtree.specs.Cover.{squareOf, Reachable, Near, CoveredTo}
+use Rattle.quadtree.specs.Add.{lead, Holds, Linked, Ranged, Puts, Placed, Covers, Inserts}
+use Rattle.quadtree.specs.declared.build.Built.the-variants as Built
+use Rattle.quadtree.specs.Build.{particles, Builds, Follows, Extends}
+use Rattle.quadtree.proofs.CoverLaws as Laws
+use Rattle.quadtree.proofs.SlotsTree.{stored-leads}
+use Rattle.quadtree.proofs.AddChain.{chain-follows}
+use Rattle.quadtree.proofs.AddHold.{cells-depth, cells-nodes, holds-is, holds-chains}
+use Rattle.quadtree.proofs.AddPlaced.{ranged-points}
+
+-- ---- members of 0, 1, .. , n - 1
+
+member-less : (k n i : ℕ) → List·Memᴰ i (countFrom k n) → i < k + n
+member-less k zero i m = elim m [ ]
+member-less k (suc n) i (List·Memᴰ·head e) = omega arith
+member-less k (suc n) i (List·Memᴰ·tail m) = omega (arith, member-less (k + 1) n i m)
+
+less-member : (k n i : ℕ) → k ≤ i → i < k + n → List·Memᴰ i (countFrom k n)
+less-member k zero i h g = absurd (omega arith)
+less-member k (suc n) i h g = elim (ℕ-discrete i k) [ yes e ↦ List·Memᴰ·head e | no ne ↦ List·Memᴰ·tail (less-member (k + 1) n i (omega arith) (omega arith)) ]
+
+pub is-T : (b : Bool) → b ≡ true → T b
+is-T b e = subst T (sym e) tt
+
+-- ---- the extent
+
+module _ (at : List Float) where
+  in-range : (n : ℕ) → Ranged at n → (i : ℕ) → List·Memᴰ i (upTo n) → T (within (xAt at i)) × T (within (yAt at i))
+  in-range n h i m = let r = h i (omega (arith, member-less 0 n i m)) in (is-T (within (xAt at i)) (r .0), is-T (within (yAt at i)) (r .1))
+
+  first-cover : coverFirst at 1 ≡ coverPoint nothing (floor (xAt at 0)) (floor (yAt at 0))
+  unfolding coverAll
+  first-cover = refl
+
+  pub first-extends : (q : Quadtree) (p : ℕ) (c : Covered) → Follows at q p → p ≡ 0 → c .extent ≡ extentOf (coverPoint nothing (floor (xAt at p)) (floor (yAt at p))) → Extends at q p c
+  first-extends q p c f z e =
+      record {
+        extent = e ∙ ap (λ (i : ℕ). extentOf (coverPoint nothing (floor (xAt at i)) (floor (yAt at i)))) z ∙ ap extentOf (sym first-cover) ∙ ap (λ (i : ℕ). extentOf (coverFirst at (i + 1))) (sym z);
+        covers = λ l. absurd (omega (arith, f .empty z));
+      }
+
+  -- with a particle before p, the extent can be reached and all of them lie in it
+  record Ready (q : Quadtree) (p : ℕ) : Type 0 where
+    reachable : Reachable (q .extent)
+    covered : coverFirst at p ≡ holds (squareOf (q .extent))
+    inside : (i : ℕ) → i < p → Inside at (q .extent) i
+
+  ready : (q : Quadtree) (p : ℕ) → q .extent ≡ extentOf (coverFirst at p) → Ranged at p → (p ≡ 0 → ⊥) → Ready q p
+  ready q zero e r n = absurd (n refl)
+  ready q (suc k) e r n =
+      let range = in-range (suc k) r in
+      let a = Laws.list-reachable at 0 (countFrom 1 k) (q .extent) (Laws.in-range at (upTo (suc k)) range) e in
+      record {
+        reachable = a .0;
+        covered = a .1;
+        inside = λ i l. subst (λ (c : Extent). Inside at c i) (sym e) (Laws.list-lies at 0 (countFrom 1 k) range i (less-member 0 (suc k) i (omega arith) (omega arith)));
+      }
+
+  module _ (q : Quadtree) (p : ℕ) (f : Follows at q p) (n : p ≡ 0 → ⊥) where
+    before : Ranged at p
+    before i l = f .ranged i (omega arith)
+
+    pub extend-near : Near (q .extent) (xAt at p) (yAt at p)
+    extend-near =
+        let r = f .ranged p (omega arith) in
+        record { reachable = ready q p (f .extent) before n .reachable; across = is-T (within (xAt at p)) (r .0); along = is-T (within (yAt at p)) (r .1) }
+
+    pub next-extends : (c : Covered) → CoveredTo (q .extent) (floor (xAt at p)) (floor (yAt at p)) c → Extends at q p c
+    next-extends c d =
+        let r = ready q p (f .extent) before n in
+        record {
+          extent = Laws.list-next at (upTo p) p (q .extent) c (r .covered) d ∙ ap (λ (l : List ℕ). extentOf (coverAll at l)) (sym (upTo-snoc p));
+          covers = λ l. record { near = extend-near; covered = d; inside = r .inside };
+        }
+
+  -- ---- the check of all prefixes
+
+  module _ (n slots : ℕ) where
+    -- what is left of it from particle p on
+    abbrev pub left : ℕ → Check
+    left p = checkFrom (λ i _. fitsCheck slots i (treeOf at (i + 1))) p (countFrom p (n - p))
+
+    pub check-start : treeCheck at n slots ≡ left 0
+    unfolding treeCheck
+    check-start = let z : n - 0 ≡ n = omega arith in rw z
+
+    left-turn : (p : ℕ) → p < n → left p ≡ (fitsCheck slots p (treeOf at (p + 1)) >>= λ _. left (p + 1))
+    left-turn p l = let z : n - p ≡ suc (n - (p + 1)) = omega arith in rw z
+
+    pub left-end : (p : ℕ) → n ≤ p → left p ≡ fine
+    left-end p l = let z : n - p ≡ 0 = omega arith in rw z
+
+    -- the tree of the particles below p + 1, in an extent that is theirs
+    tree-is : (c : Extent) (p : ℕ) → c ≡ extentOf (coverFirst at (p + 1)) → treeIn at c (upTo (p + 1)) ≡ treeOf at (p + 1)
+    unfolding treeOf
+    tree-is c p e = ap (λ (c : Extent). treeIn at c (upTo (p + 1))) e
+
+    module _ (c : Extent) (p : ℕ) (l : p < n) (e : c ≡ extentOf (coverFirst at (p + 1))) where
+      abbrev t : Tree Extent
+      t = treeIn at c (upTo (p + 1))
+
+      fits : fitsCheck slots p t ≡ fitsCheck slots p (treeOf at (p + 1))
+      fits = ap (fitsCheck slots p) (tree-is c p e)
+
+      turn : (k : Check) → fitsCheck slots p t ≡ k → left p ≡ (k >>= λ _. left (p + 1))
+      turn k f = left-turn p l ∙ ap (λ (k : Check). k >>= λ _. left (p + 1)) (sym fits ∙ f)
+
+      pub left-fine : depth t ≤ 65 → nodes t ≤ slots → left p ≡ left (p + 1)
+      unfolding fitsCheck
+      left-fine d s = turn fine (rw (le-leb (depth t) 65 d, le-leb (nodes t) slots s))
+
+      pub left-deep : 65 < depth t → left p ≡ refused (refusal 6 p)
+      unfolding fitsCheck
+      left-deep d = turn (refused (refusal 6 p)) (rw (lt-leb (depth t) 65 d))
+
+      pub left-full : depth t ≤ 65 → slots < nodes t → left p ≡ refused (refusal 7 p)
+      unfolding fitsCheck
+      left-full d s = turn (refused (refusal 7 p)) (rw (le-leb (depth t) 65 d, lt-leb (nodes t) slots s))
+
+  -- ---- the loop
+
+  -- the tree of the particles before p, and what has been checked
+  pub record Building (slots : ℕ) (m next tail : List ℕ) (q : Quadtree) (p : ℕ) : Type 0 where
+    pub holds : Holds at (upTo p) m q
+    pub linked : Linked at next tail p
+    pub extent : q .extent ≡ extentOf (coverFirst at p)
+    pub check : treeCheck at (particles at) slots ≡ left (particles at) slots p
+
+  no-tree : none ≡ treeIn at nowhere (upTo 0)
+  unfolding treeIn
+  no-tree = sym (grow-none at 66 nowhere)
+
+  no-extent : nowhere ≡ extentOf (coverFirst at 0)
+  unfolding extentOf coverAll
+  no-extent = refl
+
+  pub build-start : (m next tail : List ℕ) → Building (length m / 8) m next tail (record { extent = nowhere; root = 0; nodes = 0; deepest = 0 }) 0
+  build-start m next tail =
+      record {
+        holds = record { tree = none; root = refl; stored = tt; cells = no-tree; most = omega arith; deepest = refl; count = refl; below = tt; once = tt; room = omega arith };
+        linked = record { links = λ i l. absurd (omega arith); tails = λ i l f. absurd (omega arith) };
+        extent = no-extent;
+        check = check-start (particles at) (length m / 8);
+      }
+
+  module _ (slots : ℕ) (m next tail : List ℕ) (q : Quadtree) (p : ℕ) (b : Building slots m next tail q p) (ranged : Ranged at (particles at)) (l : p < particles at) where
+    first-empty : p ≡ 0 → q .root ≡ 0
+    first-empty z = none-root (b .holds .tree) (b .holds .root) (holds-is at (upTo p) m q (b .holds))
+      where
+        none-root : (t : Tree ℕ) → q .root ≡ lead t → Is at (q .extent) (inCells (q .extent) t) (upTo p) → q .root ≡ 0
+        none-root none e h = e
+        none-root (leaf s is) e h = absurd (omega (arith, h .2, ap (λ (i : ℕ). length (upTo i)) z))
+        none-root (node s t0 t1 t2 t3) e h = absurd (true≢false (ap (λ (i : ℕ). alike at (upTo i)) (sym z) ∙ h .1))
+
+    pub build-follows : Follows at q p
+    build-follows = record { extent = b .extent; empty = first-empty; ranged = λ i k. ranged i (omega arith); read = omega arith }
+
+    pub build-inserts : (c : Covered) → Extends at q p c → particles at ≤ 4096 → length next ≡ particles at → length tail ≡ particles at → Inserts at m next tail q c p
+    build-inserts c x few links tails =
+        record {
+          puts = record { holds = b .holds; linked = b .linked; ranged = λ i k. ranged i (omega arith); few = omega arith; read = omega arith; in-next = omega arith; in-tail = omega arith };
+          covers = x .covers;
+        }
+
+    module _ (c : Covered) (x : Extends at q p c) (w a d : List ℕ) (s : length w / 8 ≡ slots) where
+      pub build-done : (r : Quadtree) → Placed at w a d (c .extent) p (Done r) → Building slots w a d r (p + 1)
+      build-done r (h, e, k) =
+          let t : inCells (c .extent) (h .tree) ≡ treeIn at (c .extent) (upTo (p + 1)) = subst (λ (c : Extent). inCells c (h .tree) ≡ treeIn at c (upTo (p + 1))) e (h .cells) in
+          record {
+            holds = h;
+            linked = k;
+            extent = e ∙ x .extent;
+            check =
+                b .check
+                ∙ left-fine (particles at) slots (c .extent) p l (x .extent) (subst (λ (n : ℕ). n ≤ 65) (sym (cells-depth (c .extent) (h .tree)) ∙ ap depth t) (h .most))
+                (subst (λ (n : ℕ). n ≤ slots) (sym (cells-nodes (c .extent) (h .tree) ∙ h .count) ∙ ap nodes t) (fit (h .room)));
+          }
+        where
+          fit : r .nodes * 8 ≤ length w → r .nodes ≤ slots
+          fit z = omega arith
+
+      pub build-deep : Placed at w a d (c .extent) p Deep → treeCheck at (particles at) slots ≡ refused (refusal 6 p)
+      build-deep h = b .check ∙ left-deep (particles at) slots (c .extent) p l (x .extent) h
+
+      pub build-full : Placed at w a d (c .extent) p Full → treeCheck at (particles at) slots ≡ refused (refusal 7 p)
+      build-full h = b .check ∙ left-full (particles at) slots (c .extent) p l (x .extent) (h .0) (short (h .1))
+        where
+          short : {k : ℕ} → length w < k * 8 → slots < k
+          short z = omega arith
+
+  leaves-map : (P Q : List ℕ → Type 0) → ((js : List ℕ) → P js → Q js) → (t : Tree ℕ) → EachLeaf (λ _. P) t → EachLeaf (λ _. Q) t
+  leaves-map P Q f none h = tt
+  leaves-map P Q f (leaf s js) h = f js h
+  leaves-map P Q f (node s t0 t1 t2 t3) h = (leaves-map P Q f t0 (h .0), leaves-map P Q f t1 (h .1), leaves-map P Q f t2 (h .2), leaves-map P Q f t3 (h .3))
+
+  pub holds-stands : (n : ℕ) (m next tail : List ℕ) (q : Quadtree) → Ranged at n → Holds at (upTo n) m q → Linked at next tail n → q .extent ≡ extentOf (coverFirst at n) → Stands at n m next q
+  unfolding treeOf
+  holds-stands n m next tail q r h k e =
+      record {
+        tree = h .tree;
+        leads = stored-leads m next (q .root) (h .tree) (h .root) (h .stored) (leaves-map (Chain at (upTo n)) (Chained next) (chain-follows at n next tail k) (h .tree) (holds-chains at n m q h (ranged-points at n r)));
+        is = h .cells ∙ ap (λ (c : Extent). treeIn at c (upTo n)) e;
+        levels = h .most;
+        count = h .count;
+        below = h .below;
+        once = h .once;
+        room = h .room;
+      }
+
+  -- with no particles there is no root
+  pub stands-none : (m next : List ℕ) (q : Quadtree) → Stands at 0 m next q → q .root ≡ 0
+  unfolding treeOf
+  stands-none m next q s = go (s .tree) (s .is ∙ empty) (s .leads)
+    where
+      empty : treeOf at 0 ≡ none
+      empty = unfold treeIn in grow-none at 66 (extentOf (coverFirst at 0))
+
+      go : (t : Tree ℕ) → inCells (q .extent) t ≡ none → Leads m next (q .root) t → q .root ≡ 0
+      go none e h = h
+      go (leaf z is) e h = let y : _≡_ {A = ℕ} 0 1 = cc in absurd (omega arith)
+      go (node z t0 t1 t2 t3) e h = let y : _≡_ {A = ℕ} 0 1 = cc in absurd (omega arith)
+
+  -- after the last particle
+  pub build-end : (slots : ℕ) (m next tail : List ℕ) (q : Quadtree) (p : ℕ) → Building slots m next tail q p → Ranged at (particles at) → p ≤ particles at → particles at ≤ p → length m / 8 ≡ slots → Builds at m next (Built.Tree q)
+  build-end slots m next tail q p b r le ge s =
+      let n : ℕ = particles at in
+      let z : p ≡ n = omega arith in
+      let e : q .extent ≡ extentOf (coverFirst at n) = b .extent ∙ ap (λ (i : ℕ). extentOf (coverFirst at i)) z in (
+        ap (treeCheck at n) s ∙ b .check ∙ left-end n slots p ge,
+        holds-stands n m next tail q r (subst (λ (i : ℕ). Holds at (upTo i) m q) z (b .holds)) (subst (λ (i : ℕ). Linked at next tail i) z (b .linked)) e,
+        e,
+      )

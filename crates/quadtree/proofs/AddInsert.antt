@@ -1,0 +1,254 @@
+-- The turns of wrapping, and what an insertion with a covered extent does or refuses.
+use mathlib.Core.Path.{_≡_, refl, sym, ap, _∙_, subst}
+use mathlib.Core.Bool.{Bool, true, false}
+use mathlib.Core.List.{List, [], _∷_, _++_}
+use Prim.Native.Nat.{ℕ, zero, suc, _+_, _-_, _*_, _/_, _^_, _≤_, _<_}
+use native.Mathlib.Omega.{arith}
+use lib.Dec.{T}
+use lib.IntN.{ℤ}
+use lib.ListN.{length, getD, set}
+use lib.Ieee.{Float}
+use Rattle.rules.specs.declared.Extent.{Extent}
+use Rattle.rules.specs.Plain.{upTo}
+use Rattle.rules.specs.Number.{within, xAt, yAt}
+use Rattle.rules.specs.Floor.{floor}
+use Rattle.rules.specs.Cell.{quarter}
+use Rattle.rules.specs.Cover.{Square, inside, holds, extentOf}
+use Rattle.rules.specs.Tree.{Tree, none, leaf, node, depth, nodes, treeIn, greatestLevel}
+use Rattle.rules.proofs.CoverTerms.{Grows, done, more, next}
+use Rattle.rules.proofs.CellList.{In}
+use Rattle.rules.proofs.CellInside.{Inside}
+use Rattle.rules.proofs.CellInsert.{insertT}
+use Rattle.rules.proofs.CellIs.{Is}
+use Rattle.rules.proofs.CellCount.{upTo-snoc}
+use Rattle.rules.proofs.CellRule.{insert-tree, insert-none}
+use Rattle.quadtree.specs.declared.Quadtree.{Quadtree}
+use Rattle.quadtree.specs.declared.cover.Doubled.{Doubled}
+use Rattle.quadtree.specs.declared.cover.Covered.{Covered}
+use Rattle.quadtree.specs.declared.add.Inserted.the-variants.{Done, Deep, Full}
+use Rattle.quadtree.specs.Slots.{word, putInternal, putLeaf, inCells}
+use Rattle.quadtree.specs.Cover.{squareOf, Reachable, Near, DoubledTo, CoveredTo}
+use Rattle.quadtree.specs.Add.{lead, Stored, Holds, childless, Linked, Ranged, Puts, Placed, Covers, Wraps, Wrapped, Enlarges, Inserts}
+use Rattle.quadtree.proofs.CoverEnds.{doubled-square}
+use Rattle.quadtree.proofs.CoverLaws.{Lies, covered-grows}
+use Rattle.quadtree.proofs.Slots.{internal-length, internal-tag, leaf-length, leaf-tag}
+use Rattle.quadtree.proofs.SlotsTree.{lead-le}
+use Rattle.quadtree.proofs.AddChain.{upTo-in, in-upTo, begin-linked}
+use Rattle.quadtree.proofs.AddHold.{cells-depth, cells-nodes, holds-is}
+use Rattle.quadtree.proofs.AddWrap.{inExtent, Internal, leaf-regrown, wrappedIn, wrap-holds, next-near, next-within, next-less, wrap-deep, wrap-full}
+use Rattle.quadtree.proofs.AddPlaced.{few, begun}
+
+is-T : (b : Bool) → b ≡ true → T b
+is-T b e = subst T (sym e) tt
+
+-- a root whose word is 0 is internal
+pub root-node : (m : List ℕ) (t : Tree ℕ) (r : ℕ) → r ≡ lead t → 0 < r → word m (r - 1) 0 ≡ 0 → Stored m t → (s : ℕ) × (t0 : Tree ℕ) × (t1 : Tree ℕ) × (t2 : Tree ℕ) × (t3 : Tree ℕ) × (t ≡ node s t0 t1 t2 t3)
+root-node m none r e l z h = absurd (omega arith)
+root-node m (leaf s is) r e l z h = let y : r - 1 ≡ s = omega arith in absurd (omega (arith, ap (λ (j : ℕ). word m j 0) y))
+root-node m (node s t0 t1 t2 t3) r e l z h = (s, t0, t1, t2, t3, refl)
+
+-- any other is a leaf
+pub root-leaf : (m : List ℕ) (t : Tree ℕ) (r : ℕ) → r ≡ lead t → 0 < r → (word m (r - 1) 0 ≡ 0 → ⊥) → Stored m t → (s : ℕ) × (is : List ℕ) × (t ≡ leaf s is)
+root-leaf m none r e l z h = absurd (omega arith)
+root-leaf m (leaf s is) r e l z h = (s, is, refl)
+root-leaf m (node s t0 t1 t2 t3) r e l z h = let y : r - 1 ≡ s = omega arith in absurd (z (ap (λ (j : ℕ). word m j 0) y ∙ h .0))
+
+pub root-slot : (at : List Float) (is m : List ℕ) (q : Quadtree) → Holds at is m q → 0 < q .root → (q .root - 1) * 8 + 8 ≤ length m
+root-slot at is m q h l = omega (arith, h .root, lead-le (q .nodes) (h .tree) (h .below), h .room)
+
+-- one doubling less
+grows-some : (x y : ℤ) {n : ℕ} {s t : Square} → Grows x y n s t → 0 < n → (inside s x y ≡ false) × Grows x y (n - 1) (next s x y) t
+grows-some x y (done e) l = absurd (omega arith)
+grows-some x y (more {n = n} {s = s} {t = t} e g) l = (e, subst (λ (k : ℕ). Grows x y k (next s x y) t) (let z : n ≡ suc n - 1 = omega arith in z) g)
+
+grows-none : (x y : ℤ) {n : ℕ} {s t : Square} → Grows x y n s t → n ≡ 0 → s ≡ t
+grows-none x y (done e) z = refl
+grows-none x y (more e g) z = absurd (omega arith)
+
+module _ (at : List Float) where
+  in-range : (p : ℕ) → Ranged at p → (i : ℕ) → In i (upTo p) → T (within (xAt at i)) × T (within (yAt at i))
+  in-range p h i m = let r = h i (in-upTo p i m) in (is-T (within (xAt at i)) (r .0), is-T (within (yAt at i)) (r .1))
+
+  all-lie : (p : ℕ) (e : Extent) → ((i : ℕ) → i < p → Inside at e i) → (i : ℕ) → In i (upTo p) → Lies e (xAt at i) (yAt at i)
+  all-lie p e h i m = let w = h i (in-upTo p i m) in record { across = w .x; along = w .y }
+
+  -- ---- the turns of wrapping
+
+  module _ (m : List ℕ) (q : Quadtree) (to : Extent) (p n : ℕ) (w : Wraps at m q to p n) where
+    -- how many doublings are left makes the point outside or inside
+    module _ (some : 0 < n) where
+      rest : (inside (squareOf (q .extent)) (floor (xAt at p)) (floor (yAt at p)) ≡ false) × Grows (floor (xAt at p)) (floor (yAt at p)) (n - 1) (next (squareOf (q .extent)) (floor (xAt at p)) (floor (yAt at p))) (squareOf to)
+      rest = grows-some (floor (xAt at p)) (floor (yAt at p)) (w .grows) some
+
+      pub wrap-asks : Near (q .extent) (xAt at p) (yAt at p) × (inside (squareOf (q .extent)) (floor (xAt at p)) (floor (yAt at p)) ≡ false)
+      wrap-asks = (w .near, rest .0)
+
+      lie : (i : ℕ) → In i (upTo p) → Lies (q .extent) (xAt at i) (yAt at i)
+      lie = all-lie p (q .extent) (w .inside)
+
+      range : (i : ℕ) → In i (upTo p) → T (within (xAt at i)) × T (within (yAt at i))
+      range = in-range p (w .ranged)
+
+      module _ (d : Doubled) (f : DoubledTo (q .extent) (floor (xAt at p)) (floor (yAt at p)) d) where
+        pub wrap-quadrant : d .quadrant < 4
+        wrap-quadrant = next-less at p (upTo p) range (q .extent) (w .near) lie (rest .0) f
+
+        pub wrap-turn : (b : List ℕ) → b ≡ putInternal m (q .nodes) (set childless (d .quadrant) (q .root)) → Wraps at b (wrappedIn at (d .extent) q) to p (n - 1)
+        wrap-turn b e =
+            let (s, t0, t1, t2, t3, z) = root-node m (w .holds .tree) (q .root) (w .holds .root) (w .rooted) (w .internal) (w .holds .stored) in
+            let room : (q .nodes + 1) * 8 ≤ length m = omega (arith, w .room) in
+            let x : q .nodes + 1 - 1 ≡ q .nodes = omega arith in
+            let tag : word (putInternal m (q .nodes) (set childless (d .quadrant) (q .root))) (q .nodes) 0 ≡ 0 = internal-tag m (q .nodes) (set childless (d .quadrant) (q .root)) (omega arith) in
+            let after = next-within at p (upTo p) range (q .extent) (w .near) lie (rest .0) f in
+            record {
+              holds = wrap-holds at (upTo p) m q (w .holds) s t0 t1 t2 t3 z (d .extent) (d .quadrant) wrap-quadrant (f .old) lie room (omega (arith, w .small)) (omega (arith, w .levels)) b e;
+              rooted = omega arith;
+              internal = ap (λ (j : ℕ). word b j 0) x ∙ ap (λ (b : List ℕ). word b (q .nodes) 0) e ∙ tag;
+              near = next-near at p (upTo p) range (q .extent) (w .near) lie (rest .0) f;
+              ranged = w .ranged;
+              inside = λ i l. (let a = after i (upTo-in p i l) in record { x = a .across; y = a .along });
+              grows = subst (λ (s : Square). Grows (floor (xAt at p)) (floor (yAt at p)) (n - 1) s (squareOf to)) (sym (doubled-square (w .near) (rest .0) f)) (rest .1);
+              end = w .end;
+              levels = omega (arith, w .levels);
+              room = omega (arith, w .room, ap length e, internal-length m (q .nodes) (set childless (d .quadrant) (q .root)));
+              small = omega (arith, w .small);
+              read = w .read;
+            }
+
+    pub wrap-root : q .root ≤ q .nodes
+    wrap-root = omega (arith, w .holds .root, lead-le (q .nodes) (w .holds .tree) (w .holds .below))
+
+    pub wrap-end : n ≤ 0 → Wrapped at m to p q
+    wrap-end z =
+        let e : squareOf (q .extent) ≡ squareOf to = grows-none (floor (xAt at p)) (floor (yAt at p)) (w .grows) (omega arith) in
+        record { holds = w .holds; extent = w .near .reachable .is ∙ ap (λ (s : Square). extentOf (holds s)) e ∙ sym (w .end .is); rooted = w .rooted }
+
+  -- ---- an insertion
+
+  module _ (m nx tail : List ℕ) (q : Quadtree) (c : Covered) (p : ℕ) (g : Puts at m nx tail q p) where
+    -- the first particle
+
+    module _ (z : q .root ≡ 0) where
+      no-points : upTo p ≡ []
+      no-points = nothing (g .holds .tree) (sym (g .holds .root) ∙ z) (holds-is at (upTo p) m q (g .holds))
+        where
+          nothing : (t : Tree ℕ) → lead t ≡ 0 → Is at (q .extent) (inCells (q .extent) t) (upTo p) → upTo p ≡ []
+          nothing none e h = h
+          nothing (leaf s is) e h = absurd (omega arith)
+          nothing (node s t0 t1 t2 t3) e h = absurd (omega arith)
+
+      first-cells : leaf (c .extent) (p ∷ []) ≡ treeIn at (c .extent) (upTo (p + 1))
+      first-cells =
+          let e = c .extent in
+          let a : insertT at p e 65 none ≡ leaf e (p ∷ []) = insert-none at p e 65 in
+          sym a ∙ insert-tree at p none e (upTo p) no-points (subst (λ (t : Tree Extent). depth t ≤ 65) (sym a) (omega arith)) ∙ ap (treeIn at e) (sym (upTo-snoc p))
+
+      pub first-full : length m / 8 ≡ 0 → (a b : List ℕ) → Placed at m a b (c .extent) p Full
+      first-full e a b = (subst (λ (t : Tree Extent). depth t ≤ 65) first-cells (omega arith), subst (λ (t : Tree Extent). length m < nodes t * 8) first-cells (omega arith))
+
+      pub first-placed : (w a b : List ℕ) → (length m / 8 ≡ 0 → ⊥) → w ≡ putLeaf m 0 p → a ≡ set nx p 0 → b ≡ set tail p p → Placed at w a b (c .extent) p (Done (record { extent = c .extent; root = 1; nodes = 1; deepest = 0 }))
+      first-placed w a b n ew ea eb =
+          let room : 8 ≤ length m = fits (length m) n in (
+            record {
+              tree = leaf 0 (p ∷ []);
+              root = refl;
+              stored = ap (λ (w : List ℕ). word w 0 0) ew ∙ leaf-tag m 0 p (omega arith);
+              cells = first-cells;
+              most = omega arith;
+              deepest = refl;
+              count = refl;
+              below = omega arith;
+              once = tt;
+              room = omega (arith, ap length ew, leaf-length m 0 p);
+            },
+            refl,
+            subst (λ (a : List ℕ). Linked at a b (p + 1)) (sym ea) (subst (λ (b : List ℕ). Linked at (set nx p 0) b (p + 1)) (sym eb) (begun at m nx tail q p g (λ i k e. subst (In i) no-points k))),
+          )
+        where
+          fits : (n : ℕ) → (n / 8 ≡ 0 → ⊥) → 8 ≤ n
+          fits n h = omega arith
+
+    -- the extent has not grown
+
+    pub unmoved : Covers at q c p → c .doublings ≡ 0 → q .extent ≡ c .extent
+    unmoved f z =
+        let e : squareOf (q .extent) ≡ squareOf (c .extent) = grows-none (floor (xAt at p)) (floor (yAt at p)) (covered-grows (f .near) (f .covered)) z in
+        f .near .reachable .is ∙ ap (λ (s : Square). extentOf (holds s)) e ∙ sym (f .covered .reachable .is)
+
+    -- a leaf root
+
+    pub leaf-puts : 0 < q .root → (word m (q .root - 1) 0 ≡ 0 → ⊥) → Puts at m nx tail (inExtent (c .extent) q) p
+    leaf-puts l n =
+        let (s, is, z) = root-leaf m (g .holds .tree) (q .root) (g .holds .root) l n (g .holds .stored) in
+        record { holds = leaf-regrown at (upTo p) m q (g .holds) (c .extent) s is z; linked = g .linked; ranged = g .ranged; few = g .few; read = g .read; in-next = g .in-next; in-tail = g .in-tail }
+
+    -- an internal root
+
+    module _ (f : Enlarges at m q c p) where
+      abbrev e : Extent
+      e = q .extent
+
+      abbrev v : Extent
+      v = c .extent
+
+      abbrev u : Tree Extent
+      u = inCells (q .extent) (g .holds .tree)
+
+      go : Grows (floor (xAt at p)) (floor (yAt at p)) (suc (c .doublings - 1)) (squareOf e) (squareOf v)
+      go = subst (λ (k : ℕ). Grows (floor (xAt at p)) (floor (yAt at p)) k (squareOf e) (squareOf v)) (let z : c .doublings ≡ suc (c .doublings - 1) = omega (arith, f .some) in z) (covered-grows (f .covers .near) (f .covers .covered))
+
+      before-ranged : Ranged at p
+      before-ranged i l = g .ranged i (omega arith)
+
+      levels : depth u ≡ q .deepest + 1
+      levels =
+          let (s, t0, t1, t2, t3, z) = root-node m (g .holds .tree) (q .root) (g .holds .root) (f .rooted) (f .internal) (g .holds .stored) in
+          cells-depth e (g .holds .tree) ∙ one (g .holds .tree) (subst (λ (t : Tree ℕ). 0 < depth t) (sym z) (omega arith)) (g .holds .deepest)
+        where
+          one : (t : Tree ℕ) → 0 < depth t → depth t - 1 ≡ q .deepest → depth t ≡ q .deepest + 1
+          one t a b = omega arith
+
+      count : nodes u ≡ q .nodes
+      count = cells-nodes e (g .holds .tree) ∙ g .holds .count
+
+      internal : Internal at u
+      internal =
+          let (s, t0, t1, t2, t3, z) = root-node m (g .holds .tree) (q .root) (g .holds .root) (f .rooted) (f .internal) (g .holds .stored) in
+          subst (λ (t : Tree ℕ). Internal at (inCells e t)) (sym z) tt
+
+      doublings-are : suc (c .doublings - 1) ≡ c .doublings
+      doublings-are = omega (arith, f .some)
+
+      pub enlarge-deep : greatestLevel < q .deepest + c .doublings → (w a b : List ℕ) → Placed at w a b v p Deep
+      enlarge-deep l w a b =
+          subst (λ (x : List ℕ). 65 < depth (treeIn at v x)) (sym (upTo-snoc p))
+          (wrap-deep at p (upTo p) (in-range p before-ranged) (c .doublings - 1) e u (f .covers .near) (all-lie p e (f .covers .inside)) internal (holds-is at (upTo p) m q (g .holds)) v (f .covers .covered .reachable) go (omega (arith, levels, doublings-are)))
+
+      module _ (shallow : q .deepest + c .doublings ≤ greatestLevel) where
+        pub enlarge-full : length m / 8 < q .nodes + c .doublings + 1 → (a b : List ℕ) → Placed at m a b v p Full
+        enlarge-full l a b =
+            let r = wrap-full at p (upTo p) (in-range p before-ranged) (c .doublings - 1) e u (f .covers .near) (all-lie p e (f .covers .inside)) internal (holds-is at (upTo p) m q (g .holds)) v (f .covers .covered .reachable) go (omega (arith, levels, doublings-are)) in
+            subst (λ (x : List ℕ). (depth (treeIn at v x) ≤ 65) × (length m < nodes (treeIn at v x) * 8)) (sym (upTo-snoc p)) (r .0, more (r .1))
+          where
+            more : {k : ℕ} → k ≡ nodes u + suc (c .doublings - 1) + 1 → length m < k * 8
+            more e = omega (arith, count, doublings-are)
+
+        pub enlarge-asks : q .nodes + c .doublings + 1 ≤ length m / 8 → Wraps at m q v p (c .doublings)
+        enlarge-asks l =
+            record {
+              holds = g .holds;
+              rooted = f .rooted;
+              internal = f .internal;
+              near = f .covers .near;
+              ranged = before-ranged;
+              inside = f .covers .inside;
+              grows = covered-grows (f .covers .near) (f .covers .covered);
+              end = f .covers .covered .reachable;
+              levels = shallow;
+              room = omega arith;
+              small = omega (arith, few at m nx tail q p g, shallow);
+              read = g .read;
+            }
+
+      pub enlarge-puts : (w : List ℕ) (r : Quadtree) → Wrapped at w v p r → Puts at w nx tail r p
+      enlarge-puts w r h = record { holds = h .holds; linked = g .linked; ranged = g .ranged; few = g .few; read = g .read; in-next = g .in-next; in-tail = g .in-tail }

@@ -1,0 +1,181 @@
+-- What an insertion asks of the functions it calls, and what it has done or refused when they are through.
+use mathlib.Core.Path.{_≡_, refl, sym, ap, _∙_, subst, subst₂}
+use mathlib.Core.Bool.{true, false}
+use mathlib.Core.List.{List, [], _∷_, _++_}
+use Prim.Native.Nat.{ℕ, suc, _+_, _-_, _*_, _/_, _^_, _≤_, _<_, max}
+use native.Mathlib.Omega.{arith}
+use lib.ListN.{length, getD, set}
+use lib.Ieee.{Float}
+use Rattle.rules.specs.declared.Extent.{Extent}
+use Rattle.rules.specs.Plain.{upTo}
+use Rattle.rules.specs.Number.{within, xAt, yAt}
+use Rattle.rules.specs.Tree.{Tree, none, leaf, node, depth, nodes, same, treeIn, greatestLevel}
+use Rattle.rules.proofs.CellList.{In, both}
+use Rattle.rules.proofs.CellChain.{Points, Chain}
+use Rattle.rules.proofs.CellRule.{points}
+use Rattle.quadtree.specs.declared.Quadtree.{Quadtree}
+use Rattle.quadtree.specs.declared.add.Inserted.the-variants.{Done, Deep, Full}
+use Rattle.quadtree.specs.Slots.{EachSlot}
+use Rattle.quadtree.specs.Add.{lead, Holds, pick, side, Reaches, gap, hung, splitted, Earliest, Linked, Ranged, Puts, FoundLeaf, FoundHole, Splits, Placed, Chains}
+use Rattle.quadtree.proofs.Slots.{Same}
+use Rattle.quadtree.proofs.SlotsTree.{over, upd}
+use Rattle.quadtree.proofs.AddWay.{side-lt, reach-each, reach-depth}
+use Rattle.quadtree.proofs.AddSplit.{splitT, gap-le, split-length, split-same, split-stored}
+use Rattle.quadtree.proofs.AddChain.{upTo-in, in-upTo, begin-linked, join-linked, chain-first}
+use Rattle.quadtree.proofs.AddHold.{holds-few, hole-new, leaf-new, leaf-chain, Replaces, next-full, next-holds, leaf-level, node-level, joins, hangs, splits, too-deep, joined-stored, hung-length, hung-same, hung-stored}
+
+pub ranged-points : (at : List Float) (n : ℕ) → Ranged at n → Points at (upTo n)
+ranged-points at n h = points at (upTo n) (λ i m. let r = h i (in-upTo n i m) in both (within (xAt at i)) (within (yAt at i)) (r .0) (r .1))
+
+module _ (at : List Float) (m next tail : List ℕ) (q : Quadtree) (p : ℕ) (g : Puts at m next tail q p) where
+  before-points : Points at (upTo p)
+  before-points = ranged-points at p (λ i l. g .ranged i (omega arith))
+
+  own : same at p p ≡ true
+  own = ranged-points at (p + 1) (g .ranged) p (upTo-in (p + 1) p (omega arith))
+
+  -- at most 1 + 64 slots a particle
+  pub few : q .nodes ≤ 262144
+  few = omega (arith, holds-few at p m q (g .holds), g .few)
+
+  -- p has a chain of its own, if no particle before it has its point
+  pub begun : ((i : ℕ) → In i (upTo p) → same at i p ≡ true → ⊥) → Linked at (set next p 0) (set tail p p) (p + 1)
+  begun new = begin-linked at p next tail (g .linked) (g .in-next) (g .in-tail) own (λ i l e. new i (upTo-in p i l) e)
+
+  -- ---- at a leaf
+
+  module _ (s l f : ℕ) (c : Extent) (h : FoundLeaf at m q p s l f c) where
+    abbrev u : Tree ℕ
+    u = leaf s (f ∷ h .rest)
+
+    way : Reaches at p l (q .extent) (h .holds .tree) c u
+    way = h .reached
+
+    first-of : (f < p) × Earliest at f
+    first-of = chain-first at p f (h .rest) (leaf-chain at p m q (h .holds) l c s (f ∷ h .rest) way before-points)
+
+    pub leaf-first : f < p
+    leaf-first = first-of .0
+
+    pub leaf-most : l ≤ 64
+    leaf-most = leaf-level at p m q (h .holds) l c s (f ∷ h .rest) way
+
+    leaf-below : s < q .nodes
+    leaf-below = reach-each at p l (q .extent) (h .holds .tree) c u way (λ j. j < q .nodes) (h .holds .below)
+
+    -- the same point: p joins the chain, and nothing is written in the slots
+
+    pub join-asks : Chains next tail f p
+    join-asks =
+        let t = g .linked .tails f leaf-first (first-of .1) in
+        record { first = omega (arith, leaf-first, g .in-tail); last = omega (arith, t .less, g .in-next); new = g .in-next; few = g .few }
+
+    pub placed-joined : same at f p ≡ true → (a b : List ℕ) → a ≡ set (set next (getD tail f 0) (p + 1)) p 0 → b ≡ set tail f p → Placed at m a b (q .extent) p (Done q)
+    placed-joined e a b ea eb =
+        let v = joins at p m q (h .holds) l c s f (h .rest) way e in (
+          next-holds at p m q (h .holds) l (64 - l) c u (leaf s (f ∷ h .rest ++ (p ∷ []))) (q .nodes) 1 way v m q
+              (joined-stored at p m q (h .holds) l c s f (h .rest) way) (λ j y n. (refl, refl)) (h .holds .room) refl refl refl
+              (level (depth (h .holds .tree)) (h .holds .deepest) (reach-depth at p l (q .extent) (h .holds .tree) c u way)),
+          refl,
+          subst₂ (λ (x y : List ℕ). Linked at x y (p + 1)) (sym ea) (sym eb) (join-linked at p next tail (g .linked) (g .in-next) (g .in-tail) own f leaf-first (first-of .1) e),
+        )
+      where
+        level : (d : ℕ) → d - 1 ≡ q .deepest → l + 1 ≤ d → q .deepest ≡ max (q .deepest) (l + 1 - 1)
+        level d e h = omega arith
+
+    -- another point
+
+    module _ (ne : same at f p ≡ false) (k : ℕ) (ek : k ≡ gap at p (64 - l) c f) where
+      pub placed-deep : k ≡ 64 - l → (w a b : List ℕ) → Placed at w a b (q .extent) p Deep
+      placed-deep e w a b = too-deep at p m q (h .holds) l c s f (h .rest) way ne (sym ek ∙ e)
+
+      pub gap-most : k ≤ 64
+      gap-most = omega (arith, gap-le at p (64 - l) c f)
+
+      module _ (shallow : k ≡ 64 - l → ⊥) where
+        less : k < 64 - l
+        less = other (gap-le at p (64 - l) c f)
+          where
+            other : gap at p (64 - l) c f ≤ 64 - l → k < 64 - l
+            other z = omega arith
+
+        split-replaces : Replaces at p l (64 - l) c u (splitT at p (f ∷ h .rest) k c s (q .nodes)) (q .nodes) (q .nodes + (k + 2)) (k + 2)
+        split-replaces = splits at p m q (h .holds) l c s f (h .rest) k way ne (sym ek) less
+
+        pub placed-split-full : (n : ℕ) → n ≡ q .nodes + k + 2 → length m / 8 < n → (a b : List ℕ) → Placed at m a b (q .extent) p Full
+        placed-split-full n e lt a b = next-full at p m q (h .holds) l (64 - l) c u (splitT at p (f ∷ h .rest) k c s (q .nodes)) (q .nodes + (k + 2)) (k + 2) way split-replaces (omega arith)
+
+        pub split-asks : (n : ℕ) → n ≡ q .nodes + k + 2 → n ≤ length m / 8 → Splits (length m) (length at) s (q .nodes) k f p
+        split-asks n e fits =
+            record {
+              own = omega (arith, leaf-below, h .holds .room);
+              room = omega arith;
+              small = omega (arith, few, gap-most);
+              first = omega (arith, leaf-first, g .few);
+              new = g .few;
+              first-place = omega (arith, leaf-first, g .read);
+              new-place = g .read;
+            }
+
+        pub placed-split : (w a b : List ℕ) (r : Quadtree) → w ≡ splitted at p f k c s (q .nodes) m → a ≡ set next p 0 → b ≡ set tail p p → r .nodes ≤ length m / 8
+            → r .extent ≡ q .extent → r .root ≡ q .root → r .nodes ≡ q .nodes + k + 2 → r .deepest ≡ max (q .deepest) (l + k + 1) → Placed at w a b (q .extent) p (Done r)
+        placed-split w a b r ew ea eb fits ex ro nn de =
+            let v : Tree ℕ = splitT at p (f ∷ h .rest) k c s (q .nodes) in
+            let z = split-asks (r .nodes) nn fits in (
+              subst (λ (w : List ℕ). Holds at (upTo (p + 1)) w r) (sym ew)
+                  (next-holds at p m q (h .holds) l (64 - l) c u v (q .nodes + (k + 2)) (k + 2) way split-replaces (splitted at p f k c s (q .nodes) m) r
+                  (split-stored at p (f ∷ h .rest) f k c s (q .nodes) m refl leaf-below (z .room) (z .small))
+                  (λ j y n. split-same at p f k c s (q .nodes) m j (λ e. n (ap (λ (i : ℕ). i + 1) (sym e))) y)
+                  (omega (arith, split-length at p f k c s (q .nodes) m)) ex ro (omega arith) (de ∙ ap (max (q .deepest)) (level l k))),
+              ex,
+              subst₂ (λ (x y : List ℕ). Linked at x y (p + 1)) (sym ea) (sym eb) (begun (leaf-new at p (upTo p) m q (h .holds) l c s f (h .rest) way ne)),
+            )
+          where
+            level : (l k : ℕ) → l + k + 1 ≡ l + (k + 2) - 1
+            level l k = omega arith
+
+  -- ---- at a hole
+
+  module _ (s k l : ℕ) (h : FoundHole at m q p s k l) where
+    abbrev d : Extent
+    d = h .cell
+
+    abbrev t : Tree ℕ
+    t = node s (h .t0) (h .t1) (h .t2) (h .t3)
+
+    empty : pick (h .t0) (h .t1) (h .t2) (h .t3) (side at p d) ≡ none
+    empty = ap (pick (h .t0) (h .t1) (h .t2) (h .t3)) (sym (h .quadrant)) ∙ h .empty
+
+    abbrev v : Tree ℕ
+    v = over s (upd (pick (h .t0) (h .t1) (h .t2) (h .t3)) (side at p d) (leaf (q .nodes) (p ∷ [])))
+
+    hang-replaces : Replaces at p l (64 - l) d t v (q .nodes) (q .nodes + 1) 2
+    hang-replaces = hangs at p m q (h .holds) l d s (h .t0) (h .t1) (h .t2) (h .t3) (h .reached) empty
+
+    pub hole-most : l ≤ 63
+    hole-most = node-level at p m q (h .holds) l d s (h .t0) (h .t1) (h .t2) (h .t3) (h .reached)
+
+    pub placed-hole-full : length m / 8 < q .nodes + 1 → (a b : List ℕ) → Placed at m a b (q .extent) p Full
+    placed-hole-full lt a b = next-full at p m q (h .holds) l (64 - l) d t v (q .nodes + 1) 2 (h .reached) hang-replaces (omega arith)
+
+    pub hang-asks : q .nodes + 1 ≤ length m / 8 → (s * 8 + 8 ≤ length m) × (k < 4) × ((q .nodes + 1) * 8 ≤ length m) × (q .nodes + 1 < 2 ^ 32) × (p < 4096)
+    hang-asks fits =
+        let b = reach-each at p l (q .extent) (h .holds .tree) d t (h .reached) (λ j. j < q .nodes) (h .holds .below) in
+        (omega (arith, b .0, h .holds .room), subst (λ (i : ℕ). i < 4) (sym (h .quadrant)) (side-lt at p d), omega arith, omega (arith, few), g .few)
+
+    pub placed-hung : (w a b : List ℕ) (r : Quadtree) → w ≡ hung p m s k (q .nodes) → a ≡ set next p 0 → b ≡ set tail p p → r .nodes ≤ length m / 8
+        → r .extent ≡ q .extent → r .root ≡ q .root → r .nodes ≡ q .nodes + 1 → r .deepest ≡ max (q .deepest) (l + 1) → Placed at w a b (q .extent) p (Done r)
+    placed-hung w a b r ew ea eb fits ex ro nn de =
+        let room : (q .nodes + 1) * 8 ≤ length m = omega arith in
+        let small : q .nodes + 1 < 2 ^ 32 = omega (arith, few) in (
+          subst (λ (w : List ℕ). Holds at (upTo (p + 1)) w r) (sym (ew ∙ ap (λ (i : ℕ). hung p m s i (q .nodes)) (h .quadrant)))
+              (next-holds at p m q (h .holds) l (64 - l) d t v (q .nodes + 1) 2 (h .reached) hang-replaces (hung p m s (side at p d) (q .nodes)) r
+              (hung-stored at p m q (h .holds) l d s (h .t0) (h .t1) (h .t2) (h .t3) (h .reached) room small)
+              (hung-same at p m q (h .holds) l d s (h .t0) (h .t1) (h .t2) (h .t3) (h .reached) room small (side at p d))
+              (omega (arith, hung-length at p m q (h .holds) l d s (h .t0) (h .t1) (h .t2) (h .t3) (h .reached) room small (side at p d))) ex ro nn (de ∙ ap (max (q .deepest)) (level l))),
+          ex,
+          subst₂ (λ (x y : List ℕ). Linked at x y (p + 1)) (sym ea) (sym eb) (begun (hole-new at p (upTo p) m q (h .holds) l d s (h .t0) (h .t1) (h .t2) (h .t3) (h .reached) empty)),
+        )
+      where
+        level : (l : ℕ) → l + 1 ≡ l + 2 - 1
+        level l = omega arith

@@ -1,0 +1,164 @@
+-- The turns of the loops that find a particle's way, count the levels that two share, and split a leaf.
+use mathlib.Core.Path.{_≡_, refl, sym, ap, ap₂, _∙_, subst}
+use mathlib.Core.Bool.{Bool, true, false}
+use mathlib.Core.List.{List, [], _∷_}
+use Prim.Native.Nat.{ℕ, zero, suc, _+_, _-_, _*_, _≤_, _<_}
+use native.Mathlib.Omega.{arith}
+use native.Mathlib.Numerals.{add-one}
+use lib.ListN.{length, getD, set}
+use lib.Ieee.{Float}
+use borrow.Author.Tests.{eq-eqb, ne-eqb}
+use Rattle.rules.specs.declared.Extent.{Extent}
+use Rattle.rules.specs.Plain.{branch, upTo}
+use Rattle.rules.specs.Number.{xAt, yAt}
+use Rattle.rules.specs.Cell.{quadrant, quarter}
+use Rattle.rules.specs.Tree.{Tree, none, leaf, node, depth, inQuarter}
+use Rattle.quadtree.specs.declared.Quadtree.{Quadtree}
+use Rattle.quadtree.specs.declared.indexer.Indexer.{Indexer}
+use Rattle.quadtree.specs.declared.indexer.Descent.{Descent}
+use Rattle.quadtree.specs.Indexer.{indexer, cellOf, Descends}
+use Rattle.quadtree.specs.Slots.{word, kids, first, putInternal, EachSlot, inCells}
+use Rattle.quadtree.specs.Add.{lead, Holds, childless, pick, side, Reaches, gap, splitted, FoundLeaf, FoundHole}
+use Rattle.quadtree.proofs.SlotsTree.{lead-each, leads}
+use Rattle.quadtree.proofs.AddWay.{side-lt, reach-each, reach-stored, reach-depth, reach-down}
+use Rattle.quadtree.proofs.AddHold.{reached, leaf-level, node-level}
+
+-- one of four numbers in a list
+leads-at : (k : ℕ → Tree ℕ) (q : ℕ) → q < 4 → getD (leads k) q 0 ≡ lead (k q)
+leads-at k zero l = refl
+leads-at k (suc zero) l = refl
+leads-at k (suc (suc zero)) l = refl
+leads-at k (suc (suc (suc zero))) l = refl
+leads-at k (suc (suc (suc (suc q)))) l = absurd (omega arith)
+
+lead-none : (t : Tree ℕ) → lead t ≡ 0 → t ≡ none
+lead-none none e = refl
+lead-none (leaf s is) e = absurd (omega arith)
+lead-none (node s t0 t1 t2 t3) e = absurd (omega arith)
+
+-- an indexer of a cell
+pub indexed : (i : Indexer) (c : Extent) → i ≡ indexer c → i ≡ indexer (cellOf i)
+indexed i c e = e ∙ ap indexer (sym (ap cellOf e))
+
+module _ (at : List Float) (p : ℕ) where
+  -- ---- one step down
+
+  module _ (c : Extent) (x y : Float) (r : Descent) (d : Descends c x y r) (ex : x ≡ xAt at p) (ey : y ≡ yAt at p) where
+    pub step-side : r .quadrant ≡ side at p c
+    step-side = d .quadrant ∙ ap₂ (quadrant c) ex ey
+
+    pub step-less : r .quadrant < 4
+    step-less = subst (λ (q : ℕ). q < 4) (sym step-side) (side-lt at p c)
+
+    pub step-own : r .indexer ≡ indexer (cellOf (r .indexer))
+    step-own = indexed (r .indexer) (quarter (r .quadrant) c) (d .indexer)
+
+    pub step-cell : cellOf (r .indexer) ≡ quarter (r .quadrant) c
+    step-cell = ap cellOf (d .indexer)
+
+  -- ---- the way down
+
+  -- the slot s stands l levels down on the way of p, for any tree that begins in slot r of the cell b
+  abbrev pub Way : List ℕ → ℕ → Extent → ℕ → Extent → ℕ → Type 0
+  Way m r b s c l = (q : Quadtree) (h : Holds at (upTo p) m q) → q .root ≡ r + 1 → q .extent ≡ b → (u : Tree ℕ) × Reaches at p l (q .extent) (h .tree) c u × (lead u ≡ s + 1)
+
+  pub way-start : (m : List ℕ) (r : ℕ) (b : Extent) → Way m r b r b 0
+  way-start m r b q h e f = (h .tree, (f, refl), sym (h .root) ∙ e)
+
+  module _ (m : List ℕ) (q : Quadtree) (h : Holds at (upTo p) m q) (s l : ℕ) (c : Extent) (u : Tree ℕ) (r : Reaches at p l (q .extent) (h .tree) c u) (e : lead u ≡ s + 1) where
+    pub way-slot : s * 8 + 8 ≤ length m
+    way-slot = let b = lead-each (λ j. j < q .nodes) u s e (reach-each at p l (q .extent) (h .tree) c u r (λ j. j < q .nodes) (h .below)) in omega (arith, h .room)
+
+    pub way-level : l ≤ 64
+    way-level = omega (arith, reach-depth at p l (q .extent) (h .tree) c u r, h .most, some u e)
+      where
+        some : (u : Tree ℕ) → lead u ≡ s + 1 → 0 < depth u
+        some none e = absurd (omega arith)
+        some (leaf s is) e = omega arith
+        some (node s t0 t1 t2 t3) e = omega arith
+
+  pub way-leaf : (m : List ℕ) (q : Quadtree) (h : Holds at (upTo p) m q) (s l : ℕ) (c : Extent) (u : Tree ℕ) → Reaches at p l (q .extent) (h .tree) c u → lead u ≡ s + 1 → (word m s 0 ≡ 0 → ⊥)
+      → FoundLeaf at m q p s l (word m s 0 - 1) c
+  way-leaf m q h s l c none r e n = absurd (omega arith)
+  way-leaf m q h s l c (leaf z []) r e n = let (js, g, f) = reached at p (upTo p) m q h l c (leaf z []) r in absurd (omega (arith, g .2, ap length (g .1)))
+  way-leaf m q h s l c (leaf z (i ∷ is)) r e n =
+      let y : z ≡ s = omega arith in
+      let t = reach-stored at p l (q .extent) (h .tree) c (leaf z (i ∷ is)) r m (h .stored) in
+      let f : i ≡ word m s 0 - 1 = omega (arith, ap (λ (j : ℕ). word m j 0) y) in
+      record { holds = h; rest = is; reached = subst (λ (f : ℕ). Reaches at p l (q .extent) (h .tree) c (leaf s (f ∷ is))) f (subst (λ (s : ℕ). Reaches at p l (q .extent) (h .tree) c (leaf s (i ∷ is))) y r) }
+  way-leaf m q h s l c (node z t0 t1 t2 t3) r e n =
+      let y : z ≡ s = omega arith in
+      absurd (n (ap (λ (j : ℕ). word m j 0) (sym y) ∙ reach-stored at p l (q .extent) (h .tree) c (node z t0 t1 t2 t3) r m (h .stored) .0))
+
+  -- an internal node: its level, and its child on the way
+  pub record Inner (m : List ℕ) (q : Quadtree) (h : Holds at (upTo p) m q) (s l : ℕ) (c : Extent) : Type 0 where
+    pub t0 : Tree ℕ
+    pub t1 : Tree ℕ
+    pub t2 : Tree ℕ
+    pub t3 : Tree ℕ
+    pub way : Reaches at p l (q .extent) (h .tree) c (node s t0 t1 t2 t3)
+    pub level : l ≤ 63
+    pub child : getD (kids m s) (side at p c) 0 ≡ lead (pick t0 t1 t2 t3 (side at p c))
+
+  pub way-inner : (m : List ℕ) (q : Quadtree) (h : Holds at (upTo p) m q) (s l : ℕ) (c : Extent) (u : Tree ℕ) → Reaches at p l (q .extent) (h .tree) c u → lead u ≡ s + 1 → word m s 0 ≡ 0 → Inner m q h s l c
+  way-inner m q h s l c none r e n = absurd (omega arith)
+  way-inner m q h s l c (leaf z is) r e n =
+      let y : z ≡ s = omega arith in
+      absurd (omega (arith, ap (λ (j : ℕ). word m j 0) y, reach-stored at p l (q .extent) (h .tree) c (leaf z is) r m (h .stored)))
+  way-inner m q h s l c (node z t0 t1 t2 t3) r e n =
+      let y : z ≡ s = omega arith in
+      let t = reach-stored at p l (q .extent) (h .tree) c (node z t0 t1 t2 t3) r m (h .stored) in
+      record {
+        t0 = t0;
+        t1 = t1;
+        t2 = t2;
+        t3 = t3;
+        way = subst (λ (s : ℕ). Reaches at p l (q .extent) (h .tree) c (node s t0 t1 t2 t3)) y r;
+        level = node-level at p m q h l c z t0 t1 t2 t3 r;
+        child = ap (λ (j : ℕ). getD (kids m j) (side at p c) 0) (sym y) ∙ ap (λ (ks : List ℕ). getD ks (side at p c) 0) (t .1) ∙ leads-at (pick t0 t1 t2 t3) (side at p c) (side-lt at p c);
+      }
+
+  module _ (m : List ℕ) (q : Quadtree) (h : Holds at (upTo p) m q) (s l : ℕ) (c : Extent) (i : Inner m q h s l c) (k : ℕ) (e : k ≡ side at p c) where
+    pub way-hole : getD (kids m s) k 0 ≡ 0 → FoundHole at m q p s k l
+    way-hole z =
+        let f : lead (pick (i .t0) (i .t1) (i .t2) (i .t3) (side at p c)) ≡ 0 = sym (i .child) ∙ ap (λ (j : ℕ). getD (kids m s) j 0) (sym e) ∙ z in
+        record { holds = h; cell = c; t0 = i .t0; t1 = i .t1; t2 = i .t2; t3 = i .t3; reached = i .way; quadrant = e; empty = ap (pick (i .t0) (i .t1) (i .t2) (i .t3)) e ∙ lead-none (pick (i .t0) (i .t1) (i .t2) (i .t3) (side at p c)) f }
+
+    pub way-down : (a : ℕ) → a ≡ getD (kids m s) k 0 → (a ≡ 0 → ⊥) → (u : Tree ℕ) × Reaches at p (l + 1) (q .extent) (h .tree) (quarter k c) u × (lead u ≡ a - 1 + 1)
+    way-down a z n =
+        let u : Tree ℕ = pick (i .t0) (i .t1) (i .t2) (i .t3) (side at p c) in
+        let f : a ≡ lead u = z ∙ ap (λ (j : ℕ). getD (kids m s) j 0) e ∙ i .child in (
+          u,
+          subst (λ (k : ℕ). Reaches at p (l + 1) (q .extent) (h .tree) (quarter k c) u) (sym e)
+              (subst (λ (n : ℕ). Reaches at p n (q .extent) (h .tree) (quarter (side at p c) c) u) (sym (add-one l)) (reach-down at p l (q .extent) (h .tree) c s (i .t0) (i .t1) (i .t2) (i .t3) (i .way))),
+          back a (lead u) f n,
+        )
+      where
+        back : (a b : ℕ) → a ≡ b → (a ≡ 0 → ⊥) → b ≡ a - 1 + 1
+        back a b e n = omega arith
+
+  -- ---- the levels that two particles share
+
+  module _ (l f : ℕ) (c : Extent) (lt : l < 64) where
+    one : 64 - l ≡ suc (64 - (l + 1))
+    one = omega arith
+
+    pub meet-more : (k : ℕ) → k ≡ side at p c → k ≡ quadrant c (xAt at f) (yAt at f) → gap at p (64 - l) c f ≡ suc (gap at p (64 - (l + 1)) (quarter k c) f)
+    unfolding inQuarter
+    meet-more k e g = rw (one, e, eq-eqb (side at p c) (quadrant c (xAt at f) (yAt at f)) (sym e ∙ g))
+
+    pub meet-stop : (k j : ℕ) → k ≡ side at p c → j ≡ quadrant c (xAt at f) (yAt at f) → (k ≡ j → ⊥) → gap at p (64 - l) c f ≡ 0
+    unfolding inQuarter
+    meet-stop k j e g n = rw (one, ne-eqb (side at p c) (quadrant c (xAt at f) (yAt at f)) (λ z. n (e ∙ z ∙ sym g)))
+
+  pub meet-end : (l f : ℕ) (c : Extent) → 64 ≤ l → gap at p (64 - l) c f ≡ 0
+  meet-end l f c h = let z : 64 - l ≡ 0 = omega arith in rw z
+
+  -- ---- a split
+
+  pub split-turn : (f left k : ℕ) (c : Extent) (s x : ℕ) (m w : List ℕ) → 0 < left → k ≡ side at p c → w ≡ putInternal m s (set childless k (x + 1)) → splitted at p f (left - 1) (quarter k c) x (x + 1) w ≡ splitted at p f left c s x m
+  split-turn f zero k c s x m w l e g = absurd (omega arith)
+  split-turn f (suc n) k c s x m w l e g = let z : suc n - 1 ≡ n = omega arith in rw (z, g, e)
+
+  pub split-end : (f left : ℕ) (c : Extent) (s x : ℕ) (m : List ℕ) → left ≤ 0 → splitted at p f 0 c s x m ≡ splitted at p f left c s x m
+  split-end f left c s x m l = let z : left ≡ 0 = omega arith in rw z

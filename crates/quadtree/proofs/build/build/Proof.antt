@@ -1,0 +1,125 @@
+use mathlib.Core.Path.{_≡_, refl, sym, ap, _∙_, subst}
+use Prim.Native.Nat.{ℕ, _+_, _-_, _/_, _≤_, _<_}
+use native.Mathlib.Omega.{arith}
+use lib.ListN.{length}
+use borrow.Author.Needs.{needs}
+use Rattle.rules.specs.Outcome.{refused, refusal}
+use Rattle.rules.specs.Tree.{treeCheck}
+use Rattle.quadtree.specs.declared.add.Inserted.{Inserted}
+use Rattle.quadtree.specs.Add.{Placed}
+use Rattle.quadtree.specs.Build.{particles}
+use Rattle.quadtree.proofs.AddBuild.{Building, build-start, build-follows, build-inserts, build-done, build-deep, build-full, build-end}
+use Rattle.quadtree.proofs.build.build.Statement.{statement}
+use Rattle.quadtree.proofs.build.build.Tie as tie
+
+abbrev Inv-loop : tie.InvT-loop
+Inv-loop at next₀ tail₀ m₀ n q₀ p₀ next tail m q p =
+    (length next ≡ length next₀) × (length tail ≡ length tail₀) × (length m ≡ length m₀) × (p ≤ n) × Building at (length m₀ / 8) m next tail q p
+
+abbrev μ-loop : tie.MeasureT-loop
+μ-loop at next₀ tail₀ m₀ n q₀ p₀ next tail m q p = n - p
+
+-- where the function begins
+abbrev start : tie.At-loop Inv-loop μ-loop → tie.Start Inv-loop μ-loop
+start c = c .before .before .before .before .before
+
+loop-holds : tie.Need-loop-holds Inv-loop μ-loop
+loop-holds c =
+    let s = c .before .before .before .before in
+    (refl, refl, refl, omega arith, build-start (s .args .at .now) (s .args .m .now) (s .args .next .now) (s .args .tail .now))
+
+extend-requires : tie.Need-extend-requires Inv-loop μ-loop
+extend-requires c κs =
+    let d = c .before in
+    let s = start d in
+    build-follows (s .args .at .now) (length (s .args .m .now) / 8) (d .loop .m) (d .loop .next) (d .loop .tail) (d .loop .q) (d .loop .p) (d .loop .inv .4) (s .pre .ranged) (c .loop-test .taken)
+
+insert-requires : tie.Need-insert-requires Inv-loop μ-loop
+insert-requires c κs =
+    let b = c .before .before .before in
+    let d = b .before .before in
+    let s = start d in
+    build-inserts (s .args .at .now) (length (s .args .m .now) / 8) (d .loop .m) (d .loop .next) (d .loop .tail) (d .loop .q) (d .loop .p) (d .loop .inv .4) (s .pre .ranged) (b .before .loop-test .taken) (b .extend .result) (b .extend .ensures)
+    (s .pre .few) (d .loop .inv .0 ∙ s .pre .links) (d .loop .inv .1 ∙ s .pre .tails)
+
+-- as many slots as at the start
+same-slots : (c : tie.After-insert Inv-loop μ-loop) → length (c .insert .last .0) / 8 ≡ length (start (c .before .before .before .before .before .before) .args .m .now) / 8
+same-slots c = ap (λ (k : ℕ). k / 8) (c .insert .kept .0 ∙ c .before .before .before .before .before .before .loop .inv .2)
+
+-- what has become of the particle
+placed : (c : tie.After-insert Inv-loop μ-loop) (r : Inserted) → c .insert .result ≡ r
+    → let b = c .before .before .before .before in let d = b .before .before in Placed (start d .args .at .now) (c .insert .last .0) (c .insert .last .1 .1 .0) (c .insert .last .1 .1 .1 .0) (b .extend .result .extent) (d .loop .p) r
+placed c r e =
+    let b = c .before .before .before .before in
+    let d = b .before .before in
+    subst (λ (r : Inserted). Placed (start d .args .at .now) (c .insert .last .0) (c .insert .last .1 .1 .0) (c .insert .last .1 .1 .1 .0) (b .extend .result .extent) (d .loop .p) r) e (c .insert .ensures)
+
+returns : tie.Need-returns Inv-loop μ-loop
+returns c =
+    let k = c .before .before .before .before .before .before .before .before in
+    let b = k .before .before .before .before in
+    let d = b .before .before in
+    let s = start d in
+    let at = s .args .at .now in
+    ap (treeCheck at (particles at)) (same-slots k)
+    ∙ build-deep at (length (s .args .m .now) / 8) (d .loop .m) (d .loop .next) (d .loop .tail) (d .loop .q) (d .loop .p) (d .loop .inv .4) (s .pre .ranged) (b .before .loop-test .taken) (b .extend .result) (b .extend .ensures)
+    (k .insert .last .0) (k .insert .last .1 .1 .0) (k .insert .last .1 .1 .1 .0) (same-slots k) (placed k _ (c .enum-told .given .1))
+
+returns-2 : tie.Need-returns-2 Inv-loop μ-loop
+returns-2 c =
+    let k = c .before .before .before .before .before .before .before .before in
+    let b = k .before .before .before .before in
+    let d = b .before .before in
+    let s = start d in
+    let at = s .args .at .now in
+    ap (treeCheck at (particles at)) (same-slots k)
+    ∙ build-full at (length (s .args .m .now) / 8) (d .loop .m) (d .loop .next) (d .loop .tail) (d .loop .q) (d .loop .p) (d .loop .inv .4) (s .pre .ranged) (b .before .loop-test .taken) (b .extend .result) (b .extend .ensures)
+    (k .insert .last .0) (k .insert .last .1 .1 .0) (k .insert .last .1 .1 .1 .0) (same-slots k) (placed k _ (c .enum-told2 .given .1))
+
+loop-again : tie.Need-loop-again Inv-loop μ-loop
+loop-again c =
+    let k = c .before .before .before .before .before .before .before .before .before in
+    let b = k .before .before .before .before in
+    let d = b .before .before in
+    let s = start d in (
+      k .insert .kept .1 .1 .0 ∙ d .loop .inv .0,
+      k .insert .kept .1 .1 .1 .0 ∙ d .loop .inv .1,
+      k .insert .kept .0 ∙ d .loop .inv .2,
+      omega (arith, b .before .loop-test .taken),
+      build-done (s .args .at .now) (length (s .args .m .now) / 8) (d .loop .m) (d .loop .next) (d .loop .tail) (d .loop .q) (d .loop .p) (d .loop .inv .4) (s .pre .ranged) (b .before .loop-test .taken) (b .extend .result) (b .extend .ensures)
+          (k .insert .last .0) (k .insert .last .1 .1 .0) (k .insert .last .1 .1 .1 .0) (same-slots k) (c .before .answer .given .0 .0) (placed k _ (c .before .answer .given .1)),
+    )
+
+returns-3 : tie.Need-returns-3 Inv-loop μ-loop
+returns-3 c =
+    let d = c .before in
+    let s = start d in
+    build-end (s .args .at .now) (length (s .args .m .now) / 8) (d .loop .m) (d .loop .next) (d .loop .tail) (d .loop .q) (d .loop .p) (d .loop .inv .4) (s .pre .ranged) (d .loop .inv .3) (c .loop-test .left) (ap (λ (k : ℕ). k / 8) (d .loop .inv .2))
+
+pub build-spec : {M : Type 1} → statement M
+build-spec =
+    tie.close
+    (tie.spec
+    Inv-loop
+    μ-loop
+    loop-holds
+    extend-requires
+    insert-requires
+    (λ c. search needs)
+    (λ c. search needs)
+    (λ c. search needs)
+    (λ c. search needs)
+    (λ c. search needs)
+    returns
+    (λ c. search needs)
+    (λ c. search needs)
+    (λ c. search needs)
+    (λ c. search needs)
+    returns-2
+    (λ c. search needs)
+    (λ c. search needs)
+    loop-again
+    (λ c. search needs)
+    (λ c. search needs)
+    (λ c. search needs)
+    returns-3)

@@ -1,0 +1,45 @@
+-- Building the tree of all particles. Definitions only.
+use mathlib.Core.Path.{_≡_}
+use mathlib.Core.List.{List}
+use Prim.Native.Nat.{ℕ, _+_, _*_, _/_, _≤_, _<_}
+use lib.ListN.{length}
+use lib.Ieee.{Float}
+use Rattle.rules.specs.declared.Extent.{Extent}
+use Rattle.rules.specs.Cover.{coverFirst, extentOf}
+use Rattle.rules.specs.Outcome.{refused, fine}
+use Rattle.rules.specs.Tree.{treeCheck}
+use Rattle.quadtree.specs.declared.Quadtree.{Quadtree}
+use Rattle.quadtree.specs.declared.cover.Covered.{Covered}
+use Rattle.quadtree.specs.declared.build.Built.{Built}
+use Rattle.quadtree.specs.declared.build.Built.the-variants.{Tree, Refused}
+use Rattle.quadtree.specs.Slots.{Stands}
+use Rattle.quadtree.specs.Add.{Ranged, Covers}
+
+-- how many particles have their places in the list
+abbrev pub particles : List Float → ℕ
+particles at = length at / 2
+
+-- at most 4,096 particles within 2 ^ 40 of zero, and a link and a tail for each
+pub record Lent (at : List Float) (next tail : List ℕ) : Type 0 where
+  pub ranged : Ranged at (particles at)
+  pub few : particles at ≤ 4096
+  pub links : length next ≡ particles at
+  pub tails : length tail ≡ particles at
+
+-- The slots hold the tree of all particles, in the extent reached by covering them in order; or the earliest particle whose prefix breaks 6 or 7 is refused so, 6 if both.
+abbrev pub Builds : List Float → List ℕ → List ℕ → Built → Type 0
+Builds at m next (Tree q) =
+    (treeCheck at (particles at) (length m / 8) ≡ fine) × Stands at (particles at) m next q × (q .extent ≡ extentOf (coverFirst at (particles at)))
+Builds at m next (Refused r) = treeCheck at (particles at) (length m / 8) ≡ refused r
+
+-- a tree in the extent of the particles before p, with a root if there are any
+pub record Follows (at : List Float) (q : Quadtree) (p : ℕ) : Type 0 where
+  pub extent : q .extent ≡ extentOf (coverFirst at p)
+  pub empty : p ≡ 0 → q .root ≡ 0
+  pub ranged : Ranged at (p + 1)
+  pub read : p * 2 + 2 ≤ length at
+
+-- the extent with p
+pub record Extends (at : List Float) (q : Quadtree) (p : ℕ) (c : Covered) : Type 0 where
+  pub extent : c .extent ≡ extentOf (coverFirst at (p + 1))
+  pub covers : 0 < q .root → Covers at q c p

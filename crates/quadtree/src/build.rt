@@ -1,0 +1,78 @@
+// mod.rs: the tree of all particles, one after the other. The earliest whose prefix passes the greatest level or wants more slots than are lent is refused.
+ghost use mathlib.Core.Path.{_≡_};
+ghost use Prim.Native.Nat.{_+_, _*_, _≤_};
+ghost use lib.ListN.{length};
+ghost use Rattle.quadtree.specs.Build.{Lent, Builds, Follows, Extends};
+use crate::Quadtree;
+use crate::add;
+use crate::add::Inserted;
+use crate::cover;
+use crate::cover::Covered;
+use crate::point;
+use rules::Extent;
+use rules::Refusal;
+
+// The tree, or refusal 6 or 7 with the particle's number as its place.
+pub enum Built {
+    Tree(Quadtree),
+    Refused(Refusal),
+}
+
+// The extent with p, and how many doublings lead to it.
+fn extend(at: &[f64], q: Quadtree, p: usize) -> Covered
+    requires { ⌜ Follows (now at) q p ⌝ }
+    ensures { λ r. ⌜ Extends (now (at .entry)) q p r ⌝ }
+{
+    let x = point::x_at(at, p);
+    let y = point::y_at(at, p);
+    if p == 0 {
+        return Covered {
+            extent: cover::first(x, y),
+            doublings: 0,
+        };
+    }
+    cover::cover(q.extent, x, y)
+}
+
+pub fn build(at: &[f64], next: &mut [u32], tail: &mut [u32], m: &mut [u64]) -> Built
+    requires { ⌜ Lent (now at) (now next) (now tail) ⌝ }
+    ensures { λ r. ⌜ Builds (now (at .entry)) (now (m .exit)) (now (next .exit)) r ⌝ }
+{
+    let n = at.len() / 2;
+    let nowhere = Extent {
+        x0: 0.0,
+        y0: 0.0,
+        x1: 0.0,
+        y1: 0.0,
+    };
+    let mut q = Quadtree {
+        extent: nowhere,
+        root: 0,
+        nodes: 0,
+        deepest: 0,
+    };
+    let mut p: usize = 0;
+    while p < n {
+        let covered = extend(at, q, p);
+        let answer = add::insert(m, at, next, tail, q, covered, p);
+        match answer {
+            Inserted::Done(more) => {
+                q = more;
+            }
+            Inserted::Deep => {
+                return Built::Refused(Refusal {
+                    number: 6,
+                    place: p as u64,
+                });
+            }
+            Inserted::Full => {
+                return Built::Refused(Refusal {
+                    number: 7,
+                    place: p as u64,
+                });
+            }
+        }
+        p += 1;
+    }
+    Built::Tree(q)
+}
