@@ -14,13 +14,13 @@ use Rattle.rules.specs.Number.{_⊕_, _⊖_, _⊗_, _⊘_, 1·, float}
 use Rattle.rules.specs.Root.{root}
 use Rattle.rules.specs.Flow as Flow
 use Rattle.rules.specs.Flow.{Flow, flow, pushed, gap, length², shaken}
-use Rattle.rules.specs.Force.{endsFrom, endsOf}
+use Rattle.rules.specs.Force.{endsOf}
 use Rattle.rules.specs.Link.{Ends, ends, countEnds, bias, defaultStrength, strengthAt, gapBetween, tied, pull, pullFrom, runLink}
 use Rattle.force.specs.declared.draws.Jiggled.{Jiggled}
 use Rattle.force.specs.declared.draws.Spent.{Spent}
 use Rattle.force.specs.Draws.{shakenOf, spentOf}
 use Rattle.force.specs.Links.{strengthOr, endsAt}
-use Rattle.force.proofs.Pairs.{two-off}
+use Rattle.force.proofs.Scans.{endsLeft, ends-first, ends-left, ends-none, count-left}
 
 -- ---- strengths
 
@@ -98,31 +98,18 @@ module _ (vs draws : List Float) (r : Spent) where
   unfolding spentOf
   spent-on h = rw h
 
-ends-drop : (links : List ℕ) (k m : ℕ) → k * 2 + 1 < length links → endsFrom (drop (k * 2) links) (suc m) ≡ endsAt links k ∷ endsFrom (drop ((k + 1) * 2) links) m
-ends-drop links k m h = rw (two-off links (k * 2) 0 h, e)
-  where
-    e : (k + 1) * 2 ≡ k * 2 + 2
-    e = omega arith
-
--- the links from number k on, n being how many there are
-abbrev pub endsLeft : List ℕ → ℕ → ℕ → List Ends
-endsLeft links n k = endsFrom (drop (k * 2) links) (n - k)
-
 module _ (at : List Float) (links : List ℕ) (ss ds : List Float) (alpha : Float) where
   -- what is left to pull from number k on
   abbrev pub pullLeft : ℕ → Flow → Outcome Flow
-  pullLeft k σ = pullFrom at (endsOf links) ss ds alpha k (endsLeft links (length links / 2) k) σ
+  pullLeft k σ = pullFrom at (endsOf links) ss ds alpha k (endsLeft links k) σ
 
   pub pull-first : (σ : Flow) → pullFrom at (endsOf links) ss ds alpha 0 (endsOf links) σ ≡ pullLeft 0 σ
-  pull-first σ = rw sub-zero
+  pull-first σ = ap (λ (l : List Ends). pullFrom at (endsOf links) ss ds alpha 0 l σ) (ends-first links)
 
   pull-next : (k : ℕ) (σ : Flow) → k < length links / 2
       → pullLeft k σ ≡ pull at (endsOf links) ss ds alpha k (endsAt links k) σ >>= λ σ. pullLeft (k + 1) σ
   unfolding pullFrom
-  pull-next k σ h = rw (e, ends-drop links k (length links / 2 - (k + 1)) (omega arith))
-    where
-      e : length links / 2 - k ≡ suc (length links / 2 - (k + 1))
-      e = omega arith
+  pull-next k σ h = rw (ends-left links k h)
 
   module _ (k : ℕ) (h : k < length links / 2) (σ : Flow) (vs draws : List Float) (r : Spent)
       (is : spentOf vs draws r ≡ pull at (endsOf links) ss ds alpha k (endsAt links k) σ) where
@@ -134,10 +121,7 @@ module _ (at : List Float) (links : List ℕ) (ss ds : List Float) (alpha : Floa
 
   pub all-end : (k : ℕ) (σ : Flow) → length links / 2 ≤ k → done σ ≡ pullLeft k σ
   unfolding pullFrom
-  all-end k σ h = rw e
-    where
-      e : length links / 2 - k ≡ 0
-      e = omega arith
+  all-end k σ h = rw (ends-none links k h)
 
 -- ---- all iterations, of a stage that gives spentOf
 
@@ -149,10 +133,7 @@ module _ (f : Flow → Outcome Flow) where
   stages-first n σ = rw sub-zero
 
   stage-next : (n i : ℕ) (σ : Flow) → i < n → stagesLeft n i σ ≡ f σ >>= λ σ. stagesLeft n (i + 1) σ
-  stage-next n i σ h = rw e
-    where
-      e : n - i ≡ suc (n - (i + 1))
-      e = omega arith
+  stage-next n i σ h = rw (count-left n i h)
 
   module _ (n i : ℕ) (h : i < n) (σ : Flow) (vs draws : List Float) (r : Spent) (is : spentOf vs draws r ≡ f σ) where
     pub stage-dry : r .dry ≡ true → refused (refusal 8 0) ≡ stagesLeft n i σ

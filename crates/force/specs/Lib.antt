@@ -3,3 +3,6 @@ pub mod Ran
 pub mod Links
 pub mod Radius
 pub mod Collide
+pub mod Columns
+pub mod Checks
+pub mod Calls

@@ -1,7 +1,11 @@
 // The forces on velocities, Center and the closing move, after fjadra's src/force.
 pub mod collide;
+pub mod call;
+pub mod center;
+pub mod check;
 mod draws;
 pub mod link;
+pub mod particle;
 mod push;
 pub mod radius;
 

@@ -21,7 +21,7 @@ ghost use Rattle.force.specs.Ran.{Runs, visited};
 ghost use Rattle.force.specs.Links.{EndsLent, ListsLent, Ready, endsAt, tallies, counted, strengthOr};
 
 // A number as an index: a call asks no proof that it fits.
-fn index(x: u32) -> usize
+pub fn index(x: u32) -> usize
     ensures { λ r. ⌜ r ≡ x ⌝ }
 {
     x as usize

@@ -3,4 +3,4 @@ pub mod Bytes
 pub mod Checked
 pub mod Sheets
 pub mod Columns
-mod Turns
+pub mod Turns

@@ -1,0 +1,16 @@
+-- The checks of pairs by columns. Definitions only.
+use mathlib.Core.List.{List}
+use Prim.Native.Nat.{ℕ}
+use lib.Ieee.{Float}
+use Rattle.rules.specs.Plain.{upTo}
+use Rattle.rules.specs.Outcome.{Check, checkEach}
+use Rattle.rules.specs.Number.{xAt, yAt}
+use Rattle.rules.specs.Refusal.{coordinateCheck, velocityCheck}
+
+-- 4, of n places
+abbrev pub coordinatesCheck : ℕ → List Float → Check
+coordinatesCheck n places = checkEach (λ i _. coordinateCheck i (xAt places i) (yAt places i)) (upTo n)
+
+-- 5, of n velocities
+abbrev pub velocitiesCheck : ℕ → List Float → Check
+velocitiesCheck n speeds = checkEach (λ i _. velocityCheck i (xAt speeds i) (yAt speeds i)) (upTo n)
