@@ -15,7 +15,7 @@ use Rattle.force.specs.declared.Ran.{Ran}
 use Rattle.force.specs.Ran.{standing, ranOf}
 
 module _ (vs draws : List Float) (r : Ran) where
-  ran-refused : (r .refusal .number ≡ 0 → ⊥) → ranOf vs draws r ≡ refused (r .refusal)
+  pub ran-refused : (r .refusal .number ≡ 0 → ⊥) → ranOf vs draws r ≡ refused (r .refusal)
   unfolding ranOf standing
   ran-refused h = rw (ne-eqb _ _ h)
 

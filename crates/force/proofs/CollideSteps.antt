@@ -29,6 +29,11 @@ use Rattle.force.specs.Radius.{radiusIn, Rounded}
 abbrev pub look : List ℕ → ℕ → Extent → Extent × Float
 look m s c = (c, radiusIn m s)
 
+-- what is seen in the slots is the rule's tree
+pub seen-radii : {at radii : List Float} {m : List ℕ} {q : Quadtree} (s : Rounded at radii m q) → seen (look m) (q .extent) (s .valued .stands .tree) ≡ radiusTree at radii
+unfolding radiusTree
+seen-radii s = s .valued .values
+
 module _ (at radii : List Float) (strength : Float) (i : ℕ) where
   -- what holds of the walk at each turn, and in a turn with e on top
   abbrev pub Goes : List ℕ → List ℕ → Counted Flow → Walk → Counted Flow → Type 0
@@ -36,11 +41,6 @@ module _ (at radii : List Float) (strength : Float) (i : ℕ) where
 
   abbrev pub GoesOn : List ℕ → List ℕ → Counted Flow → Walk → Counted Flow → Waiting → Type 0
   GoesOn m next b w s e = Turn (collideStep at radii strength i) (look m) (EachBelow (length radii)) m next (radiusTree at radii) b w s e
-
-  -- what is seen in the slots is the rule's tree
-  seen-radii : {m : List ℕ} {q : Quadtree} (s : Rounded at radii m q) → seen (look m) (q .extent) (s .valued .stands .tree) ≡ radiusTree at radii
-  unfolding radiusTree
-  seen-radii s = s .valued .values
 
   pub sets-out : {m : List ℕ} {q : Quadtree} (s : Rounded at radii m q) (b : Counted Flow) (w : Walk) → Sized w → stackOf w ≡ lay (q .root) (q .extent) [] → Goes m (s .next) b w b
   sets-out {m} {q} s b w z e =

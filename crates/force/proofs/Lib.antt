@@ -10,3 +10,4 @@ pub mod CollideFolds
 pub mod Centring
 pub mod Closing
 pub mod Called
+pub mod CollideRun

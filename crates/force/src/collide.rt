@@ -5,9 +5,12 @@ use crate::draws::shaken;
 use crate::push::push_back;
 use crate::push::push_on;
 use crate::radius::index;
+use crate::radius::prepare;
 use crate::radius::radius_of;
 use number::root;
 use quadtree::Quadtree;
+use quadtree::build::Built;
+use quadtree::build::build;
 use quadtree::store;
 use quadtree::visit;
 use quadtree::visit::Walk;
@@ -17,20 +20,19 @@ use rules::Visit;
 ghost use mathlib.Core.Path.{_≡_};
 ghost use mathlib.Core.Bool.{cond};
 ghost use mathlib.Core.List.{[], _∷_};
-ghost use Prim.Native.Nat.{_+_, _-_, _*_, _≤_, _<_, _^_};
+ghost use Prim.Native.Nat.{_+_, _-_, _*_, _/_, _≤_, _<_, _^_};
 ghost use lib.ListN.{length, getD, drop};
 ghost use lib.Ieee.{nan, eq};
 ghost use Rattle.rules.specs.Number.{_⊕_, _⊖_, _⊗_, 0·};
-ghost use Rattle.rules.specs.Outcome.{foldStages};
-ghost use Rattle.rules.specs.Plain.{upTo};
 ghost use Rattle.rules.specs.Tree.{nodes};
 ghost use Rattle.rules.specs.Flow.{flow, gap};
 ghost use Rattle.rules.specs.Collide as Collide;
 ghost use Rattle.quadtree.specs.Slots.{word, value};
+ghost use Rattle.quadtree.specs.Build.{Lent};
 ghost use Rattle.force.specs.Draws.{spentOf, From};
 ghost use Rattle.force.specs.Ran.{Runs};
 ghost use Rattle.force.specs.Radius.{Rounded};
-ghost use Rattle.force.specs.Collide.{Spread, begun, walkFor, walkAll};
+ghost use Rattle.force.specs.Collide.{Spread, Bounded, Stood, begun, walkFor, walkAll, walkTimes};
 
 // From lo to hi is beyond reach of the place p.
 fn beyond(lo: f64, hi: f64, p: f64, reach: f64) -> bool
@@ -264,7 +266,7 @@ fn walk_all(
 }
 
 // That many times over. Places don't change, so the tree is the same each time.
-pub fn iterate(
+fn iterate(
     q: Quadtree,
     m: &[u64],
     at: &[f64],
@@ -277,7 +279,7 @@ pub fn iterate(
     visits: u64,
 ) -> Ran
     requires { ⌜ Spread (now at) (now vs) (now radii) (now draws) used × Rounded (now at) (now radii) (now m) q × (visits + iterations * (length (now radii) * nodes (Collide.radiusTree (now at) (now radii))) < 2 ^ 64) ⌝ }
-    ensures is { λ r. ⌜ Runs (now (vs .exit)) (now (draws .entry)) used r (foldStages (λ m _. walkAll (now (at .entry)) (now (radii .entry)) strength m) (begun (now (vs .entry)) (now (draws .entry)) used visits) (upTo iterations)) ⌝ }
+    ensures is { λ r. ⌜ Runs (now (vs .exit)) (now (draws .entry)) used r (walkTimes (now (at .entry)) (now (radii .entry)) strength iterations (begun (now (vs .entry)) (now (draws .entry)) used visits)) ⌝ }
     ensures few { λ r. ⌜ r .visits ≤ visits + iterations * (length (now (radii .entry)) * nodes (Collide.radiusTree (now (at .entry)) (now (radii .entry)))) ⌝ }
 {
     let mut spent = used;
@@ -301,5 +303,86 @@ pub fn iterate(
         },
         used: spent,
         visits: seen,
+    }
+}
+
+// On the tree in the slots.
+fn collide_on(
+    q: Quadtree,
+    m: &mut [u64],
+    at: &[f64],
+    vs: &mut [f64],
+    radii: &[f64],
+    strength: f64,
+    iterations: usize,
+    draws: &[f64],
+    used: usize,
+    visits: u64,
+) -> Ran
+    requires { ⌜ Spread (now at) (now vs) (now radii) (now draws) used × Stood (now at) (length (now radii)) (now m) q × Bounded (length (now radii)) iterations visits ⌝ }
+    ensures is { λ r. ⌜ Runs (now (vs .exit)) (now (draws .entry)) used r (walkTimes (now (at .entry)) (now (radii .entry)) strength iterations (begun (now (vs .entry)) (now (draws .entry)) used visits)) ⌝ }
+    ensures few { λ r. ⌜ r .visits ≤ visits + 2 ^ 37 ⌝ }
+{
+    prepare(q, radii, m);
+    iterate(
+        q,
+        m,
+        at,
+        vs,
+        radii,
+        strength,
+        iterations,
+        draws,
+        used,
+        visits,
+    )
+}
+
+// The force. With no iteration no tree is built.
+pub fn collide(
+    at: &[f64],
+    vs: &mut [f64],
+    radii: &[f64],
+    strength: f64,
+    iterations: usize,
+    draws: &[f64],
+    used: usize,
+    visits: u64,
+    next: &mut [u32],
+    tail: &mut [u32],
+    m: &mut [u64],
+) -> Ran
+    requires { ⌜ Lent (now at) (now next) (now tail) × Spread (now at) (now vs) (now radii) (now draws) used × (iterations ≤ 64) × (visits < 2 ^ 63) ⌝ }
+    ensures is { λ r. ⌜ Runs (now (vs .exit)) (now (draws .entry)) used r (Collide.runCollide (now (at .entry)) (now (radii .entry)) strength iterations (length (now (m .entry)) / 8) (begun (now (vs .entry)) (now (draws .entry)) used visits)) ⌝ }
+    ensures few { λ r. ⌜ r .visits ≤ visits + 2 ^ 37 ⌝ }
+{
+    if iterations == 0 {
+        return Ran {
+            refusal: Refusal {
+                number: 0,
+                place: 0,
+            },
+            used,
+            visits,
+        };
+    }
+    match build(at, next, tail, m) {
+        Built::Refused(refusal) => Ran {
+            refusal,
+            used,
+            visits,
+        },
+        Built::Tree(q) => collide_on(
+            q,
+            m,
+            at,
+            vs,
+            radii,
+            strength,
+            iterations,
+            draws,
+            used,
+            visits,
+        ),
     }
 }

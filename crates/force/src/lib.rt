@@ -1,8 +1,8 @@
 // The forces on velocities, Center and the closing move, after fjadra's src/force.
-pub mod collide;
 pub mod call;
 pub mod center;
 pub mod check;
+pub mod collide;
 mod draws;
 pub mod link;
 pub mod particle;

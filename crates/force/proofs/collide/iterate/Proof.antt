@@ -9,7 +9,7 @@ use Rattle.rules.specs.Tree.{nodes}
 use Rattle.rules.specs.Collide.{radiusTree}
 use Rattle.force.specs.Draws.{From}
 use Rattle.force.specs.Ran.{standing, ranOf}
-use Rattle.force.specs.Collide.{begun, walkAll}
+use Rattle.force.specs.Collide.{begun, walkAll, walkTimes}
 use Rattle.force.proofs.CollideFolds.{left, left-first, left-refused, left-on, left-end, one-more}
 use Rattle.force.proofs.collide.iterate.Statement.{statement}
 use Rattle.force.proofs.collide.iterate.Tie as tie
@@ -42,6 +42,7 @@ walk-all-requires c κs =
     )
 
 returns : tie.Need-returns Inv-loop μ-loop
+unfolding walkTimes
 returns c =
     let w = c .before .before .before .before in
     let l = w .before .before .before .loop in
@@ -74,7 +75,7 @@ loop-again c =
     )
 
 returns-2 : tie.Need-returns-2 Inv-loop μ-loop
-unfolding ranOf standing zeroesWork
+unfolding ranOf standing zeroesWork walkTimes
 returns-2 c =
     let l = c .before .loop in
     let a = c .before .before .before .before .before .before .before .args in
