@@ -1,13 +1,13 @@
 -- What two particles do to each other, from the code's numbers to the rule. Assumes nothing.
-use mathlib.Core.Path.{_≡_, refl, sym, ap, _∙_}
+use mathlib.Core.Path.{_≡_, _∙_}
 use mathlib.Core.Bool.{Bool, true, false, cond}
 use mathlib.Core.List.{List}
 use Prim.Native.Nat.{ℕ, _+_, _*_}
 use lib.ListN.{getD, drop}
 use lib.Ieee.{Float, nan, lt, eq}
-use Rattle.rules.specs.Outcome.{Outcome, done, refused, refusal, _>>=_}
+use Rattle.rules.specs.Outcome.{done, refused, refusal}
 use Rattle.rules.specs.Number.{_⊕_, _⊖_, _⊗_, 0·}
-use Rattle.rules.specs.Flow.{Flow, flow, Gap, gap, length², shaken, lengthened}
+use Rattle.rules.specs.Flow.{flow, gap, length², shaken, lengthened}
 use Rattle.rules.specs.Collide.{radiusOf, gapFrom, parted, meet}
 use Rattle.force.specs.declared.draws.Jiggled.{Jiggled}
 use Rattle.force.specs.Draws.{shakenOf}
@@ -22,9 +22,6 @@ module _ (at radii : List Float) (strength : Float) (i j : ℕ) (ri rj x y : Flo
     (er : ri ≡ radiusOf radii i)
     (ex : x ≡ getD at (i * 2) nan ⊖ getD at (j * 2) nan ⊖ getD vs (j * 2) nan)
     (ey : y ≡ getD at (i * 2 + 1) nan ⊖ getD at (j * 2 + 1) nan ⊖ getD vs (j * 2 + 1) nan) where
-  here : Flow
-  here = flow vs (drop used draws)
-
   near-is : (b : Bool) → lt (x ⊗ x ⊕ y ⊗ y) ((ri ⊕ rj) ⊗ (ri ⊕ rj)) ≡ b → lt (length² (gapFrom at vs i j)) ((radiusOf radii i ⊕ rj) ⊗ (radiusOf radii i ⊕ rj)) ≡ b
   near-is b t = rw (er, ex, ey) at t
 

@@ -1,5 +1,5 @@
 -- The walk of one particle, from the code's answers at a node to the rule's step. Assumes nothing.
-use mathlib.Core.Path.{_≡_, refl, sym, ap, _∙_}
+use mathlib.Core.Path.{_≡_}
 use mathlib.Core.Bool.{Bool, true, false}
 use mathlib.Core.List.{List, [], _∷_}
 use Prim.Native.Nat.{ℕ, _+_, _-_}
@@ -9,7 +9,7 @@ use lib.Ieee.{Float}
 use Rattle.rules.specs.declared.Extent.{Extent}
 use Rattle.rules.specs.declared.Visit.{Visit}
 use Rattle.rules.specs.declared.Visit.the-variants.{Continue}
-use Rattle.rules.specs.Outcome.{Outcome, done, refused, refusal}
+use Rattle.rules.specs.Outcome.{done, refused, refusal}
 use Rattle.rules.specs.Number.{_⊕_}
 use Rattle.rules.specs.Walk.{internal, tip, Counted, after, stopIf}
 use Rattle.rules.specs.Flow.{Flow, flow}

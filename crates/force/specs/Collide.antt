@@ -1,14 +1,15 @@
 -- What Collide is lent, and its stages. Definitions only.
 use mathlib.Core.Path.{_≡_}
 use mathlib.Core.List.{List}
-use Prim.Native.Nat.{ℕ, _+_, _*_, _≤_, _<_, _^_}
+use Prim.Native.Nat.{ℕ, _*_, _≤_, _<_, _^_}
 use lib.ListN.{length, drop}
 use lib.Ieee.{Float}
 use Rattle.rules.specs.Plain.{upTo}
-use Rattle.rules.specs.Outcome.{Outcome, foldStages}
+use Rattle.rules.specs.Outcome.{Outcome, refusal, foldStages}
 use Rattle.rules.specs.Walk.{Counted, counted, walk}
 use Rattle.rules.specs.Flow.{Flow, flow}
 use Rattle.rules.specs.Collide.{radiusTree, collideStep}
+use Rattle.force.specs.declared.Ran.{Ran}
 use Rattle.quadtree.specs.declared.Quadtree.{Quadtree}
 use Rattle.quadtree.specs.Slots.{Stands}
 
@@ -28,6 +29,10 @@ pub record Bounded (n iterations visits : ℕ) : Type 0 where
 pub record Stood (at : List Float) (n : ℕ) (m : List ℕ) (q : Quadtree) : Type 0 where
   pub next : List ℕ
   pub stands : Stands at n m next q
+
+-- refused by this number at place 0, or not at all with 0
+abbrev pub ended : ℕ → ℕ → ℕ → Ran
+ended number used visits = record { refusal = refusal number 0; used = used; visits = visits }
 
 -- velocities, the draws that are left, and the nodes handed out so far
 abbrev pub begun : List Float → List Float → ℕ → ℕ → Counted Flow

@@ -32,7 +32,7 @@ ghost use Rattle.quadtree.specs.Build.{Lent};
 ghost use Rattle.force.specs.Draws.{spentOf, From};
 ghost use Rattle.force.specs.Ran.{Runs};
 ghost use Rattle.force.specs.Radius.{Rounded};
-ghost use Rattle.force.specs.Collide.{Spread, Bounded, Stood, begun, walkFor, walkAll, walkTimes};
+ghost use Rattle.force.specs.Collide.{ended, Spread, Bounded, Stood, begun, walkFor, walkAll, walkTimes};
 
 // From lo to hi is beyond reach of the place p.
 fn beyond(lo: f64, hi: f64, p: f64, reach: f64) -> bool
@@ -163,6 +163,17 @@ fn skips(at: &[f64], radii: &[f64], i: usize, m: &[u64], s: usize, c: Extent) ->
     away(at, i, c, reach)
 }
 
+// Refused by this number, which names no place, or not at all with 0.
+fn ended(number: u64, used: usize, visits: u64) -> Ran
+    ensures { λ r. ⌜ r ≡ ended number used visits ⌝ }
+{
+    Ran {
+        refusal: Refusal { number, place: 0 },
+        used,
+        visits,
+    }
+}
+
 // The walk of particle i over the tree, parent first.
 fn walk_for(
     q: Quadtree,
@@ -203,25 +214,11 @@ fn walk_for(
             let dry = met.dry;
             spent = met.used;
             if dry {
-                return Ran {
-                    refusal: Refusal {
-                        number: 8,
-                        place: 0,
-                    },
-                    used: spent,
-                    visits: seen,
-                };
+                return ended(8, spent, seen);
             }
         }
     }
-    Ran {
-        refusal: Refusal {
-            number: 0,
-            place: 0,
-        },
-        used: spent,
-        visits: seen,
-    }
+    ended(0, spent, seen)
 }
 
 // Every particle once, in index order.
@@ -255,14 +252,7 @@ fn walk_all(
         seen = r.visits;
         i += 1;
     }
-    Ran {
-        refusal: Refusal {
-            number: 0,
-            place: 0,
-        },
-        used: spent,
-        visits: seen,
-    }
+    ended(0, spent, seen)
 }
 
 // That many times over. Places don't change, so the tree is the same each time.
@@ -296,14 +286,7 @@ fn iterate(
         seen = r.visits;
         k += 1;
     }
-    Ran {
-        refusal: Refusal {
-            number: 0,
-            place: 0,
-        },
-        used: spent,
-        visits: seen,
-    }
+    ended(0, spent, seen)
 }
 
 // On the tree in the slots.
@@ -357,14 +340,7 @@ pub fn collide(
     ensures few { λ r. ⌜ r .visits ≤ visits + 2 ^ 37 ⌝ }
 {
     if iterations == 0 {
-        return Ran {
-            refusal: Refusal {
-                number: 0,
-                place: 0,
-            },
-            used,
-            visits,
-        };
+        return ended(0, used, visits);
     }
     match build(at, next, tail, m) {
         Built::Refused(refusal) => Ran {

@@ -1,4 +1,4 @@
-use mathlib.Core.Path.{_≡_, refl, ap, _∙_}
+use mathlib.Core.Path.{refl, ap, _∙_}
 use Prim.Native.Nat.{ℕ, _/_}
 use native.Mathlib.Omega.{arith}
 use borrow.Author.Needs.{needs}
@@ -14,10 +14,11 @@ use Rattle.force.proofs.collide.collide.Tie as tie
 returns : tie.Need-returns
 unfolding ranOf standing zeroesWork
 returns c =
-    let f = c .before .before .before .before .before .before .before .before in
-    let a = f .args in (
+    let f = c .before .before .before .before .before .before .before .before .before in
+    let a = f .args in
+    rw (c .ended .ensures) (
       record {
-        is = run-none (a .at .now) (a .radii .now) (a .strength) (a .iterations) (length (a .m .now) / 8) (begun (a .vs .now) (a .draws .now) (a .used) (a .visits)) (c .if1 .taken);
+        is = run-none (a .at .now) (a .radii .now) (a .strength) (a .iterations) (length (a .m .now) / 8) (begun (a .vs .now) (a .draws .now) (a .used) (a .visits)) (c .before .if1 .taken);
         draws = omega (arith, f .pre .1 .drawn);
         late = refl;
       },
@@ -77,6 +78,7 @@ pub collide-spec : {M : Type 1} → statement M
 collide-spec =
     tie.close
     (tie.spec
+    (λ c κs. search needs)
     returns
     (λ c κs. search needs)
     (λ c. search needs)

@@ -1,6 +1,7 @@
 use mathlib.Core.Path.{_≡_, refl, sym, _∙_, subst}
 use Prim.Native.Nat.{ℕ, _+_, _-_, _*_, _≤_}
 use native.Mathlib.Omega.{arith}
+use borrow.Author.Needs.{needs}
 use lib.ListN.{length}
 use Rattle.rules.specs.Outcome.{Outcome, zeroesWork}
 use Rattle.rules.specs.Walk.{Counted}
@@ -77,11 +78,12 @@ loop-again c =
 returns-2 : tie.Need-returns-2 Inv-loop μ-loop
 unfolding ranOf standing zeroesWork walkTimes
 returns-2 c =
-    let l = c .before .loop in
-    let a = c .before .before .before .before .before .before .before .args in
+    let l = c .before .before .loop in
+    let a = c .before .before .before .before .before .before .before .before .args in
     let f : Counted Flow → ℕ → Outcome (Counted Flow) = λ m _. walkAll (a .at .now) (a .radii .now) (a .strength) m in
     let n = a .iterations in
-    let e : l .k ≡ n = omega arith in (
+    let e : l .k ≡ n = omega arith in
+    rw (c .ended .ensures) (
       record {
         is = left-end f n (l .k) (begun (l .vs) (a .draws .now) (l .spent) (l .seen)) (omega arith) ∙ sym (l .inv .4) ∙ sym (left-first f n (begun (a .vs .now) (a .draws .now) (a .used) (a .visits)));
         draws = l .inv .2;
@@ -103,5 +105,6 @@ iterate-spec =
     (λ c. omega arith)
     (λ c. omega arith)
     loop-again
-    (λ c. c .before .loop .inv .1)
+    (λ c κs. search needs)
+    (λ c. c .before .before .loop .inv .1)
     returns-2)

@@ -1,6 +1,7 @@
 use mathlib.Core.Path.{_≡_, refl, sym, _∙_, subst}
 use Prim.Native.Nat.{ℕ, _+_, _-_, _*_, _≤_}
 use native.Mathlib.Omega.{arith}
+use borrow.Author.Needs.{needs}
 use lib.ListN.{length}
 use Rattle.rules.specs.Outcome.{zeroesWork}
 use Rattle.rules.specs.Tree.{nodes}
@@ -76,11 +77,12 @@ loop-again c =
 returns-2 : tie.Need-returns-2 Inv-loop μ-loop
 unfolding ranOf standing zeroesWork walkAll
 returns-2 c =
-    let l = c .before .loop in
-    let a = c .before .before .before .before .before .before .before .args in
+    let l = c .before .before .loop in
+    let a = c .before .before .before .before .before .before .before .before .args in
     let f = walkFor (a .at .now) (a .radii .now) (a .strength) in
     let n = length (a .radii .now) in
-    let e : l .i ≡ n = omega arith in (
+    let e : l .i ≡ n = omega arith in
+    rw (c .ended .ensures) (
       record {
         is = left-end f n (l .i) (begun (l .vs) (a .draws .now) (l .spent) (l .seen)) (omega arith) ∙ sym (l .inv .4) ∙ sym (left-first f n (begun (a .vs .now) (a .draws .now) (a .used) (a .visits)));
         draws = l .inv .2;
@@ -102,5 +104,6 @@ walk-all-spec =
     (λ c. omega arith)
     (λ c. omega arith)
     loop-again
-    (λ c. c .before .loop .inv .1)
+    (λ c κs. search needs)
+    (λ c. c .before .before .loop .inv .1)
     returns-2)

@@ -1,6 +1,6 @@
-use mathlib.Core.Path.{_≡_, refl, sym, ap, _∙_}
-use mathlib.Core.List.{List, []}
-use Prim.Native.Nat.{ℕ, _+_, _≤_, _<_}
+use mathlib.Core.Path.{_≡_, refl, sym, _∙_}
+use mathlib.Core.List.{[]}
+use Prim.Native.Nat.{_+_, _≤_}
 use native.Mathlib.Omega.{arith}
 use borrow.Author.Needs.{needs}
 use lib.ListN.{length}
@@ -17,7 +17,7 @@ use Rattle.force.specs.Ran.{standing, ranOf}
 use Rattle.force.specs.Radius.{Rounded}
 use Rattle.force.specs.Collide.{begun}
 use Rattle.force.proofs.RadiusLaws.{chain-below}
-use Rattle.force.proofs.CollideSteps.{look, Goes, GoesOn, sets-out, node-step, leaf-on, leaf-dry}
+use Rattle.force.proofs.CollideSteps.{Goes, GoesOn, sets-out, node-step, leaf-on, leaf-dry}
 use Rattle.force.proofs.collide.walk_for.Statement.{statement}
 use Rattle.force.proofs.collide.walk_for.Tie as tie
 
@@ -149,15 +149,16 @@ meet-first-requires c κs =
 returns : tie.Need-returns Inv-loop μ-loop
 unfolding ranOf standing zeroesWork
 returns c =
-    let p = c .before .before .before in
+    let p = c .before .before .before .before in
     let t = p .before .before in
     let n = t .before .before .before in
     let l = n .before .before .before .before .before in
     let f = l .before .before .before .before .before .before .before .before in
-    let a = f .args in (
+    let a = f .args in
+    rw (c .ended .ensures) (
       record {
         is = sym (turn-refused-leaf (mine n) (leaf t)
-            (λ is g b k. leaf-dry (a .at .now) (a .radii .now) (a .strength) (a .i) _ (f .pre .1 .next) is _ _ g b (p .meet-first .last .1 .0) (a .draws .now) (p .meet-first .result) (p .meet-first .ensures .0) (c .if2 .taken)));
+            (λ is g b k. leaf-dry (a .at .now) (a .radii .now) (a .strength) (a .i) _ (f .pre .1 .next) is _ _ g b (p .meet-first .last .1 .0) (a .draws .now) (p .meet-first .result) (p .meet-first .ensures .0) (c .before .if2 .taken)));
         draws = omega (arith, p .meet-first .ensures .1, l .loop .inv .1);
         late = refl;
       },
@@ -182,8 +183,9 @@ loop-again-3 c =
 returns-2 : tie.Need-returns-2 Inv-loop μ-loop
 unfolding ranOf standing zeroesWork
 returns-2 c =
-    let l = c .before in
-    let f = l .before .before .before .before .before .before .before .before in (
+    let l = c .before .before in
+    let f = l .before .before .before .before .before .before .before .before in
+    rw (c .ended2 .ensures) (
       record {
         is = sym (finish (l .loop .inv .3 (f .args .q) (f .pre .1) (l .before .begin .ensures .1)) (omega arith));
         draws = l .loop .inv .1;
@@ -216,9 +218,11 @@ walk-for-spec =
     (λ c. falls (mine (c .before .before .before .before .before .before .before)))
     loop-again-2
     meet-first-requires
-    (λ c. c .before .before .before .meet-first .kept .1 .0 ∙ c .before .before .before .before .before .before .before .before .before .before .before .before .before .loop .inv .0)
+    (λ c κs. search needs)
+    (λ c. c .before .before .before .before .meet-first .kept .1 .0 ∙ c .before .before .before .before .before .before .before .before .before .before .before .before .before .before .loop .inv .0)
     returns
     (λ c. falls (mine (c .before .before .before .before .before .before .before .before)))
     loop-again-3
-    (λ c. c .before .loop .inv .0)
+    (λ c κs. search needs)
+    (λ c. c .before .before .loop .inv .0)
     returns-2)

@@ -1,6 +1,6 @@
 use mathlib.Core.Path.{_≡_, refl, sym, ap, _∙_, subst, subst⁻¹}
 use mathlib.Core.List.{List}
-use Prim.Native.Nat.{ℕ, _-_, _<_}
+use Prim.Native.Nat.{ℕ}
 use native.Mathlib.Omega.{arith}
 use borrow.Author.Needs.{needs}
 use lib.ListN.{length}
@@ -13,7 +13,7 @@ use Rattle.quadtree.specs.WalkAfter.{stepsOf, rooted}
 use Rattle.quadtree.proofs.WalkStands.{chains-below}
 use Rattle.quadtree.proofs.WalkValues.{one-value}
 use Rattle.quadtree.proofs.WalkAfter.{Filling, Taken, start, climbing, reach, kids-lent, chain, turn-node, turn-leaf, finish-read}
-use Rattle.force.specs.Radius.{radiusIn, Standing, Rounded}
+use Rattle.force.specs.Radius.{radiusIn, Standing}
 use Rattle.force.proofs.RadiusLaws.{leaf-fits, node-fits, chain-below, leaf-radius}
 use Rattle.force.proofs.radius.prepare.Statement.{statement}
 use Rattle.force.proofs.radius.prepare.Tie as tie
