@@ -3,7 +3,11 @@ pub mod Pairs
 pub mod Scans
 pub mod Tallies
 pub mod Linked
+pub mod RadiusLaws
+pub mod CollideLaws
+pub mod CollideSteps
+pub mod CollideFolds
 pub mod Centring
 pub mod Closing
 pub mod Called
-pub mod LinkCalled
+pub mod CollideRun

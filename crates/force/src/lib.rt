@@ -2,11 +2,13 @@
 pub mod call;
 pub mod center;
 pub mod check;
+pub mod collide;
 mod draws;
 pub mod link;
 pub mod link_call;
 pub mod particle;
 mod push;
+pub mod radius;
 
 pub use draws::Drawn;
 pub use draws::Jiggled;

@@ -223,11 +223,11 @@ stands-alike {m = m} {next = next} {q = q} s w a e =
     }
 
 module _ {B : Type 0} {Fit : B → Type 0} {read : List ℕ → ℕ → B} {write : List ℕ → ℕ → B → List ℕ} (W : Writes Fit read write) (ofLeaf : List ℕ → B) (ofNode : List B → B) (P : List ℕ → Type 0)
-    (fitLeaf : (is : List ℕ) → P is → Fit (ofLeaf is)) (fitNode : (bs : List B) → Fit (ofNode bs)) where
+    (fitLeaf : (is : List ℕ) → P is → Fit (ofLeaf is)) (fitNode : (m : List ℕ) (s : ℕ) → Fit (ofNode (kidValues read m s))) where
   -- with no node to come, each has the rules' value
-  pub finish : {at : List Float} {n : ℕ} {m₀ m next : List ℕ} {q : Quadtree} (s : Stands at n m₀ next q) → EachChain P (s .tree) → (p : Path) → Filling read write ofLeaf ofNode P next (s .tree) m₀ m p 0
+  pub finish-read : {at : List Float} {n : ℕ} {m₀ m next : List ℕ} {q : Quadtree} (s : Stands at n m₀ next q) → EachChain P (s .tree) → (p : Path) → Filling read write ofLeaf ofNode P next (s .tree) m₀ m p 0
       → Valued read ofLeaf ofNode at n m next q
-  finish {m₀ = m₀} {m = m} {next = next} {q = q} s h p f =
+  finish-read {m₀ = m₀} {m = m} {next = next} {q = q} s h p f =
       let e : m ≡ fill read write ofLeaf ofNode (parentLast (s .tree)) m₀ = none-left (f .rest) (f .count) (f .same) in
       record {
         stands = stands-alike s m (f .alike) (f .long);
@@ -241,3 +241,9 @@ module _ {B : Type 0} {Fit : B → Type 0} {read : List ℕ → ℕ → B} {writ
           → m ≡ fill read write ofLeaf ofNode (parentLast (s .tree)) m₀
       none-left [] c e = e
       none-left (x ∷ rest) c e = absurd (omega arith)
+
+-- the same where whatever is laid at an internal node fits
+pub finish : {B : Type 0} {Fit : B → Type 0} {read : List ℕ → ℕ → B} {write : List ℕ → ℕ → B → List ℕ} → Writes Fit read write → (ofLeaf : List ℕ → B) (ofNode : List B → B) (P : List ℕ → Type 0)
+    → ((is : List ℕ) → P is → Fit (ofLeaf is)) → ((bs : List B) → Fit (ofNode bs)) → {at : List Float} {n : ℕ} {m₀ m next : List ℕ} {q : Quadtree} (s : Stands at n m₀ next q) → EachChain P (s .tree)
+    → (p : Path) → Filling read write ofLeaf ofNode P next (s .tree) m₀ m p 0 → Valued read ofLeaf ofNode at n m next q
+finish {read = read} W ofLeaf ofNode P fitLeaf fitNode s h p f = finish-read W ofLeaf ofNode P fitLeaf (λ m s. fitNode (kidValues read m s)) s h p f

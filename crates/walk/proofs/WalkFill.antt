@@ -138,7 +138,7 @@ module _ {B : Type 0} {Fit : B → Type 0} {read : List ℕ → ℕ → B} {writ
       kept-frame read write ofLeaf ofNode m _ t
       (each-map (λ i. EachSlot (λ j. j ≡ i → ⊥) u) (λ i. read (fill read write ofLeaf ofNode (parentLast u) m) i ≡ read m i) (λ i h. fill-other u m i h) t a) k
 
-  module _ (P : List ℕ → Type 0) (fitLeaf : (is : List ℕ) → P is → Fit (ofLeaf is)) (fitNode : (bs : List B) → Fit (ofNode bs)) (next : List ℕ) where
+  module _ (P : List ℕ → Type 0) (fitLeaf : (is : List ℕ) → P is → Fit (ofLeaf is)) (fitNode : (m : List ℕ) (s : ℕ) → Fit (ofNode (kidValues read m s))) (next : List ℕ) where
     lent-long : (m w : List ℕ) (t : Tree ℕ) → length w ≡ length m → EachSlot (λ s. s * 8 + 8 ≤ length m) t → EachSlot (λ s. s * 8 + 8 ≤ length w) t
     lent-long m w t e h = rw e h
 
@@ -150,7 +150,7 @@ module _ {B : Type 0} {Fit : B → Type 0} {read : List ℕ → ℕ → B} {writ
         → Kept read write ofLeaf ofNode (write m s (ofNode (kidValues read m s))) (node s t0 t1 t2 t3)
     over s t0 t1 t2 t3 m z b l0 l1 l2 l3 n0 n1 n2 n3 k0 k1 k2 k3 =
         let w = write m s (ofNode (kidValues read m s)) in (
-          W .same m s (ofNode (kidValues read m s)) b (fitNode (kidValues read m s))
+          W .same m s (ofNode (kidValues read m s)) b (fitNode m s)
               ∙ ap ofNode (kid-reads read m next s t0 t1 t2 t3 l0 l1 l2 l3
               ∙ sym (four read (reads-frame read m w t0 (still t0 n0)) (reads-frame read m w t1 (still t1 n1)) (reads-frame read m w t2 (still t2 n2)) (reads-frame read m w t3 (still t3 n3)))),
           kept-frame read write ofLeaf ofNode m _ t0 (still t0 n0) k0,
