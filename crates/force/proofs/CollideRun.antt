@@ -23,8 +23,8 @@ use Rattle.quadtree.specs.declared.build.Built.the-variants.{Refused}
 use Rattle.quadtree.specs.Slots.{inCells, Stands}
 use Rattle.quadtree.specs.Build.{particles, Builds}
 use Rattle.quadtree.proofs.AddHold.{cells-depth}
-use Rattle.quadtree.proofs.WalkTurns.{nodes-seen}
-use Rattle.quadtree.proofs.WalkStands.{seen-cells}
+use Rattle.walk.proofs.WalkTurns.{nodes-seen}
+use Rattle.walk.proofs.WalkStands.{seen-cells}
 use Rattle.force.specs.Radius.{Rounded}
 use Rattle.force.specs.Collide.{Bounded, Stood, walkAll, walkTimes}
 use Rattle.force.proofs.CollideSteps.{look, seen-radii}

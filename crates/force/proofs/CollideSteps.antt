@@ -15,12 +15,12 @@ use Rattle.rules.specs.Walk.{internal, tip, Counted, after, stopIf}
 use Rattle.rules.specs.Flow.{Flow, flow}
 use Rattle.rules.specs.Collide.{radiusOf, radiusTree, away, meetFirst, collideStep}
 use Rattle.quadtree.specs.declared.Quadtree.{Quadtree}
-use Rattle.quadtree.specs.declared.visit.Walk.{Walk}
-use Rattle.quadtree.specs.declared.visit.Waiting.{Waiting}
+use Rattle.walk.specs.declared.visit.Walk.{Walk}
+use Rattle.walk.specs.declared.visit.Waiting.{Waiting}
 use Rattle.quadtree.specs.Slots.{Follows, first}
-use Rattle.quadtree.specs.Walk.{stackOf, Sized, lay, seen, EachBelow}
-use Rattle.quadtree.proofs.Walking.{Walking, Turn, start}
-use Rattle.quadtree.proofs.WalkStands.{chains-below, found}
+use Rattle.walk.specs.Walk.{stackOf, Sized, lay, seen, EachBelow}
+use Rattle.walk.proofs.Walking.{Walking, Turn, start}
+use Rattle.walk.proofs.WalkStands.{chains-below, found}
 use Rattle.force.specs.declared.draws.Spent.{Spent}
 use Rattle.force.specs.Draws.{spentOf}
 use Rattle.force.specs.Radius.{radiusIn, Rounded}

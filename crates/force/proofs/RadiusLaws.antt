@@ -12,9 +12,9 @@ use Rattle.rules.specs.Plain.{foldl}
 use Rattle.rules.specs.Number.{0·, plainZero}
 use Rattle.rules.specs.Collide.{greater, radiusOf, leafRadius, nodeRadius}
 use Rattle.quadtree.specs.Slots.{kid, kids, Follows, first}
-use Rattle.quadtree.specs.Walk.{EachBelow, ChainFrom}
-use Rattle.quadtree.specs.WalkAfter.{valuesAt, kidValues}
-use Rattle.quadtree.proofs.WalkAfter.{values-some, fold-children}
+use Rattle.walk.specs.Walk.{EachBelow, ChainFrom}
+use Rattle.walk.specs.WalkAfter.{valuesAt, kidValues}
+use Rattle.walk.proofs.WalkAfter.{values-some, fold-children}
 use Rattle.force.specs.Radius.{radiusIn}
 
 -- ---- bit patterns

@@ -6,7 +6,7 @@ use lib.Ieee.{Float}
 use Rattle.rules.specs.Collide.{leafRadius, nodeRadius}
 use Rattle.quadtree.specs.declared.Quadtree.{Quadtree}
 use Rattle.quadtree.specs.Slots.{value, Stands}
-use Rattle.quadtree.specs.WalkAfter.{Valued}
+use Rattle.walk.specs.WalkAfter.{Valued}
 
 -- value 0 of a node
 abbrev pub radiusIn : List ℕ → ℕ → Float

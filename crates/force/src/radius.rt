@@ -2,15 +2,15 @@
 use number::plain_zero;
 use quadtree::Quadtree;
 use quadtree::store;
-use quadtree::visit::wide;
-use quadtree::visit_after;
-use quadtree::visit_after::Path;
+use walk::visit::wide;
+use walk::visit_after;
+use walk::visit_after::Path;
 ghost use mathlib.Core.Path.{_≡_};
 ghost use Prim.Native.Nat.{_+_, _*_, _≤_, _<_};
 ghost use lib.ListN.{length};
 ghost use Rattle.rules.specs.Plain.{foldl};
 ghost use Rattle.rules.specs.Collide as Collide;
-ghost use Rattle.quadtree.specs.WalkAfter.{Lent, KidsLent, valuesAt, kidValues};
+ghost use Rattle.walk.specs.WalkAfter.{Lent, KidsLent, valuesAt, kidValues};
 ghost use Rattle.force.specs.Radius.{radiusIn, Standing, Prepares};
 
 // -0.0 is read as 0.0.

@@ -6,16 +6,6 @@ pub mod AddSplit
 pub mod AddChain
 pub mod AddHold
 pub mod AddWrap
-pub mod WalkStack
-pub mod WalkTurns
-pub mod Walking
-pub mod WalkStands
-pub mod Trials
-pub mod WalkClimb
-pub mod WalkSteps
-pub mod WalkValues
-pub mod WalkFill
-pub mod WalkAfter
 pub mod AddTurns
 pub mod AddPlaced
 pub mod AddInsert

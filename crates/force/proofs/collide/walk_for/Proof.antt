@@ -10,8 +10,8 @@ use Rattle.rules.specs.Tree.{nodes}
 use Rattle.rules.specs.Collide.{radiusTree}
 use Rattle.quadtree.specs.declared.Quadtree.{Quadtree}
 use Rattle.quadtree.specs.Slots.{word}
-use Rattle.quadtree.specs.Walk.{stackOf, lay}
-use Rattle.quadtree.proofs.Walking.{Pushed, leftOf, finish, low, reach, falls, room, turn-skip, turn-down, falls-down, chain, turn-leaf, turn-refused-leaf}
+use Rattle.walk.specs.Walk.{stackOf, lay}
+use Rattle.walk.proofs.Walking.{Pushed, leftOf, finish, low, reach, falls, room, turn-skip, turn-down, falls-down, chain, turn-leaf, turn-refused-leaf}
 use Rattle.force.specs.Draws.{From}
 use Rattle.force.specs.Ran.{standing, ranOf}
 use Rattle.force.specs.Radius.{Rounded}

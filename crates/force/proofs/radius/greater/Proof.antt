@@ -1,5 +1,5 @@
 use borrow.Author.Needs.{needs}
-use Rattle.quadtree.proofs.WalkAfter.{lent-some}
+use Rattle.walk.proofs.WalkAfter.{lent-some}
 use Rattle.force.proofs.RadiusLaws.{child-greater, child-less}
 use Rattle.force.proofs.radius.greater.Statement.{statement}
 use Rattle.force.proofs.radius.greater.Tie as tie

@@ -8,11 +8,11 @@ use lib.Ieee.{Float}
 use Rattle.rules.specs.Collide.{leafRadius, nodeRadius}
 use Rattle.quadtree.specs.declared.Quadtree.{Quadtree}
 use Rattle.quadtree.specs.Slots.{word, putValue}
-use Rattle.quadtree.specs.Walk.{EachBelow}
-use Rattle.quadtree.specs.WalkAfter.{stepsOf, rooted}
-use Rattle.quadtree.proofs.WalkStands.{chains-below}
-use Rattle.quadtree.proofs.WalkValues.{one-value}
-use Rattle.quadtree.proofs.WalkAfter.{Filling, Taken, start, climbing, reach, kids-lent, chain, turn-node, turn-leaf, finish-read}
+use Rattle.walk.specs.Walk.{EachBelow}
+use Rattle.walk.specs.WalkAfter.{stepsOf, rooted}
+use Rattle.walk.proofs.WalkStands.{chains-below}
+use Rattle.walk.proofs.WalkValues.{one-value}
+use Rattle.walk.proofs.WalkAfter.{Filling, Taken, start, climbing, reach, kids-lent, chain, turn-node, turn-leaf, finish-read}
 use Rattle.force.specs.Radius.{radiusIn, Standing}
 use Rattle.force.proofs.RadiusLaws.{leaf-fits, node-fits, chain-below, leaf-radius}
 use Rattle.force.proofs.radius.prepare.Statement.{statement}
