@@ -11,3 +11,8 @@ pub mod Centring
 pub mod Closing
 pub mod Called
 pub mod CollideRun
+pub mod ChargeChain
+pub mod ChargeLaws
+pub mod ManyBodyLaws
+pub mod ManyBodyWalk
+pub mod ManyBodyRun

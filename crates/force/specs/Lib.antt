@@ -6,3 +6,5 @@ pub mod Collide
 pub mod Columns
 pub mod Checks
 pub mod Calls
+pub mod Charge
+pub mod ManyBody

@@ -1,11 +1,13 @@
 // The forces on velocities, Center and the closing move, after fjadra's src/force.
 pub mod call;
 pub mod center;
+pub mod charge;
 pub mod check;
 pub mod collide;
 mod draws;
 pub mod link;
 pub mod link_call;
+pub mod many_body;
 pub mod particle;
 mod push;
 pub mod radius;
