@@ -10,6 +10,7 @@ pub mod CollideFolds
 pub mod Centring
 pub mod Closing
 pub mod Called
+pub mod LinkCalled
 pub mod CollideRun
 pub mod ChargeChain
 pub mod ChargeLaws
