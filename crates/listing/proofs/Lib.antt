@@ -6,3 +6,4 @@ pub mod Sizes
 pub mod Reading
 pub mod Accepted
 pub mod Sheets
+pub mod Inputs

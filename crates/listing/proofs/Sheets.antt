@@ -5,7 +5,7 @@ use mathlib.Core.List.{List, [], _∷_, _++_}
 use Prim.Native.Nat.{ℕ, _+_, _*_, _%_, _≤_, _<_}
 use native.Mathlib.Nat.{le-trans}
 use borrow.Author.Tests.{le-leb, lt-leb, eq-eqb, ne-eqb}
-use lib.Dec.{leb, eqb, lit≤}
+use lib.Dec.{leb, eqb, lit≤, lit<}
 use lib.ListN.{length}
 use Rattle.rules.specs.declared.Extent.{Extent}
 use Rattle.rules.specs.declared.Refusal.{Refusal}
@@ -34,36 +34,31 @@ tree-after : (sheet : List ℕ) (most slots : ℕ) (lengths : Check) → treeOfS
 unfolding treeOfSheet
 tree-after sheet most slots lengths = refl
 
-count-in : (most n : ℕ) → n ≤ most → countCheck most n ≡ fine
-count-in most n h = ap (λ (ok : Bool). require ok 1 0) (le-leb n most h)
-
 -- ---- up to 512 records: the tree call's own answer
 
-module _ (l : TreeInput) (few : countOf (l .sheet) ≤ mostListed) (slots : slotsOf (l .work) ≡ listerSlots) (lengths : treeLengths l ≡ fine) where
-  same-tree : treeOfSheet mostListed listerSlots fine (l .sheet) ≡ treeResult l
-  unfolding treeResult
-  same-tree =
-      let n = countOf (l .sheet) in
-      tree-after (l .sheet) mostListed listerSlots fine
-      ∙ ap (λ (c : Check). after (l .sheet) (lengthCheck (l .sheet)) c fine listerSlots) (count-in mostListed n few ∙ sym (count-in mostParticles n (le-trans few (lit≤ tt))))
-      ∙ ap₂ (λ (c : Check) (k : ℕ). after (l .sheet) (lengthCheck (l .sheet)) (countCheck mostParticles n) c k) (sym lengths) (sym slots)
-      ∙ sym (tree-after (l .sheet) mostParticles (slotsOf (l .work)) (treeLengths l))
+module _ (l : TreeInput) (slots : slotsOf (l .work) ≡ listerSlots) (lengths : treeLengths l ≡ fine) where
+  abbrev result : Outcome (Tree Extent)
+  result = treeResult mostListed l
 
-  lister-of : lister (l .sheet) ≡ listing (l .sheet) (treeResult l)
+  same-tree : treeOfSheet mostListed listerSlots fine (l .sheet) ≡ result
+  unfolding treeResult
+  same-tree = ap₂ (λ (c : Check) (k : ℕ). treeOfSheet mostListed k c (l .sheet)) (sym lengths) (sym slots)
+
+  lister-of : lister (l .sheet) ≡ listing (l .sheet) result
   unfolding lister
   lister-of = ap (listing (l .sheet)) same-tree
 
   -- refused: the line with the number
-  pub lister-refused : (r : Refusal) → treeResult l ≡ refused r → lister (l .sheet) ≡ line (ascii "refused" ∷ decimal (r .number) ∷ [])
+  pub lister-refused : (r : Refusal) → result ≡ refused r → lister (l .sheet) ≡ line (ascii "refused" ∷ decimal (r .number) ∷ [])
   lister-refused r e = lister-of ∙ ap (listing (l .sheet)) e
 
-  module _ (t : Tree Extent) (e : treeResult l ≡ done t) where
+  module _ (t : Tree Extent) (e : result ≡ done t) where
     -- accepted: the extent and the nodes
     pub lister-done : lister (l .sheet) ≡ extentLine (coverSheet (l .sheet)) ++ rowLines (rowsOf t) (chainsOf t)
     lister-done = lister-of ∙ ap (listing (l .sheet)) e
 
     -- and what the call leaves tells of that tree
-    pub told : Told (coverSheet (l .sheet)) t (treeAnswer l .extent) (treeAnswer l .nodes) (rowsAfter l) (chainsAfter l)
+    pub told : Told (coverSheet (l .sheet)) t (treeAnswer l result .extent) (treeAnswer l result .nodes) (rowsAfter l result) (chainsAfter l result)
     unfolding treeAnswer rowsAfter chainsAfter
     told = record {
       listed = accepted (l .sheet) t (same-tree ∙ e);
@@ -91,60 +86,60 @@ lister-many sheet whole many =
     (tree-after sheet mostListed listerSlots fine
     ∙ ap₂ (λ (ok few : Bool). after sheet (require ok 10 0) (require few 1 0) fine listerSlots) (eq-eqb (length sheet % recordSize) 0 whole) (lt-leb (countOf sheet) mostListed many))
 
--- ---- a refusal's number is at most 10
+-- ---- a refusal's number is one of 1 to 10
 
-abbrev AtMost10 : {A : Type 0} → Outcome A → Type 0
-AtMost10 (done a) = Unit
-AtMost10 (refused r) = r .number ≤ 10
+abbrev Numbered : {A : Type 0} → Outcome A → Type 0
+Numbered (done a) = Unit
+Numbered (refused r) = (0 < r .number) × (r .number ≤ 10)
 
-most-require : (ok : Bool) (n p : ℕ) → n ≤ 10 → AtMost10 (require ok n p)
-most-require true n p h = tt
-most-require false n p h = h
+numbered-require : (ok : Bool) (n p : ℕ) → (0 < n) × (n ≤ 10) → Numbered (require ok n p)
+numbered-require true n p h = tt
+numbered-require false n p h = h
 
-most-then : (a b : Check) → AtMost10 a → AtMost10 b → AtMost10 (a then b)
-most-then (done _) b h k = k
-most-then (refused r) b h k = h
+numbered-then : (a b : Check) → Numbered a → Numbered b → Numbered (a then b)
+numbered-then (done _) b h k = k
+numbered-then (refused r) b h k = h
 
-most-bind : {A B : Type 0} (o : Outcome A) (f : A → Outcome B) → AtMost10 o → ((a : A) → AtMost10 (f a)) → AtMost10 (o >>= f)
-most-bind (done a) f h k = k a
-most-bind (refused r) f h k = h
+numbered-bind : {A B : Type 0} (o : Outcome A) (f : A → Outcome B) → Numbered o → ((a : A) → Numbered (f a)) → Numbered (o >>= f)
+numbered-bind (done a) f h k = k a
+numbered-bind (refused r) f h k = h
 
-most-from : {A : Type 0} (f : ℕ → A → Check) → ((i : ℕ) (a : A) → AtMost10 (f i a)) → (i : ℕ) (l : List A) → AtMost10 (checkFrom f i l)
-most-from f h i [] = tt
-most-from f h i (a ∷ l) = most-bind (f i a) (λ _. checkFrom f (i + 1) l) (h i a) (λ _. most-from f h (i + 1) l)
+numbered-from : {A : Type 0} (f : ℕ → A → Check) → ((i : ℕ) (a : A) → Numbered (f i a)) → (i : ℕ) (l : List A) → Numbered (checkFrom f i l)
+numbered-from f h i [] = tt
+numbered-from f h i (a ∷ l) = numbered-bind (f i a) (λ _. checkFrom f (i + 1) l) (h i a) (λ _. numbered-from f h (i + 1) l)
 
-most-length : (sheet : List ℕ) → AtMost10 (lengthCheck sheet)
+numbered-length : (sheet : List ℕ) → Numbered (lengthCheck sheet)
 unfolding lengthCheck
-most-length sheet = most-require (eqb (length sheet % recordSize) 0) 10 0 (lit≤ tt)
+numbered-length sheet = numbered-require (eqb (length sheet % recordSize) 0) 10 0 (lit< tt, lit≤ tt)
 
-most-record : (i : ℕ) (p : Particle) → AtMost10 (recordCheck i p)
+numbered-record : (i : ℕ) (p : Particle) → Numbered (recordCheck i p)
 unfolding recordCheck
-most-record i p =
-    most-then (require (leb (p .flags) 3) 10 i then coordinateCheck i (p .x) (p .y)) (velocityCheck i (p .vx) (p .vy))
-    (most-then (require (leb (p .flags) 3) 10 i) (coordinateCheck i (p .x) (p .y)) (most-require (leb (p .flags) 3) 10 i (lit≤ tt)) (most-require (placeRange (p .x) (p .y)) 4 i (lit≤ tt)))
-    (most-require (speedRange (p .vx) (p .vy)) 5 i (lit≤ tt))
+numbered-record i p =
+    numbered-then (require (leb (p .flags) 3) 10 i then coordinateCheck i (p .x) (p .y)) (velocityCheck i (p .vx) (p .vy))
+    (numbered-then (require (leb (p .flags) 3) 10 i) (coordinateCheck i (p .x) (p .y)) (numbered-require (leb (p .flags) 3) 10 i (lit< tt, lit≤ tt)) (numbered-require (placeRange (p .x) (p .y)) 4 i (lit< tt, lit≤ tt)))
+    (numbered-require (speedRange (p .vx) (p .vy)) 5 i (lit< tt, lit≤ tt))
 
-most-fits : (slots i : ℕ) (t : Tree Extent) → AtMost10 (fitsCheck slots i t)
+numbered-fits : (slots i : ℕ) (t : Tree Extent) → Numbered (fitsCheck slots i t)
 unfolding fitsCheck
-most-fits slots i t =
-    most-then (require (leb (depth t) 65) 6 i) (require (leb (nodes t) slots) 7 i) (most-require (leb (depth t) 65) 6 i (lit≤ tt)) (most-require (leb (nodes t) slots) 7 i (lit≤ tt))
+numbered-fits slots i t =
+    numbered-then (require (leb (depth t) 65) 6 i) (require (leb (nodes t) slots) 7 i) (numbered-require (leb (depth t) 65) 6 i (lit< tt, lit≤ tt)) (numbered-require (leb (nodes t) slots) 7 i (lit< tt, lit≤ tt))
 
-most-after : (sheet : List ℕ) (whole count lengths : Check) (slots : ℕ) → AtMost10 whole → AtMost10 count → AtMost10 lengths → AtMost10 (after sheet whole count lengths slots)
+numbered-after : (sheet : List ℕ) (whole count lengths : Check) (slots : ℕ) → Numbered whole → Numbered count → Numbered lengths → Numbered (after sheet whole count lengths slots)
 unfolding recordsCheck treeCheck
-most-after sheet whole count lengths slots h k m =
-    most-bind (whole then count then lengths then recordsCheck (particlesOf sheet)) _
-    (most-then (whole then count then lengths) (recordsCheck (particlesOf sheet))
-    (most-then (whole then count) lengths (most-then whole count h k) m)
-    (most-from recordCheck most-record 0 (particlesOf sheet)))
-    (λ _. most-bind (treeCheck (placesOf (particlesOf sheet)) (countOf sheet) slots) _ (most-from _ (λ i _. most-fits slots i (treeOf (placesOf (particlesOf sheet)) (i + 1))) 0 (upTo (countOf sheet))) (λ _. tt))
+numbered-after sheet whole count lengths slots h k m =
+    numbered-bind (whole then count then lengths then recordsCheck (particlesOf sheet)) _
+    (numbered-then (whole then count then lengths) (recordsCheck (particlesOf sheet))
+    (numbered-then (whole then count) lengths (numbered-then whole count h k) m)
+    (numbered-from recordCheck numbered-record 0 (particlesOf sheet)))
+    (λ _. numbered-bind (treeCheck (placesOf (particlesOf sheet)) (countOf sheet) slots) _ (numbered-from _ (λ i _. numbered-fits slots i (treeOf (placesOf (particlesOf sheet)) (i + 1))) 0 (upTo (countOf sheet))) (λ _. tt))
 
-most-tree : (l : TreeInput) → AtMost10 (treeResult l)
+numbered-tree : (most : ℕ) (l : TreeInput) → Numbered (treeResult most l)
 unfolding treeResult
-most-tree l =
-    subst AtMost10 (sym (tree-after (l .sheet) mostParticles (slotsOf (l .work)) (treeLengths l)))
-    (most-after (l .sheet) (lengthCheck (l .sheet)) (countCheck mostParticles (countOf (l .sheet))) (treeLengths l) (slotsOf (l .work)) (most-length (l .sheet))
-    (most-require (leb (countOf (l .sheet)) mostParticles) 1 0 (lit≤ tt))
-    (most-require (eqb (length (l .rows)) (slotsOf (l .work) * 4) && eqb (length (l .chains)) (countOf (l .sheet))) 2 0 (lit≤ tt)))
+numbered-tree most l =
+    subst Numbered (sym (tree-after (l .sheet) most (slotsOf (l .work)) (treeLengths l)))
+    (numbered-after (l .sheet) (lengthCheck (l .sheet)) (countCheck most (countOf (l .sheet))) (treeLengths l) (slotsOf (l .work)) (numbered-length (l .sheet))
+    (numbered-require (leb (countOf (l .sheet)) most) 1 0 (lit< tt, lit≤ tt))
+    (numbered-require (eqb (length (l .rows)) (slotsOf (l .work) * 4) && eqb (length (l .chains)) (countOf (l .sheet))) 2 0 (lit< tt, lit≤ tt)))
 
-pub number-most : (l : TreeInput) (r : Refusal) → treeResult l ≡ refused r → r .number ≤ 10
-number-most l r e = subst AtMost10 e (most-tree l)
+pub number-is : (most : ℕ) (l : TreeInput) (r : Refusal) → treeResult most l ≡ refused r → (0 < r .number) × (r .number ≤ 10)
+number-is most l r e = subst Numbered e (numbered-tree most l)

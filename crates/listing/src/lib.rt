@@ -1,7 +1,9 @@
 // The lister's text: what is written for a sheet, as bytes.
+mod input;
 mod lines;
 mod list;
 mod text;
 
+pub use input::list_sheet;
 pub use lines::put_refused;
 pub use list::write_listing;
