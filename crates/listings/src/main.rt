@@ -51,18 +51,24 @@ fn show(name: &[u8], kept: &[u8], total: usize, out: &mut [u8])
     io::write_all(1, &out[..size]);
 }
 
+// The sheet's first bytes.
+fn show_first(name: &[u8], total: usize, sheet: &[u8], out: &mut [u8])
+    requires { ⌜ (total ≤ 20480) × (length (now sheet) ≡ 20480) × (length (now out) ≡ 16384) ⌝ }
+{
+    show(name, &sheet[..total], total, out);
+}
+
 fn show_words(name: &[u8], words: &[u64], sheet: &mut [u8], out: &mut [u8])
-    requires { ⌜ (length (now sheet) ≡ 20480) × (length (now words) ≤ 2560) × (length (now out) ≡ 16384) ⌝ }
+    requires { ⌜ (length (now words) ≤ 2560) × (length (now sheet) ≡ 20480) × (length (now out) ≡ 16384) ⌝ }
 {
     put_words(sheet, words);
-    let total = 8 * words.len();
-    show(name, &sheet[..total], total, out);
+    show_first(name, 8 * words.len(), sheet, out);
 }
 
 fn show_trees(sheet: &mut [u8], out: &mut [u8])
     requires { ⌜ (length (now sheet) ≡ 20480) × (length (now out) ≡ 16384) ⌝ }
 {
-    show(b"no points\n", &sheet[..0], 0, out);
+    show_first(b"no points\n", 0, sheet, out);
     let sample = sheets::SAMPLE;
     show_words(b"sample\n", &sample, sheet, out);
     let minus = sheets::MINUS;
@@ -71,19 +77,24 @@ fn show_trees(sheet: &mut [u8], out: &mut [u8])
     show_words(b"deepest\n", &deepest, sheet, out);
 }
 
-fn show_refusals(sheet: &mut [u8], out: &mut [u8])
+fn show_limits(sheet: &mut [u8], out: &mut [u8])
     requires { ⌜ (length (now sheet) ≡ 20480) × (length (now out) ≡ 16384) ⌝ }
 {
+    show_first(b"one byte\n", 1, sheet, out);
     show(b"513 records\n", sheet, 20520, out);
+    put_pairs(sheet);
+    show_first(b"too many nodes\n", 1760, sheet, out);
+    let deeper = sheets::DEEPER;
+    show_words(b"too deep\n", &deeper, sheet, out);
+}
+
+fn show_records(sheet: &mut [u8], out: &mut [u8])
+    requires { ⌜ (length (now sheet) ≡ 20480) × (length (now out) ≡ 16384) ⌝ }
+{
     let nan = sheets::NAN;
     show_words(b"NaN\n", &nan, sheet, out);
     let fast = sheets::FAST;
     show_words(b"infinite velocity\n", &fast, sheet, out);
-    let deeper = sheets::DEEPER;
-    show_words(b"too deep\n", &deeper, sheet, out);
-    put_pairs(sheet);
-    show(b"too many nodes\n", &sheet[..1760], 1760, out);
-    show(b"one byte\n", &sheet[..1], 1, out);
     let flag = sheets::FLAG;
     show_words(b"unknown flag\n", &flag, sheet, out);
 }
@@ -92,7 +103,8 @@ fn show_all(sheet: &mut [u8], out: &mut [u8])
     requires { ⌜ (length (now sheet) ≡ 20480) × (length (now out) ≡ 16384) ⌝ }
 {
     show_trees(sheet, out);
-    show_refusals(sheet, out);
+    show_limits(sheet, out);
+    show_records(sheet, out);
 }
 
 fn main() {
