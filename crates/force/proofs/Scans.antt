@@ -17,7 +17,7 @@ use Rattle.rules.specs.Link.{Ends}
 use Rattle.rules.specs.Force.{endsFrom, endsOf}
 use Rattle.rules.specs.Number.{xAt, yAt, placeRange, speedRange}
 use Rattle.rules.specs.Refusal.{coordinateCheck, velocityCheck}
-use Rattle.force.specs.Links.{endsAt}
+use Rattle.force.specs.Checks.{endsAt}
 use Rattle.force.specs.Calls.{firstOf}
 use Rattle.force.specs.Checks.{coordinatesCheck, velocitiesCheck}
 use Rattle.force.proofs.Pairs.{pair-off}

@@ -1,10 +1,12 @@
--- The checks of pairs by columns. Definitions only.
+-- The checks of pairs by columns, and the ends of a link. Definitions only.
 use mathlib.Core.List.{List}
-use Prim.Native.Nat.{ℕ}
+use Prim.Native.Nat.{ℕ, _+_, _*_}
+use lib.ListN.{getD}
 use lib.Ieee.{Float}
 use Rattle.rules.specs.Plain.{upTo}
 use Rattle.rules.specs.Outcome.{Check, checkEach}
 use Rattle.rules.specs.Number.{xAt, yAt}
+use Rattle.rules.specs.Link.{Ends, ends}
 use Rattle.rules.specs.Refusal.{coordinateCheck, velocityCheck}
 
 -- 4, of n places
@@ -14,3 +16,7 @@ coordinatesCheck n places = checkEach (λ i _. coordinateCheck i (xAt places i) 
 -- 5, of n velocities
 abbrev pub velocitiesCheck : ℕ → List Float → Check
 velocitiesCheck n speeds = checkEach (λ i _. velocityCheck i (xAt speeds i) (yAt speeds i)) (upTo n)
+
+-- the ends of link number k
+abbrev pub endsAt : List ℕ → ℕ → Ends
+endsAt links k = ends (getD links (k * 2) 0) (getD links (k * 2 + 1) 0)

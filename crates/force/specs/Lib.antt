@@ -1,10 +1,5 @@
 pub mod Draws
 pub mod Ran
-pub mod Links
-pub mod Radius
-pub mod Collide
 pub mod Columns
 pub mod Checks
 pub mod Calls
-pub mod Charge
-pub mod ManyBody

@@ -1,5 +1,5 @@
 // The checks of the lists that a force is lent, and of what it leaves. Number 0 at place 0 where nothing is refused.
-use crate::link::index;
+use crate::wide;
 use number::distance_range;
 use number::draw_range;
 use number::is_finite;
@@ -99,7 +99,7 @@ pub fn setting_check(x: f64) -> Refusal
 fn ends_range(n: usize, source: u32, target: u32) -> bool
     ensures { λ r. ⌜ r ≡ endsRange n (ends source target) ⌝ }
 {
-    index(source) < n && index(target) < n
+    wide(source) < n && wide(target) < n
 }
 
 // The place is the index of the first link with an end that is not a particle.

@@ -1,16 +1,10 @@
-// The forces on velocities, Center and the closing move, after fjadra's src/force.
+// What the forces share: the lent draws, a push on a velocity, the checks of their lists, how a call ends. Center and the closing move stand here too.
 pub mod call;
 pub mod center;
-pub mod charge;
 pub mod check;
-pub mod collide;
 mod draws;
-pub mod link;
-pub mod link_call;
-pub mod many_body;
 pub mod particle;
 mod push;
-pub mod radius;
 
 pub use draws::Drawn;
 pub use draws::Jiggled;
@@ -20,10 +14,24 @@ pub use draws::shaken;
 pub use push::push_back;
 pub use push::push_on;
 use rules::Refusal;
+ghost use mathlib.Core.Path.{_≡_};
 
 // How a force ended: refused, or with number 0; how many draws are used, and how many nodes were handed out.
 pub struct Ran {
     pub refusal: Refusal,
     pub used: usize,
     pub visits: u64,
+}
+
+// A number as an index: a call asks no proof that it fits.
+pub fn index(x: u64) -> usize
+    ensures { λ r. ⌜ r ≡ x ⌝ }
+{
+    x as usize
+}
+
+pub fn wide(x: u32) -> usize
+    ensures { λ r. ⌜ r ≡ x ⌝ }
+{
+    x as usize
 }

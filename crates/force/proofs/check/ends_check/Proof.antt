@@ -6,7 +6,7 @@ use borrow.Author.Needs.{needs}
 use Rattle.rules.specs.Outcome.{require, requireAll, checkFrom}
 use Rattle.rules.specs.Link.{Ends}
 use Rattle.rules.specs.Force.{endsOf, endsRange}
-use Rattle.force.specs.Links.{endsAt}
+use Rattle.force.specs.Checks.{endsAt}
 use Rattle.force.proofs.Scans.{endsLeft, ends-first, ends-left, ends-none, test-stop, test-on}
 use Rattle.force.proofs.check.ends_check.Statement.{statement}
 use Rattle.force.proofs.check.ends_check.Tie as tie

@@ -4,10 +4,10 @@ use Rattle.force.proofs.check.ends_range.Statement.{statement}
 use Rattle.force.proofs.check.ends_range.Tie as tie
 
 returns : tie.Need-returns
-returns c = rw (← c .before .before .index .ensures, ← c .index2 .ensures, lt-ltb _ _ (c .before .if1 .taken))
+returns c = rw (← c .before .before .wide .ensures, ← c .wide2 .ensures, lt-ltb _ _ (c .before .if1 .taken))
 
 returns-2 : tie.Need-returns-2
-returns-2 c = rw (← c .before .index .ensures, le-ltb _ _ (c .if1 .left))
+returns-2 c = rw (← c .before .wide .ensures, le-ltb _ _ (c .if1 .left))
 
 pub ends-range-spec : {M : Type 1} → statement M
 ends-range-spec = tie.close (tie.spec (λ c κs. search needs) (λ c κs. search needs) returns returns-2)

@@ -1,0 +1,126 @@
+-- The whole force: one tree serves all iterations, building it refuses by 6 or 7, and the visits stay few. Assumes nothing.
+use mathlib.Core.Path.{_≡_, refl, sym, ap, _∙_, subst}
+use mathlib.Core.Bool.{Bool, true, false}
+use mathlib.Core.List.{List, [], _∷_}
+use Prim.Native.Nat.{ℕ, zero, suc, _+_, _*_, _/_, _≤_, _^_}
+use native.Mathlib.Nat.{mul-le-mul}
+use native.Mathlib.Omega.{arith}
+use lib.Dec.{leb}
+use lib.ListN.{length}
+use lib.Ieee.{Float}
+use Rattle.rules.specs.declared.Extent.{Extent}
+use Rattle.rules.specs.declared.Refusal.{Refusal}
+use Rattle.rules.specs.Plain.{upTo}
+use Rattle.rules.specs.Outcome.{Outcome, done, refused, refusal, _>>=_, foldStages, Check, fine, require, _then_, checkFrom, zeroesWork}
+use Rattle.rules.specs.Tree.{Tree, nodes, depth, treeOf, fitsCheck, treeCheck}
+use Rattle.rules.specs.Walk.{Counted}
+use Rattle.rules.specs.Flow.{Flow}
+use Rattle.rules.specs.Collide.{radiusTree, collideOnce, runCollide}
+use Rattle.rules.proofs.CellRule.{tree-nodes}
+use Rattle.quadtree.specs.declared.Quadtree.{Quadtree}
+use Rattle.quadtree.specs.declared.build.Built.{Built}
+use Rattle.quadtree.specs.declared.build.Built.the-variants.{Refused}
+use Rattle.quadtree.specs.Slots.{inCells, Stands}
+use Rattle.quadtree.specs.Build.{particles, Builds}
+use Rattle.quadtree.proofs.AddHold.{cells-depth}
+use Rattle.walk.proofs.WalkTurns.{nodes-seen}
+use Rattle.walk.proofs.WalkStands.{seen-cells}
+use Rattle.collide.specs.Radius.{Rounded}
+use Rattle.collide.specs.Collide.{Bounded, Stood, walkAll, walkTimes}
+use Rattle.collide.proofs.CollideSteps.{look, seen-radii}
+
+-- ---- the tree is the same each time
+
+bind-same : {A B : Type 0} (o : Outcome A) {f g : A → Outcome B} → ((a : A) → f a ≡ g a) → (o >>= f) ≡ (o >>= g)
+bind-same (done a) h = h a
+bind-same (refused r) h = refl
+
+stages-same : {A S : Type 0} (f g : S → A → Outcome S) → ((s : S) (a : A) → f s a ≡ g s a) → (s : S) (l : List A) → foldStages f s l ≡ foldStages g s l
+stages-same f g h s [] = refl
+stages-same f g h s (a ∷ l) = ap (λ (o : Outcome _). o >>= λ t. foldStages f t l) (h s a) ∙ bind-same (g s a) (λ t. stages-same f g h t l)
+
+module _ (at radii : List Float) (strength : Float) (iterations slots : ℕ) (m : Counted Flow) where
+  once-walked : treeCheck at (length radii) slots ≡ fine → (m : Counted Flow) → walkAll at radii strength m ≡ collideOnce at radii strength slots m
+  unfolding collideOnce walkAll
+  once-walked e m = rw e
+
+  pub run-walked : treeCheck at (length radii) slots ≡ fine → walkTimes at radii strength iterations m ≡ runCollide at radii strength iterations slots m
+  unfolding runCollide walkTimes
+  run-walked e = stages-same (λ m _. walkAll at radii strength m) (λ m _. collideOnce at radii strength slots m) (λ m _. once-walked e m) m (upTo iterations)
+
+  once-refused : {r : Refusal} → treeCheck at (length radii) slots ≡ refused r → collideOnce at radii strength slots m ≡ refused r
+  unfolding collideOnce
+  once-refused e = rw e
+
+  -- with no iteration none is built
+  pub run-none : iterations ≡ 0 → done m ≡ runCollide at radii strength iterations slots m
+  unfolding runCollide
+  run-none e = rw e
+
+pub run-refused : (at radii : List Float) (strength : Float) (iterations slots : ℕ) (m : Counted Flow) {r : Refusal} → (iterations ≡ 0 → ⊥) → treeCheck at (length radii) slots ≡ refused r
+    → refused r ≡ runCollide at radii strength iterations slots m
+unfolding runCollide
+run-refused at radii strength zero slots m n e = absurd (n refl)
+run-refused at radii strength (suc k) slots m n e = rw (once-refused at radii strength (suc k) slots m e)
+
+-- ---- 6 or 7
+
+-- a refusal after which the work slots are zero
+abbrev Late : Refusal → Type 0
+Late r = (r .number ≡ 0 → ⊥) × (zeroesWork r ≡ true)
+
+late-fits : {A : Type 0} (slots i : ℕ) (t : Tree A) (r : Refusal) → fitsCheck slots i t ≡ refused r → Late r
+unfolding fitsCheck zeroesWork
+late-fits slots i t r e = go (leb (depth t) 65) (leb (nodes t) slots) e
+  where
+    go : (b d : Bool) → (require b 6 i then require d 7 i) ≡ refused r → Late r
+    go true true e = let z : _≡_ {A = ℕ} 0 1 = cc in absurd (omega arith)
+    go true false e = let k : refusal 7 i ≡ r = cc in subst Late k (λ z. omega arith, refl)
+    go false d e = let k : refusal 6 i ≡ r = cc in subst Late k (λ z. omega arith, refl)
+
+late-from : (f : ℕ → ℕ → Check) (r : Refusal) → ((i a : ℕ) → f i a ≡ refused r → Late r) → (i : ℕ) (l : List ℕ) → checkFrom f i l ≡ refused r → Late r
+late-from f r h i [] e = let z : _≡_ {A = ℕ} 0 1 = cc in absurd (omega arith)
+late-from f r h i (a ∷ l) e = go (f i a) refl (late-from f r h (i + 1) l)
+  where
+    go : (o : Check) → f i a ≡ o → (checkFrom f (i + 1) l ≡ refused r → Late r) → Late r
+    go (done t) k rest = rest (rw k at e)
+    go (refused q) k rest = h i a (k ∙ rw k at e)
+
+pub late-tree : (at : List Float) (n slots : ℕ) (r : Refusal) → treeCheck at n slots ≡ refused r → Late r
+unfolding treeCheck
+late-tree at n slots r e = late-from (λ i _. fitsCheck slots i (treeOf at (i + 1))) r (λ i a. late-fits slots i (treeOf at (i + 1)) r) 0 (upTo n) e
+
+-- ---- what building says
+
+-- b is what building answered for a place for each radius, and m the slots, as many as `slots`
+module _ (at radii : List Float) (m next : List ℕ) (slots : ℕ) (b : Built) (p : length at ≡ length radii * 2) (k : length m / 8 ≡ slots) (h : Builds at m next b) where
+  count-is : particles at ≡ length radii
+  count-is = omega arith
+
+  pub told-refused : {r : Refusal} → b ≡ Refused r → treeCheck at (length radii) slots ≡ refused r
+  told-refused e = rw (← count-is, ← k) (subst (Builds at m next) e h)
+
+  pub told-fine : {q : Quadtree} → b ≡ Built.Tree q → treeCheck at (length radii) slots ≡ fine
+  told-fine e = rw (← count-is, ← k) (subst (Builds at m next) e h .0)
+
+  pub told-stood : {q : Quadtree} → b ≡ Built.Tree q → Stood at (length radii) m q
+  told-stood {q} e = record { next = next; stands = subst (λ (n : ℕ). Stands at n m next q) count-is (subst (Builds at m next) e h .1) }
+
+-- ---- how many nodes
+
+nodes-cells : (c : Extent) (t : Tree ℕ) → nodes (inCells c t) ≡ nodes t
+nodes-cells c t = ap nodes (sym (seen-cells c t)) ∙ nodes-seen (λ s c. c) c t
+
+nodes-radii : {at radii : List Float} {m : List ℕ} {q : Quadtree} → Rounded at radii m q → nodes (radiusTree at radii) ≤ 1 + 64 * length radii
+nodes-radii {at} {radii} {m} {q} s =
+    let t = s .valued .stands in
+    let d : depth (treeOf at (length radii)) ≤ 65 = subst (λ (u : Tree Extent). depth u ≤ 65) (t .is) (subst (λ (k : ℕ). k ≤ 65) (sym (cells-depth (q .extent) (t .tree))) (t .levels)) in
+    let e : nodes (treeOf at (length radii)) ≡ nodes (t .tree) = ap nodes (sym (t .is)) ∙ nodes-cells (q .extent) (t .tree) in
+    let g : nodes (radiusTree at radii) ≡ nodes (t .tree) = ap nodes (sym (seen-radii s)) ∙ nodes-seen (look m) (q .extent) (t .tree) in
+    omega (arith, e, g, tree-nodes at (length radii) d .1)
+
+pub few-visits : {at radii : List Float} {m : List ℕ} {q : Quadtree} {iterations visits : ℕ} → Rounded at radii m q → Bounded (length radii) iterations visits
+    → iterations * (length radii * nodes (radiusTree at radii)) ≤ 2 ^ 37
+few-visits {at} {radii} {iterations = iterations} s b =
+    let h : nodes (radiusTree at radii) ≤ 262145 = omega (arith, nodes-radii s, b .few) in
+    omega (arith, mul-le-mul (b .times) (mul-le-mul (b .few) h))

@@ -1,0 +1,5 @@
+pub mod RadiusLaws
+pub mod CollideLaws
+pub mod CollideSteps
+pub mod CollideFolds
+pub mod CollideRun

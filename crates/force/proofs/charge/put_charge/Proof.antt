@@ -1,9 +1,0 @@
-use borrow.Author.Needs.{needs}
-use Rattle.force.proofs.charge.put_charge.Statement.{statement}
-use Rattle.force.proofs.charge.put_charge.Tie as tie
-
-returns : tie.Need-returns
-returns c = cc
-
-pub put-charge-spec : {M : Type 1} → statement M
-put-charge-spec = tie.close (tie.spec (λ c κs. search needs) (λ c κs. search needs) (λ c κs. search needs) (λ c. search needs) returns)

@@ -1,9 +1,0 @@
-use borrow.Author.Needs.{needs}
-use Rattle.force.proofs.link.share.Statement.{statement}
-use Rattle.force.proofs.link.share.Tie as tie
-
-returns : tie.Need-returns
-returns c = cc
-
-pub share-spec : {M : Type 1} → statement M
-share-spec = tie.close (tie.spec (λ c κs. search needs) (λ c κs. search needs) (λ c. search needs) returns)

@@ -1,0 +1,72 @@
+use Prim.Native.Nat.{_<_}
+use native.Mathlib.Omega.{arith}
+use borrow.Author.Needs.{needs}
+use lib.ListN.{length}
+use mathlib.Core.Path.{_∙_}
+use Rattle.rules.specs.Force.{endsOf}
+use Rattle.force.specs.Checks.{endsAt}
+use Rattle.link.proofs.Tallies.{ready-ends, ready-count, ready-small}
+use Rattle.link.proofs.Linked.{tied-is}
+use Rattle.link.proofs.link.tie.Statement.{statement}
+use Rattle.link.proofs.link.tie.Tie as tie
+
+-- both ends are particles
+both : (c : tie.After-wide2)
+    → let n = length (c .before .before .before .before .before .before .before .before .before .args .counts .now) in
+    (c .before .before .wide .result < n) × (c .wide2 .result < n)
+both c =
+    let s = c .before .before .before .before .before .before .before .before .before in
+    let b = ready-ends (s .pre .0) (s .args .k) (s .pre .2) in
+    (rw (c .before .before .wide .ensures) (b .0), rw (c .wide2 .ensures) (b .1))
+
+strength-at-requires : tie.Need-strength-at-requires
+strength-at-requires c κs h =
+    let s = c .before .before .before .before .before .before .before .before .before .before .before .before in
+    omega (arith, s .pre .1 .strengthEach h)
+
+bias-requires : tie.Need-bias-requires
+bias-requires c κs =
+    let d = c .before .before .before .before .before .before in
+    let s = d .before .before .before .before .before .before .before .before .before in
+    omega (arith, ready-small (s .pre .0) (d .before .before .wide .result) (both d .0), ready-small (s .pre .0) (d .wide2 .result) (both d .1))
+
+returns : tie.Need-returns
+returns c =
+    let e = c .before .before in
+    let d = e .before .before .before .before .before .before .before .before in
+    let s = d .before .before .before .before .before .before .before .before .before in
+    let a = s .args in
+    tied-is _ (endsOf (a .links .now)) (a .strengths .now) (a .distances .now) (a .alpha) (a .k) (endsAt (a .links .now) (a .k))
+    (a .x) (a .y) (a .vs .now) (e .share .last .0) (d .before .before .wide .result) (d .wide2 .result) _ _ _ _ _
+    (d .before .before .wide .ensures) (d .wide2 .ensures)
+    (ready-count (s .pre .0) (d .before .before .wide .result) (both d .0) ∙ rw (d .before .before .wide .ensures))
+    (ready-count (s .pre .0) (d .wide2 .result) (both d .1) ∙ rw (d .wide2 .ensures))
+    (e .before .before .before .before .strength-at .ensures)
+    (e .before .before .before .pull-of .ensures)
+    (e .before .bias .ensures)
+    (e .share .ensures)
+
+pub tie-spec : {M : Type 1} → statement M
+tie-spec =
+    tie.close
+    (tie.spec
+    (λ c. search needs)
+    (λ c. search needs)
+    (λ c. search needs)
+    (λ c κs. search needs)
+    (λ c. search needs)
+    (λ c. search needs)
+    (λ c. search needs)
+    (λ c κs. search needs)
+    (λ c. omega (arith, both c))
+    (λ c. both (c .before) .0)
+    (λ c. omega (arith, both (c .before)))
+    (λ c. both (c .before .before) .1)
+    (λ c. search needs)
+    (λ c. search needs)
+    strength-at-requires
+    (λ c κs. search needs)
+    bias-requires
+    (λ c κs. omega (arith, both (c .before .before .before .before .before .before .before)))
+    (λ c. search needs)
+    returns)

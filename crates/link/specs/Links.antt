@@ -1,0 +1,40 @@
+-- What Link is lent, and what it works out beforehand. Definitions only.
+use mathlib.Core.Path.{_≡_}
+use mathlib.Core.List.{List, [], _∷_, map}
+use Prim.Native.Nat.{ℕ, _+_, _*_, _/_, _%_, _≤_, _<_, min}
+use lib.ListN.{length, getD, set}
+use lib.Ieee.{Float, nan}
+use Rattle.rules.specs.Plain.{upTo}
+use Rattle.rules.specs.Number.{_⊘_, 1·, float}
+use Rattle.rules.specs.Link.{Ends, countEnds}
+use Rattle.rules.specs.Force.{endsOf}
+
+-- link ends in pairs, at most 8,192 links, each end one of n particles
+pub record EndsLent (n : ℕ) (links : List ℕ) : Type 0 where
+  pub whole : length links % 2 ≡ 0
+  pub few : length links ≤ 16384
+  pub range : (j : ℕ) → j < length links → getD links j 0 < n
+
+-- a distance for each link, and a strength for each or none at all
+pub record ListsLent (links : List ℕ) (strengths distances : List Float) : Type 0 where
+  pub strengthEach : 0 < length strengths → length strengths ≡ length links / 2
+  pub distanceEach : length distances ≡ length links / 2
+
+-- how many ends each of n particles has
+unfoldable pub tallies : ℕ → List Ends → List ℕ
+tallies n es = map (countEnds es) (upTo n)
+
+-- one end more of particle i
+abbrev pub counted : List ℕ → ℕ → List ℕ
+counted cs i = set cs i (getD cs i 0 + 1)
+
+-- the strength of link number k, its ends having these counts
+abbrev pub strengthOr : List Float → ℕ → ℕ → ℕ → Float
+strengthOr [] k source target = 1· ⊘ float (min source target)
+strengthOr (s ∷ ss) k source target = getD (s ∷ ss) k nan
+
+-- all that a link needs beside its lists: the counts of ends, and a velocity for each particle
+pub record Ready (vs : List Float) (links counts : List ℕ) : Type 0 where
+  pub lent : EndsLent (length counts) links
+  pub tallied : counts ≡ tallies (length counts) (endsOf links)
+  pub speeds : length vs ≡ length counts * 2

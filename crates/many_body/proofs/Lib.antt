@@ -1,0 +1,5 @@
+pub mod ChargeChain
+pub mod ChargeLaws
+pub mod ManyBodyLaws
+pub mod ManyBodyWalk
+pub mod ManyBodyRun

@@ -1,0 +1,11 @@
+use borrow.Author.Needs.{needs}
+use Rattle.rules.specs.ManyBody.{withChild}
+use Rattle.many_body.proofs.charge.with_child.Statement.{statement}
+use Rattle.many_body.proofs.charge.with_child.Tie as tie
+
+returns : tie.Need-returns
+unfolding withChild
+returns c = cc
+
+pub with-child-spec : {M : Type 1} → statement M
+with-child-spec = tie.close (tie.spec (λ c κs. search needs) (λ c κs. search needs) (λ c κs. search needs) returns)

@@ -1,0 +1,3 @@
+// ManyBody, after src/force/many_body.rs of fjadra.
+mod charge;
+pub mod many_body;
