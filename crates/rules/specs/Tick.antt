@@ -9,6 +9,8 @@ use Rattle.rules.specs.declared.Particle.{Particle}
 use Rattle.rules.specs.declared.Refusal.{Refusal}
 use Rattle.rules.specs.declared.Counts.{Counts}
 use Rattle.rules.specs.declared.StepAnswer.{StepAnswer}
+use Rattle.rules.specs.declared.ForceEntry.{ForceEntry}
+use Rattle.rules.specs.declared.Settings.{Settings}
 use Rattle.rules.specs.Plain.{branch, all, sum}
 use Rattle.rules.specs.Outcome.{Outcome, done, refused, refusal, Check, fine, require, _then_, _>>=_, checkEach, foldStages, refusalOf, ifDone, workAfter}
 use Rattle.rules.specs.Number.{_⊕_, _⊖_, _⊗_, floatOf, bitsOf, xAt, yAt}
@@ -29,16 +31,7 @@ pub data Force : Type 0 where
   center : (x y strength : Float) → Force
   unknown : Force
 
--- What is lent of a slot: seven words, the last three a force's settings as f64 bits. Words that a kind doesn't use aren't looked at.
-pub record ForceEntry : Type 0 where
-  pub kind : ℕ
-  pub iterations : ℕ
-  pub links : ℕ
-  pub strengths : ℕ
-  pub a : Float
-  pub b : Float
-  pub c : Float
-
+-- seven words: a kind, how many iterations, links and link strengths, and three settings as f64 bits
 abbrev pub entrySize : ℕ
 entrySize = 7
 
@@ -124,13 +117,9 @@ forceRanges unknown = require false 5 0
 
 -- ---- what a tick and a step are lent
 
-pub record Settings : Type 0 where
-  pub alphaTarget : Float
-  pub alphaDecay : Float
-  pub velocityDecay : Float
-
+-- alpha_target, alpha_decay and velocity_decay
 abbrev pub settings : Float → Float → Float → Settings
-settings target decay velocityDecay = record { alphaTarget = target; alphaDecay = decay; velocityDecay = velocityDecay }
+settings target cooling decay = record { target = target; cooling = cooling; decay = decay }
 
 -- a sheet, alpha's bits, the words of the force slots (an array of 56), their numbers and link ends, draws, and work slots
 pub record SheetInput : Type 0 where
@@ -186,7 +175,7 @@ state ps a ds v = record { particles = ps; alpha = a; draws = ds; visits = v }
 
 -- alpha += (target - alpha) * decay
 unfoldable pub nextAlpha : Settings → Float → Float
-nextAlpha s alpha = alpha ⊕ (s .alphaTarget ⊖ alpha) ⊗ s .alphaDecay
+nextAlpha s alpha = alpha ⊕ (s .target ⊖ alpha) ⊗ s .cooling
 
 unfoldable pub alphaStage : Settings → State → Outcome State
 alphaStage s m =
@@ -223,7 +212,7 @@ unfoldable pub tick : Settings → List Force → ℕ → State → Outcome Stat
 tick s forces slots m =
     alphaStage s m >>= λ m₁.
     foldStages (forceStage slots) m₁ forces >>= λ m₂.
-    settled (closing (s .velocityDecay) (m .particles) (m₂ .particles)) m₂
+    settled (closing (s .decay) (m .particles) (m₂ .particles)) m₂
 
 module _ (l : SheetInput) (s : Settings) where
   abbrev pub begun : State
@@ -231,7 +220,7 @@ module _ (l : SheetInput) (s : Settings) where
 
   -- alpha is the first of the tick's settings
   abbrev pub tickSettings : List Float
-  tickSettings = floatOf (l .alpha) ∷ s .alphaTarget ∷ s .alphaDecay ∷ s .velocityDecay ∷ []
+  tickSettings = floatOf (l .alpha) ∷ s .target ∷ s .cooling ∷ s .decay ∷ []
 
   unfoldable pub tickResult : Outcome State
   tickResult = sheetCheck l 0 tickSettings >>= λ _. tick s (forces l) (slotsOf (l .work)) begun

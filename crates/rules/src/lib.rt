@@ -68,6 +68,24 @@ pub struct Tuning {
     pub greatest2: f64,
 }
 
+// What is lent of a force slot: seven words, the last three a force's settings. Words that a kind doesn't use aren't looked at.
+pub struct ForceEntry {
+    pub kind: u64,
+    pub iterations: u64,
+    pub links: u64,
+    pub strengths: u64,
+    pub a: f64,
+    pub b: f64,
+    pub c: f64,
+}
+
+// What a tick is set to: alpha_target, alpha_decay and velocity_decay.
+pub struct Settings {
+    pub target: f64,
+    pub cooling: f64,
+    pub decay: f64,
+}
+
 // Whether a walk goes on to what lies below a node.
 pub enum Visit {
     Continue,
