@@ -1,8 +1,30 @@
 // The entries for a host: numbers and slices in, a struct out. Each only calls the function that does the work, and says the same of it.
+use rules::Counts;
+use rules::FloorAnswer;
 use rules::TreeAnswer;
+ghost use mathlib.Core.Path.{_≡_};
+ghost use Rattle.rules.specs.Floor.{floorAnswer};
+ghost use Rattle.rules.specs.Root.{rootBits};
 ghost use Rattle.rules.specs.Refusal.{mostParticles};
-ghost use Rattle.rules.specs.Calls.{treeResult};
-ghost use Rattle.tree.specs.Tree.{lent, Ends};
+ghost use Rattle.rules.specs.Calls.{treeResult, linkResult};
+ghost use Rattle.tree.specs.Tree as Tree;
+ghost use Rattle.force.specs.Calls.{lent, Answered};
+
+// The floor as a whole number, or refusal 4.
+#[no_mangle]
+pub extern "C" fn talemiku_floor(x: f64) -> FloorAnswer
+    ensures { λ r. ⌜ r ≡ floorAnswer x ⌝ }
+{
+    number::try_floor(x)
+}
+
+// The correctly rounded square root, from bits to bits.
+#[no_mangle]
+pub extern "C" fn talemiku_root(bits: u64) -> u64
+    ensures { λ r. ⌜ r ≡ rootBits bits ⌝ }
+{
+    number::root_bits(bits)
+}
 
 // The tree of a sheet: four numbers a node into `rows`, the numbers of the chains into `chains`.
 #[no_mangle]
@@ -12,8 +34,39 @@ pub extern "C" fn talemiku_tree(
     chains: &mut [u32],
     work: &mut [u64],
 ) -> TreeAnswer
-    ensures { λ r. ⌜ (let l = lent (now (records .entry)) (now (rows .entry)) (now (chains .entry)) (now (work .entry)) in
-        Ends l (treeResult mostParticles l) r (now (rows .exit)) (now (chains .exit)) (now (work .exit))) ⌝ }
+    ensures { λ r. ⌜ (let l = Tree.lent (now (records .entry)) (now (rows .entry)) (now (chains .entry)) (now (work .entry)) in
+        Tree.Ends l (treeResult mostParticles l) r (now (rows .exit)) (now (chains .exit)) (now (work .exit))) ⌝ }
 {
     tree::tree(records, rows, chains, work)
+}
+
+// Link on plain lists: places in pairs, velocities in pairs from byte `start` of the buffer on, ends of links in pairs, strengths (none for the default), distances.
+#[no_mangle]
+pub extern "C" fn talemiku_link(
+    places: &[f64],
+    buffer: &mut [u8],
+    start: usize,
+    links: &[u32],
+    strengths: &[f64],
+    distances: &[f64],
+    iterations: usize,
+    alpha: f64,
+    draws: &[f64],
+    work: &mut [u64],
+) -> Counts
+    ensures { λ r. ⌜ (let l = lent (now (places .entry)) (now (buffer .entry)) start (now (draws .entry)) (now (work .entry)) in
+        Answered l (linkResult l (now (links .entry)) (now (strengths .entry)) (now (distances .entry)) iterations alpha) r (now (buffer .exit)) (now (work .exit))) ⌝ }
+{
+    link::link_call(
+        places,
+        buffer,
+        start,
+        links,
+        strengths,
+        distances,
+        iterations,
+        alpha,
+        draws,
+        work,
+    )
 }

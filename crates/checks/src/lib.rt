@@ -1,0 +1,2 @@
+// What a tick and a step are lent beside their sheet: the force slots' entries, and every check of the whole input in its order.
+pub mod entry;
