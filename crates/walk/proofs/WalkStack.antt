@@ -19,14 +19,8 @@ use Rattle.walk.specs.Walk.{waiting, cellAt, waitingAt, stackAt, stackOf
 pub one-more : (p : ℕ) → (p ≡ 0 → ⊥) → p ≡ suc (p - 1)
 one-more p h = omega arith
 
-pub lay-none : (p : ℕ) (c : Extent) (es : List Waiting) → p ≡ 0 → lay p c es ≡ es
-lay-none p c es e = rw e
-
 pub lay-some : (p : ℕ) (c : Extent) (es : List Waiting) → (p ≡ 0 → ⊥) → lay p c es ≡ waiting (p - 1) c ∷ es
 lay-some p c es h = ap (λ (x : ℕ). lay x c es) (one-more p h)
-
-pub lay-slot : (p s : ℕ) (c : Extent) (es : List Waiting) → p ≡ s + 1 → lay p c es ≡ waiting s c ∷ es
-lay-slot p s c es e = ap (λ (x : ℕ). lay x c es) (e ∙ add-one s)
 
 pub above-none : (h p : ℕ) → p ≡ 0 → above h p ≡ h
 above-none h p e = rw e

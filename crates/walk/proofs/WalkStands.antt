@@ -85,11 +85,5 @@ module _ {at : List Float} {n : ℕ} {m next : List ℕ} {q : Quadtree} (s : Sta
   pub found : (P : List ℕ → Type 0) → EachChain P (s .tree) → Found P m next (q .root) (s .tree)
   found P h = (s .leads, each-slot-map (λ i. i < q .nodes) (λ i. i * 8 + 8 ≤ length m) (λ i b. omega (arith, s .room)) (s .tree) (s .below), h)
 
-  -- a walk over it, seen by `look`, begins with its root waiting
-  pub start-stands : {A S : Type 0} (step : Entry A → S → Outcome (After S)) (look : ℕ → Extent → A) (P : List ℕ → Type 0) (begun : Counted S) (w : Walk) → EachChain P (s .tree)
-      → Sized w → stackOf w ≡ lay (q .root) (q .extent) [] → Walking step look P m next (seen look (q .extent) (s .tree)) begun w begun
-  start-stands step look P begun w h z e =
-      start step look P m next (q .root) (q .extent) (s .tree) (seen look (q .extent) (s .tree)) begun w (found P h) (s .levels) refl z e
-
   pub nodes-stands : {A : Type 0} (look : ℕ → Extent → A) → nodes (seen look (q .extent) (s .tree)) ≡ q .nodes
   nodes-stands look = nodes-seen look (q .extent) (s .tree) ∙ s .count
