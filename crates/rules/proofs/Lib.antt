@@ -23,3 +23,6 @@ pub mod CellSize
 pub mod CellWrap
 pub mod CellMore
 pub mod CellRule
+pub mod RefusalLaws
+pub mod RefusalNumbers
+pub mod Places
