@@ -52,6 +52,22 @@ larger-same t = record { nodes = omega arith; levels = omega arith }
 larger-both : {A : Type 0} {t u v : Tree A} → NoLarger t u → NoLarger u v → NoLarger t v
 larger-both h g = record { nodes = omega (arith, h .nodes, g .nodes); levels = omega (arith, h .levels, g .levels) }
 
+-- ---- a check of each number
+
+-- what is checked of each number is fine for all of them
+each-fine : (f : ℕ → Check) (i k : ℕ) → ((j : ℕ) → i ≤ j → j < i + k → f j ≡ fine) → checkFrom (λ j _. f j) i (countFrom i k) ≡ fine
+each-fine f i zero h = refl
+each-fine f i (suc k) h = ap (λ (c : Check). c >>= λ _. checkFrom (λ j _. f j) (i + 1) (countFrom (i + 1) k)) (h i (omega arith) (omega arith)) ∙ each-fine f (i + 1) k (λ j a b. h j (omega arith) (omega arith))
+
+-- and the other way
+pub fine-each : (f : ℕ → Check) (i k : ℕ) → checkFrom (λ j _. f j) i (countFrom i k) ≡ fine → (j : ℕ) → i ≤ j → j < i + k → f j ≡ fine
+fine-each f i zero e j a b = absurd (omega arith)
+fine-each f i (suc k) e j a b = go (f i) refl e (λ e'. fine-each f (i + 1) k e' j)
+  where
+    go : (c : Check) → f i ≡ c → (c >>= λ _. checkFrom (λ j _. f j) (i + 1) (countFrom (i + 1) k)) ≡ fine → (checkFrom (λ j _. f j) (i + 1) (countFrom (i + 1) k) ≡ fine → i + 1 ≤ j → j < i + 1 + k → f j ≡ fine) → f j ≡ fine
+    go (done t) u e rest = elim (ℕ-discrete j i) [ yes z ↦ ap f z ∙ u | no ne ↦ rest e (omega arith) (omega arith) ]
+    go (refused q) u e rest = absurd (let z : _≡_ {A = ℕ} 0 1 = cc in omega arith)
+
 module _ (at : List Float) where
   -- ---- from a cell to the quarter that has all its points
 
@@ -198,20 +214,6 @@ module _ (at : List Float) where
 
   -- ---- the check of every prefix
 
-  -- what is checked of each number is fine for all of them
-  each-fine : (f : ℕ → Check) (i k : ℕ) → ((j : ℕ) → i ≤ j → j < i + k → f j ≡ fine) → checkFrom (λ j _. f j) i (countFrom i k) ≡ fine
-  each-fine f i zero h = refl
-  each-fine f i (suc k) h = ap (λ (c : Check). c >>= λ _. checkFrom (λ j _. f j) (i + 1) (countFrom (i + 1) k)) (h i (omega arith) (omega arith)) ∙ each-fine f (i + 1) k (λ j a b. h j (omega arith) (omega arith))
-
-  -- and the other way
-  fine-each : (f : ℕ → Check) (i k : ℕ) → checkFrom (λ j _. f j) i (countFrom i k) ≡ fine → (j : ℕ) → i ≤ j → j < i + k → f j ≡ fine
-  fine-each f i zero e j a b = absurd (omega arith)
-  fine-each f i (suc k) e j a b = go (f i) refl e (λ e'. fine-each f (i + 1) k e' j)
-    where
-      go : (c : Check) → f i ≡ c → (c >>= λ _. checkFrom (λ j _. f j) (i + 1) (countFrom (i + 1) k)) ≡ fine → (checkFrom (λ j _. f j) (i + 1) (countFrom (i + 1) k) ≡ fine → i + 1 ≤ j → j < i + 1 + k → f j ≡ fine) → f j ≡ fine
-      go (done t) u e rest = elim (ℕ-discrete j i) [ yes z ↦ ap f z ∙ u | no ne ↦ rest e (omega arith) (omega arith) ]
-      go (refused q) u e rest = absurd (let z : _≡_ {A = ℕ} 0 1 = cc in omega arith)
-
   fits-fine : (slots i : ℕ) (t : Tree Extent) → (fitsCheck slots i t ≡ fine) ↔ ((depth t ≤ 65) × (nodes t ≤ slots))
   unfolding fitsCheck
   fits-fine slots i t = (λ e. let (a, b) = tests (leb (depth t) 65) (leb (nodes t) slots) e in (leb-true (depth t) 65 a, leb-true (nodes t) slots b), λ (a, b). rw (le-leb (depth t) 65 a, le-leb (nodes t) slots b))
@@ -227,14 +229,15 @@ module _ (at : List Float) where
   pub prefix-fits : (n p : ℕ) → InRange n → p ≤ n → depth (treeOf at n) ≤ 65 → (depth (treeOf at p) ≤ depth (treeOf at n)) × (nodes (treeOf at p) ≤ nodes (treeOf at n))
   prefix-fits n p r l d = let h = prefix-larger n p r l d in (h .levels, h .nodes)
 
+  -- Where building refuses nothing, the tree of all particles passes no level past 64 and has a slot for each node.
+  pub check-fits : (n slots : ℕ) → treeCheck at n slots ≡ fine → (depth (treeOf at n) ≤ 65) × (nodes (treeOf at n) ≤ slots)
+  unfolding treeCheck
+  check-fits zero slots e = rw no-tree (omega arith, omega arith)
+  check-fits (suc m) slots e =
+      subst (λ (i : ℕ). (depth (treeOf at i) ≤ 65) × (nodes (treeOf at i) ≤ slots)) (add-one m)
+      (fits-fine slots m (treeOf at (m + 1)) .0 (fine-each (λ j. fitsCheck slots j (treeOf at (j + 1))) 0 (suc m) e m (omega arith) (omega arith)))
+
   -- Building n particles in range refuses exactly where the tree of all of them passes level 64 or needs more slots than are lent.
   pub check-exact : (n : ℕ) → InRange n → (slots : ℕ) → (treeCheck at n slots ≡ fine) ↔ ((depth (treeOf at n) ≤ 65) × (nodes (treeOf at n) ≤ slots))
   unfolding treeCheck
-  check-exact n r slots = (whole-fits n, λ (a, b). each-fine fits 0 n (λ j k l. let h = prefix-fits n (j + 1) r (omega arith) a in fits-fine slots j (treeOf at (j + 1)) .1 (omega arith, omega arith)))
-    where
-      fits : ℕ → Check
-      fits j = fitsCheck slots j (treeOf at (j + 1))
-
-      whole-fits : (n : ℕ) → checkFrom (λ j _. fits j) 0 (upTo n) ≡ fine → (depth (treeOf at n) ≤ 65) × (nodes (treeOf at n) ≤ slots)
-      whole-fits zero e = rw no-tree (omega arith, omega arith)
-      whole-fits (suc m) e = subst (λ (i : ℕ). (depth (treeOf at i) ≤ 65) × (nodes (treeOf at i) ≤ slots)) (add-one m) (fits-fine slots m (treeOf at (m + 1)) .0 (fine-each fits 0 (suc m) e m (omega arith) (omega arith)))
+  check-exact n r slots = (check-fits n slots, λ (a, b). each-fine (λ j. fitsCheck slots j (treeOf at (j + 1))) 0 n (λ j k l. let h = prefix-fits n (j + 1) r (omega arith) a in fits-fine slots j (treeOf at (j + 1)) .1 (omega arith, omega arith)))
