@@ -7,7 +7,7 @@ use native.Mathlib.Nat.{add-zero, zero-add, add-assoc}
 use native.Mathlib.Omega.{arith}
 use borrow.Author.Tests.{eq-eqb, ne-eqb, le-leb, lt-leb, eqb-true, leb-true}
 use lib.Dec.{eqb, leb}
-use lib.ListN.{length, take, drop, length-drop, length-append, take-append-drop}
+use lib.ListN.{length, take, drop, replicate, length-drop, length-append, length-replicate, take-append-drop}
 use lib.Seq.{length-take-le, take-append-le, drop-append-le, drop-drop}
 use lib.Ieee.{Float}
 use Rattle.rules.specs.declared.Refusal.{Refusal}
@@ -40,6 +40,10 @@ module _ (n m k start : ℕ) where
 
   pub agrees : n ≡ k * 2 → start + k * 16 ≤ m → true ≡ eqb n (k * 2) && leb (start + k * 16) m
   agrees e h = rw (eq-eqb n (k * 2) e, le-leb (start + k * 16) m h)
+
+-- the first n of a list of m
+pub first-length : {A : Type 0} (n m : ℕ) (a : A) → n ≤ m → length (take n (replicate m a)) ≡ n
+first-length n m a h = length-take-le n (replicate m a) (omega (arith, length-replicate m a))
 
 -- ---- a force that has run
 
@@ -232,6 +236,11 @@ module _ (s : List ℕ) (at m : ℕ) (h : at + m ≤ length s) where
 pub then-both : (c d : Check) → c then d ≡ fine → (c ≡ fine) × (d ≡ fine)
 then-both (done t) d h = (refl, h)
 then-both (refused r) d h = absurd (let z : _≡_ {A = ℕ} 0 1 = cc in omega arith)
+
+-- a check that nothing follows
+pub then-fine : (c : Check) → c then fine ≡ c
+then-fine (done t) = refl
+then-fine (refused r) = refl
 
 pub require-true : (ok : Bool) (n i : ℕ) → require ok n i ≡ fine → ok ≡ true
 require-true true n i h = refl

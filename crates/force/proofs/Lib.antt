@@ -4,3 +4,5 @@ pub mod Scans
 pub mod Centring
 pub mod Closing
 pub mod Called
+pub mod CalledTree
+pub mod Visits

@@ -8,14 +8,15 @@ use native.Mathlib.Numerals.{add-one}
 use native.Mathlib.Omega.{arith}
 use borrow.Author.Tests.{eqb-true, eqb-false}
 use lib.Dec.{eqb}
-use lib.ListN.{length, getD, take, replicate, length-set, length-map, length-replicate}
-use lib.Seq.{length-take-le, getD-set-same, getD-set-other, ext-getD}
+use lib.ListN.{length, getD, take, replicate, length-set, length-map}
+use lib.Seq.{getD-set-same, getD-set-other, ext-getD}
 use lib.Ieee.{Float}
 use Rattle.rules.specs.Plain.{countFrom, upTo}
 use Rattle.rules.specs.Link.{Ends, ends, countEnds}
 use Rattle.rules.specs.Force.{endsFrom, endsOf}
 use Rattle.link.specs.Links.{EndsLent, Ready, tallies, counted}
 use Rattle.force.specs.Checks.{endsAt}
+use Rattle.force.proofs.Called.{first-length}
 
 -- ---- numbers one after the other
 
@@ -155,9 +156,6 @@ module _ {vs : List Float} {links cs : List ℕ} (r : Ready vs links cs) where
 
 -- ---- a fresh list of zeros
 
-pub room : {A : Type 0} (n m : ℕ) (a : A) → n ≤ m → length (take n (replicate m a)) ≡ n
-room n m a h = length-take-le n (replicate m a) (omega (arith, length-replicate m a))
-
 take-replicate : (n m : ℕ) → n ≤ m → take {A = ℕ} n (replicate m 0) ≡ replicate n 0
 take-replicate zero m h = refl
 take-replicate (suc n) zero h = absurd (omega arith)
@@ -171,4 +169,4 @@ none-counted i (suc n) = ap (λ (l : List ℕ). 0 ∷ l) (none-counted (i + 1) n
 pub zeros-tallied : (n m : ℕ) → n ≤ m → take n (replicate m 0) ≡ tallies (length {A = ℕ} (take n (replicate m 0))) []
 unfolding tallies
 zeros-tallied n m h =
-    take-replicate n m h ∙ none-counted 0 n ∙ ap (λ (k : ℕ). map (countEnds []) (countFrom 0 k)) (sym (room {A = ℕ} n m 0 h))
+    take-replicate n m h ∙ none-counted 0 n ∙ ap (λ (k : ℕ). map (countEnds []) (countFrom 0 k)) (sym (first-length {A = ℕ} n m 0 h))
