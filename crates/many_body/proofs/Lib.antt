@@ -3,3 +3,4 @@ pub mod ChargeLaws
 pub mod ManyBodyLaws
 pub mod ManyBodyWalk
 pub mod ManyBodyRun
+pub mod ManyBodyCalled
