@@ -4,3 +4,4 @@ pub mod ManyBodyLaws
 pub mod ManyBodyWalk
 pub mod ManyBodyRun
 pub mod ManyBodyCalled
+pub mod Facts
