@@ -7,7 +7,7 @@ use native.Mathlib.Nat.{add-zero, zero-add, add-assoc}
 use native.Mathlib.Omega.{arith}
 use borrow.Author.Tests.{eq-eqb, ne-eqb, le-leb, lt-leb, eqb-true, leb-true}
 use lib.Dec.{eqb, leb}
-use lib.ListN.{length, take, drop, replicate, length-drop, length-append, length-replicate, take-append-drop}
+use lib.ListN.{length, take, drop, replicate, length-drop, length-append, take-append-drop}
 use lib.Seq.{length-take-le, take-append-le, drop-append-le, drop-drop}
 use lib.Ieee.{Float}
 use Rattle.rules.specs.declared.Refusal.{Refusal}
@@ -41,10 +41,6 @@ module _ (n m k start : ℕ) where
   pub agrees : n ≡ k * 2 → start + k * 16 ≤ m → true ≡ eqb n (k * 2) && leb (start + k * 16) m
   agrees e h = rw (eq-eqb n (k * 2) e, le-leb (start + k * 16) m h)
 
--- the first n of a list of m
-pub first-length : {A : Type 0} (n m : ℕ) (a : A) → n ≤ m → length (take n (replicate m a)) ≡ n
-first-length n m a h = length-take-le n (replicate m a) (omega (arith, length-replicate m a))
-
 -- ---- a force that has run
 
 module _ (ran : Ran) where
@@ -77,6 +73,11 @@ module _ (c : Check) (ran : Ran) (vs : List Float) (part work : List ℕ) (r : C
         bytes = ep ∙ put-beside (length vs / 2) part 0 vs (omega arith) (omega arith) ∙ rw e;
         slots = cleared;
       }
+
+-- a force that builds a tree hands on as many work slots as it was lent
+pub settled-slots : {c : Check} {ran : Ran} {vs : List Float} {part m work : List ℕ} {r : Counts} {part' work' : List ℕ} → length m ≡ length work
+    → Settled c ran vs part m r part' work' → Settled c ran vs part work r part' work'
+settled-slots e s = record { answer = s .answer; bytes = s .bytes; slots = s .slots ∙ ap (λ (n : ℕ). replicate n 0) e }
 
 -- ---- the outcome of a call, check by check
 
@@ -237,6 +238,10 @@ pub then-both : (c d : Check) → c then d ≡ fine → (c ≡ fine) × (d ≡ f
 then-both (done t) d h = (refl, h)
 then-both (refused r) d h = absurd (let z : _≡_ {A = ℕ} 0 1 = cc in omega arith)
 
+pub bind-both : (c d : Check) → c >>= (λ _. d) ≡ fine → (c ≡ fine) × (d ≡ fine)
+bind-both (done t) d h = (refl, h)
+bind-both (refused r) d h = absurd (let z : _≡_ {A = ℕ} 0 1 = cc in omega arith)
+
 -- a check that nothing follows
 pub then-fine : (c : Check) → c then fine ≡ c
 then-fine (done t) = refl
@@ -341,7 +346,7 @@ real-ends n (link links strengths distances iterations) = real-all (endsRange n)
 real-settings : (l : List Float) → Real (settingsCheck l)
 real-settings l = real-from (λ _ x. require (within x) 5 0) (λ i x. real-require (within x) 5 0 (omega arith)) 0 l
 
-real-ranges : (f : Push) → Real (pushRanges f)
+pub real-ranges : (f : Push) → Real (pushRanges f)
 real-ranges (manyBody strengths) = real-all within 5 (omega arith) strengths
 real-ranges (collide radii strength iterations) =
     real-then (distancesCheck radii) (settingsCheck (strength ∷ [])) (real-all distanceRange 5 (omega arith) radii) (real-settings (strength ∷ []))
@@ -378,8 +383,11 @@ stopped (refused r) q real e h = (ap refused (sym e), rw e real)
 pub passed : (c : Check) (q : Refusal) → Real c → q ≡ refusalOf c → q .number ≡ 0 → c ≡ fine
 passed c q real e h = passes c real (sym (ap (λ (r : Refusal). r .number) e) ∙ h)
 
--- four checks in a row
+-- three checks in a row
+pub first-three : (c d e : Check) → Real c → Real d → firstOf (firstOf (refusalOf c) (refusalOf d)) (refusalOf e) ≡ refusalOf (c then d then e)
+first-three c d e hc hd = rw (first-then c d hc) (first-then (c then d) e (real-then c d hc hd))
+
+-- four of them
 pub first-four : (c d e g : Check) → Real c → Real d → Real e
     → firstOf (firstOf (firstOf (refusalOf c) (refusalOf d)) (refusalOf e)) (refusalOf g) ≡ refusalOf (c then d then e then g)
-first-four c d e g hc hd he =
-    rw (first-then c d hc, first-then (c then d) e (real-then c d hc hd)) (first-then (c then d then e) g (real-then (c then d) e (real-then c d hc hd) he))
+first-four c d e g hc hd he = rw (first-three c d e hc hd) (first-then (c then d then e) g (real-then (c then d) e (real-then c d hc hd) he))

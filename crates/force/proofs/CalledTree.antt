@@ -1,4 +1,4 @@
--- A force called alone that builds a tree: what its checks let pass, and the slots that it leaves.
+-- A force called alone that builds a tree: what check 4 lets pass.
 use mathlib.Core.Path.{_≡_, ap, _∙_}
 use mathlib.Core.Bool.{Bool}
 use mathlib.Core.List.{List}
@@ -42,10 +42,3 @@ can-build l f w vs draws settings next tail h e en et =
         let b = then-both (points then pushRanges f) (drawsCheck draws) (a .0) in
         let c = then-both points (pushRanges f) (b .0) in
         then-both (coordinatesCheck (count l) (l .places)) (velocitiesCheck (count l) vs) (c .0) .0
-
--- ---- the slots
-
--- a force that wrote into the slots before it was settled leaves as many zeros
-pub settled-slots : {c : Check} {ran : Ran} {vs : List Float} {part : List ℕ} (used : List ℕ) {work : List ℕ} {r : Counts} {part' work' : List ℕ}
-    → length used ≡ length work → Settled c ran vs part used r part' work' → Settled c ran vs part work r part' work'
-settled-slots used e s = record { answer = s .answer; bytes = s .bytes; slots = s .slots ∙ ap (λ (n : ℕ). replicate n 0) e }

@@ -10,7 +10,7 @@ use lib.Dec.{eqb, leb, ltb}
 use lib.ListN.{length, getD}
 use lib.Ieee.{Float}
 use Rattle.rules.specs.declared.Refusal.{Refusal}
-use Rattle.rules.specs.Outcome.{Outcome, Check, done, refused, fine, require, requireAll, _then_, _>>=_, refusalOf, checkFrom}
+use Rattle.rules.specs.Outcome.{Outcome, Check, fine, require, requireAll, _then_, refusalOf, checkFrom}
 use Rattle.rules.specs.Number.{within, distanceRange, drawRange}
 use Rattle.rules.specs.Refusal.{countCheck, lengthsCheck, drawsCheck, settingsCheck, strengthsCheck, distancesCheck}
 use Rattle.rules.specs.Walk.{Counted, counted}
@@ -25,7 +25,7 @@ use Rattle.link.specs.Links.{EndsLent, ListsLent}
 use Rattle.force.specs.Checks.{endsAt}
 use Rattle.link.proofs.Tallies.{ends-length}
 use Rattle.force.proofs.Scans.{real-require, real-then, real-all, real-coordinates, real-velocities, endsLeft, ends-first, ends-left, first-then}
-use Rattle.force.proofs.Called.{Lent, and-both, then-both, require-true, first-four}
+use Rattle.force.proofs.Called.{Lent, and-both, then-both, bind-both, require-true, first-four}
 
 pub ends-count : (links : List ℕ) → length (endsOf links) ≡ length links / 2
 ends-count links = ends-length links (length links / 2) (omega arith)
@@ -53,10 +53,6 @@ module _ (b : Bool) (p d s m m' : ℕ) (e : m' ≡ m) where
         each-strength hs = rw (not-false b h, eq-eqb p 0 hp, e, eq-eqb d m hd, ne-eqb s 0 hs)
 
 -- ---- what 1, 2 and 3 let pass
-
-bind-both : (c d : Check) → c >>= (λ _. d) ≡ fine → (c ≡ fine) × (d ≡ fine)
-bind-both (done t) d h = (refl, h)
-bind-both (refused r) d h = absurd (let z : _≡_ {A = ℕ} 0 1 = cc in omega arith)
 
 module _ (n : ℕ) (links : List ℕ) where
   abbrev endTest : ℕ → Ends → Check

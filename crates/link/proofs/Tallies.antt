@@ -14,9 +14,9 @@ use lib.Ieee.{Float}
 use Rattle.rules.specs.Plain.{countFrom, upTo}
 use Rattle.rules.specs.Link.{Ends, ends, countEnds}
 use Rattle.rules.specs.Force.{endsFrom, endsOf}
+use Rattle.quadtree.proofs.Fill.{room}
 use Rattle.link.specs.Links.{EndsLent, Ready, tallies, counted}
 use Rattle.force.specs.Checks.{endsAt}
-use Rattle.force.proofs.Called.{first-length}
 
 -- ---- numbers one after the other
 
@@ -169,4 +169,4 @@ none-counted i (suc n) = ap (λ (l : List ℕ). 0 ∷ l) (none-counted (i + 1) n
 pub zeros-tallied : (n m : ℕ) → n ≤ m → take n (replicate m 0) ≡ tallies (length {A = ℕ} (take n (replicate m 0))) []
 unfolding tallies
 zeros-tallied n m h =
-    take-replicate n m h ∙ none-counted 0 n ∙ ap (λ (k : ℕ). map (countEnds []) (countFrom 0 k)) (sym (first-length {A = ℕ} n m 0 h))
+    take-replicate n m h ∙ none-counted 0 n ∙ ap (λ (k : ℕ). map (countEnds []) (countFrom 0 k)) (sym (room {A = ℕ} n m 0 h))

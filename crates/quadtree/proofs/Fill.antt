@@ -1,11 +1,11 @@
--- A list filled from the front with one value. Assumes nothing.
+-- Lists of one value: filled from the front, and fresh ones of which the front is taken. Assumes nothing.
 use mathlib.Core.Path.{_≡_, refl, sym, ap, _∙_}
 use mathlib.Core.List.{List, [], _∷_, _++_, append-nil}
 use Prim.Native.Nat.{ℕ, suc, _+_, _≤_, _<_}
 use native.Mathlib.Numerals.{add-one}
 use native.Mathlib.Omega.{arith}
-use lib.ListN.{length, getD, drop, set, replicate, length-replicate, replicate-append-replicate, length-append, length-drop, drop-of-length-le}
-use lib.Seq.{drop-cons, set-at, append-snoc}
+use lib.ListN.{length, getD, take, drop, set, replicate, length-replicate, replicate-append-replicate, length-append, length-drop, drop-of-length-le}
+use lib.Seq.{drop-cons, set-at, append-snoc, length-take-le}
 
 module _ {A : Type 0} (v : A) where
   -- one more element
@@ -26,3 +26,7 @@ module _ {A : Type 0} (v : A) where
   -- and no length is lost on the way
   pub fill-length : (l d : List A) (i : ℕ) → l ≡ replicate i v ++ drop i d → i ≤ length d → length l ≡ length d
   fill-length l d i e h = rw e (simp (length-append, length-replicate, length-drop) (omega arith))
+
+-- the first n of a fresh list of m
+pub room : {A : Type 0} (n m : ℕ) (a : A) → n ≤ m → length (take n (replicate m a)) ≡ n
+room n m a h = length-take-le n (replicate m a) (omega (arith, length-replicate m a))

@@ -10,3 +10,4 @@ pub mod AddTurns
 pub mod AddPlaced
 pub mod AddInsert
 pub mod AddBuild
+pub mod Refusals

@@ -11,13 +11,14 @@ use Rattle.rules.specs.declared.Extent.{Extent}
 use Rattle.rules.specs.Plain.{upTo, countFrom, overwritten, padded}
 use Rattle.rules.specs.Cell.{quarter}
 use Rattle.rules.specs.Cover.{coverFirst, extentOf}
-use Rattle.rules.specs.Tree.{Tree, none, leaf, node, depth, nodes, Row, rowsFrom, rowsOf, flat, chainsOf, treeOf}
+use Rattle.rules.specs.Tree.{Tree, none, leaf, node, depth, Row, rowsFrom, rowsOf, flat, chainsOf, treeOf}
 use Rattle.rules.proofs.CellList.{In}
 use Rattle.rules.proofs.CellIs.{Is}
 use Rattle.rules.proofs.CellCount.{length-upTo}
 use Rattle.rules.proofs.CellRule as Rule
 use Rattle.sheet.proofs.Lists.{overwritten-none, overwritten-next, overwritten-length}
 use Rattle.quadtree.specs.Slots.{EachSlot, inCells, Stands}
+use Rattle.quadtree.proofs.AddHold.{cells-depth}
 use Rattle.tree.specs.List.{Below, Listable, Wrote, Whole}
 use Rattle.quadtree.specs.declared.Quadtree.{Quadtree}
 use Rattle.tree.specs.declared.list.Cursor.{Cursor}
@@ -37,16 +38,6 @@ chains-cells c none = refl
 chains-cells c (leaf s is) = refl
 chains-cells c (node s t0 t1 t2 t3) =
     rw (chains-cells (quarter 0 c) t0, chains-cells (quarter 1 c) t1, chains-cells (quarter 2 c) t2, chains-cells (quarter 3 c) t3)
-
-pub depth-cells : (c : Extent) (t : Tree ℕ) → depth (inCells c t) ≡ depth t
-depth-cells c none = refl
-depth-cells c (leaf s is) = refl
-depth-cells c (node s t0 t1 t2 t3) = rw (depth-cells (quarter 0 c) t0, depth-cells (quarter 1 c) t1, depth-cells (quarter 2 c) t2, depth-cells (quarter 3 c) t3)
-
-pub nodes-cells : (c : Extent) (t : Tree ℕ) → nodes (inCells c t) ≡ nodes t
-nodes-cells c none = refl
-nodes-cells c (leaf s is) = refl
-nodes-cells c (node s t0 t1 t2 t3) = rw (nodes-cells (quarter 0 c) t0, nodes-cells (quarter 1 c) t1, nodes-cells (quarter 2 c) t2, nodes-cells (quarter 3 c) t3)
 
 -- ---- zeros from a place on
 
@@ -133,7 +124,7 @@ module _ (at : List Float) (n : ℕ) where
     rows-same = sym (rows-cells 0 0 (q .extent) (s .tree)) ∙ ap (λ (t : Tree Extent). rowsOf t) (s .is)
 
     levels : depth (treeOf at n) ≤ 65
-    levels = omega (arith, s .levels, depth-cells (q .extent) (s .tree), ap (λ (t : Tree Extent). depth t) (s .is))
+    levels = omega (arith, s .levels, cells-depth (q .extent) (s .tree), ap (λ (t : Tree Extent). depth t) (s .is))
 
     pub whole-listable : Listable m next (q .root) 0 rows chains (record { nodes = 0; chained = 0 }) (s .tree)
     whole-listable =

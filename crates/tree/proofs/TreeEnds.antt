@@ -5,9 +5,8 @@ use mathlib.Core.List.{List, [], _∷_}
 use Prim.Native.Nat.{ℕ, zero, suc, _+_, _*_, _/_, _≤_, _<_}
 use native.Mathlib.Omega.{arith}
 use borrow.Author.Tests.{ne-eqb, le-leb, lt-leb}
-use lib.ListN.{length, getD, take, replicate, length-replicate}
-use lib.Seq.{length-take-le}
-use lib.Ieee.{Float, nan, binary64, ofBits}
+use lib.ListN.{length, getD, replicate}
+use lib.Ieee.{Float, nan}
 use Rattle.rules.specs.declared.Extent.{Extent}
 use Rattle.rules.specs.declared.Refusal.{Refusal}
 use Rattle.rules.specs.declared.TreeAnswer.{TreeAnswer}
@@ -27,16 +26,8 @@ use Rattle.quadtree.specs.declared.build.Built.{Built}
 use Rattle.quadtree.specs.declared.build.Built.the-variants.{Refused}
 use Rattle.quadtree.specs.Add.{Ranged}
 use Rattle.quadtree.specs.Build.{particles, Lent, Builds}
-use Rattle.tree.proofs.ListWhole.{nodes-cells}
-use Rattle.tree.proofs.TreeChecks.{tree-clears}
-
--- ---- fresh memory: as long as is taken of it
-
-pub first-places : (n : ℕ) → n ≤ 8192 → length (take n (replicate 8192 (ofBits binary64 0))) ≡ n
-first-places n h = length-take-le n (replicate 8192 (ofBits binary64 0)) (omega (arith, length-replicate 8192 (ofBits binary64 0)))
-
-pub first-links : (n : ℕ) → n ≤ 4096 → length (take n (replicate {A = ℕ} 4096 0)) ≡ n
-first-links n h = length-take-le n (replicate {A = ℕ} 4096 0) (omega (arith, length-replicate {A = ℕ} 4096 0))
+use Rattle.quadtree.proofs.AddHold.{cells-nodes}
+use Rattle.quadtree.proofs.Refusals.{tree-clears}
 
 -- ---- which refusals clear the work slots
 
@@ -140,6 +131,6 @@ module _ {l : TreeInput} {size : ℕ} {at : List Float} {links tails : ℕ} (d :
             let places = placesOf (particlesOf (l .sheet)) in
             let g : treeCheck places n (slotsOf (l .work)) ≡ fine = rw (← read, ← half, ← slots) (s .0) in
             let count : q .nodes ≡ nodes (treeOf places n) =
-            sym (s .1 .count) ∙ sym (nodes-cells (q .extent) (s .1 .tree)) ∙ ap (λ (t : Tree Extent). nodes t) (s .1 .is) ∙ rw (half, read) in
+            sym (s .1 .count) ∙ sym (cells-nodes (q .extent) (s .1 .tree)) ∙ ap (λ (t : Tree Extent). nodes t) (s .1 .is) ∙ rw (half, read) in
             let extent : q .extent ≡ extentOf (coverFirst places n) = s .2 ∙ rw (half, read) in
             ends-listed {t = treeOf places n} (rw g) (rw (← count, ← extent) f) (rw (← read) r) (rw (← read) c) (rw (← k) w)

@@ -9,7 +9,8 @@ use lib.Ieee.{Float}
 use Rattle.rules.specs.Number.{0·}
 use Rattle.rules.specs.Force.{link, endsOf}
 use Rattle.force.specs.Calls.{lent}
-use Rattle.force.proofs.Called.{first-length, lent-all}
+use Rattle.quadtree.proofs.Fill.{room}
+use Rattle.force.proofs.Called.{lent-all}
 use Rattle.link.proofs.call.with_speeds.Statement.{statement}
 use Rattle.link.proofs.call.with_speeds.Tie as tie
 
@@ -24,14 +25,14 @@ few s =
 on-part-requires : tie.Need-on-part-requires
 on-part-requires c κs =
     let s = c .before .before .before .before .before .before .before .before .before .before in
-    (s .pre .0, s .pre .1, first-length {A = Float} (length (s .args .places .now)) 8192 0· (few s))
+    (s .pre .0, s .pre .1, room {A = Float} (length (s .args .places .now)) 8192 0· (few s))
 
 pub with-speeds-spec : {M : Type 1} → statement M
 with-speeds-spec =
     tie.close
     (tie.spec
     (λ c. few (c .before .before .before .before .before .before .before .before))
-    (λ c. sym (first-length {A = Float} (length (c .before .before .before .before .before .before .before .before .before .args .places .now)) 8192 0· (few (c .before .before .before .before .before .before .before .before .before))))
+    (λ c. sym (room {A = Float} (length (c .before .before .before .before .before .before .before .before .before .args .places .now)) 8192 0· (few (c .before .before .before .before .before .before .before .before .before))))
     on-part-requires
     (λ c. search needs)
     (λ c. search needs)

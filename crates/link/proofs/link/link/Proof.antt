@@ -4,7 +4,7 @@ use borrow.Author.Needs.{needs}
 use Prim.Native.Nat.{ℕ, _/_}
 use lib.ListN.{length}
 use Rattle.link.specs.Links.{EndsLent}
-use Rattle.force.proofs.Called.{first-length}
+use Rattle.quadtree.proofs.Fill.{room}
 use Rattle.link.proofs.Tallies.{zeros-tallied}
 use Rattle.link.proofs.link.link.Statement.{statement}
 use Rattle.link.proofs.link.link.Tie as tie
@@ -13,7 +13,7 @@ iterate-requires : tie.Need-iterate-requires
 iterate-requires c κs =
     let s = c .before .before .before .before .before .before .before .before in
     let n = length (s .args .vs .now) / 2 in
-    let e = first-length {A = ℕ} n 4096 0 (omega (arith, s .pre .4)) in (
+    let e = room {A = ℕ} n 4096 0 (omega (arith, s .pre .4)) in (
       subst⁻¹ (λ (k : ℕ). EndsLent k (s .args .links .now)) e (s .pre .0),
       s .pre .1,
       zeros-tallied n 4096 (omega (arith, s .pre .4)),
@@ -27,7 +27,7 @@ link-spec =
     tie.close
     (tie.spec
     (λ c. search needs)
-    (λ c. sym (first-length {A = ℕ} _ 4096 0 (omega arith)))
+    (λ c. sym (room {A = ℕ} _ 4096 0 (omega arith)))
     iterate-requires
     (λ c. search needs)
     (λ c. search needs))

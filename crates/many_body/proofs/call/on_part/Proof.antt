@@ -14,8 +14,8 @@ use Rattle.rules.specs.Force.{Push, manyBody}
 use Rattle.rules.specs.Calls.{ForceInput, slotsOf, speeds}
 use Rattle.force.specs.Ran.{ranOf}
 use Rattle.force.specs.Calls.{lent, numbersCheck}
-use Rattle.force.proofs.Called.{Lent, lent-all, real-numbers, stopped, passed, result-numbers, result-ran, answered-refused, answered-ran}
-use Rattle.force.proofs.CalledTree.{can-build, settled-slots}
+use Rattle.force.proofs.Called.{Lent, lent-all, real-numbers, stopped, passed, result-numbers, result-ran, answered-refused, answered-ran, settled-slots}
+use Rattle.force.proofs.CalledTree.{can-build}
 use Rattle.many_body.proofs.ManyBodyCalled.{many-body-runs}
 use Rattle.many_body.proofs.call.on_part.Statement.{statement}
 use Rattle.many_body.proofs.call.on_part.Tie as tie
@@ -117,7 +117,7 @@ returns-2 c =
     (many-body-runs (ranOf vs' (a .draws .now) (e .many-body .result)) (e .before .before .before .before .before .standard .result) (a .places .now) (a .strengths .now) (a .alpha) (slotsOf (a .work .now))
     (counted (flow vs (a .draws .now)) 0) (e .before .before .before .before .before .standard .ensures) (r .is)))
     (r .draws .reach) (r .late) refl
-    (settled-slots (e .many-body .last .1 .1 .1 .1 .1 .1 .1 .1 .1 .1 .0) (e .many-body .kept .1 .1 .1 .1 .1 .1 .1 .1 .1 .1 .0) (t .settle .ensures))
+    (settled-slots (e .many-body .kept .1 .1 .1 .1 .1 .1 .1 .1 .1 .1 .0) (t .settle .ensures))
 
 pub on-part-spec : {M : Type 1} → statement M
 on-part-spec =

@@ -9,7 +9,8 @@ use lib.Ieee.{Float}
 use Rattle.rules.specs.Number.{0·}
 use Rattle.rules.specs.Force.{manyBody}
 use Rattle.force.specs.Calls.{lent}
-use Rattle.force.proofs.Called.{first-length, lent-all}
+use Rattle.quadtree.proofs.Fill.{room}
+use Rattle.force.proofs.Called.{lent-all}
 use Rattle.many_body.proofs.call.with_lists.Statement.{statement}
 use Rattle.many_body.proofs.call.with_lists.Tie as tie
 
@@ -24,18 +25,18 @@ on-part-requires : tie.Need-on-part-requires
 on-part-requires c κs =
     let s = c .before .before .before .before .before .before .before .before .before .before in
     let n = length (s .args .places .now) in
-    (s .pre .0, s .pre .1, first-length {A = Float} n 8192 0· (few s .0), first-length {A = ℕ} (n / 2) 4096 0 (few s .1), first-length {A = ℕ} (n / 2) 4096 0 (few s .1))
+    (s .pre .0, s .pre .1, room {A = Float} n 8192 0· (few s .0), room {A = ℕ} (n / 2) 4096 0 (few s .1), room {A = ℕ} (n / 2) 4096 0 (few s .1))
 
 pub with-lists-spec : {M : Type 1} → statement M
 with-lists-spec =
     tie.close
     (tie.spec
     (λ c. few (c .before .before .before .before .before .before) .0)
-    (λ c. sym (first-length {A = Float} _ 8192 0· (few (c .before .before .before .before .before .before .before) .0)))
+    (λ c. sym (room {A = Float} _ 8192 0· (few (c .before .before .before .before .before .before .before) .0)))
     (λ c. few (c .before .before .before .before .before .before .before) .1)
-    (λ c. sym (first-length {A = ℕ} _ 4096 0 (few (c .before .before .before .before .before .before .before .before) .1)))
+    (λ c. sym (room {A = ℕ} _ 4096 0 (few (c .before .before .before .before .before .before .before .before) .1)))
     (λ c. few (c .before .before .before .before .before .before .before .before) .1)
-    (λ c. sym (first-length {A = ℕ} _ 4096 0 (few (c .before .before .before .before .before .before .before .before .before) .1)))
+    (λ c. sym (room {A = ℕ} _ 4096 0 (few (c .before .before .before .before .before .before .before .before .before) .1)))
     on-part-requires
     (λ c. search needs)
     (λ c. search needs)

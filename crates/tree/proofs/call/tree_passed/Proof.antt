@@ -1,9 +1,10 @@
 use borrow.Author.Needs.{needs}
 use mathlib.Core.Path.{sym}
-use Prim.Native.Nat.{_*_, _/_}
+use Prim.Native.Nat.{ℕ, _*_, _/_}
 use native.Mathlib.Omega.{arith}
 use lib.ListN.{length}
-use Rattle.tree.proofs.TreeEnds.{first-places, first-links}
+use Rattle.rules.specs.Number.{0·}
+use Rattle.quadtree.proofs.Fill.{room}
 use Rattle.tree.proofs.call.tree_passed.Statement.{statement}
 use Rattle.tree.proofs.call.tree_passed.Tie as tie
 
@@ -11,7 +12,7 @@ tree-with-requires : tie.Need-tree-with-requires
 tree-with-requires c κs =
     let s = c .before .before .before .before .before .before .before .before .before .before in
     let n = length (s .args .records .now) / 40 in
-    record { passed = s .pre; pairs = first-places (n * 2) (omega arith); links = first-links n (omega arith); tails = first-links n (omega arith) }
+    record { passed = s .pre; pairs = room (n * 2) 8192 0· (omega arith); links = room {A = ℕ} n 4096 0 (omega arith); tails = room {A = ℕ} n 4096 0 (omega arith) }
 
 pub tree-passed-spec : {M : Type 1} → statement M
 tree-passed-spec =
@@ -19,11 +20,11 @@ tree-passed-spec =
     (tie.spec
     (λ c. search needs)
     (λ c. search needs)
-    (λ c. sym (first-places _ (omega arith)))
+    (λ c. sym (room _ 8192 0· (omega arith)))
     (λ c. search needs)
-    (λ c. sym (first-links _ (omega arith)))
+    (λ c. sym (room {A = ℕ} _ 4096 0 (omega arith)))
     (λ c. search needs)
-    (λ c. sym (first-links _ (omega arith)))
+    (λ c. sym (room {A = ℕ} _ 4096 0 (omega arith)))
     tree-with-requires
     (λ c. search needs)
     (λ c. search needs)

@@ -1,6 +1,6 @@
 use borrow.Author.Needs.{needs}
 use mathlib.Core.Path.{refl}
-use Rattle.tree.proofs.TreeChecks.{tree-clears}
+use Rattle.quadtree.proofs.Refusals.{tree-clears}
 use Rattle.tree.proofs.TreeEnds.{told-refused, told-tree, can-build, build-refused, can-list, build-listed}
 use Rattle.tree.proofs.call.tree_with.Statement.{statement}
 use Rattle.tree.proofs.call.tree_with.Tie as tie
