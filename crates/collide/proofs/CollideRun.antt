@@ -1,18 +1,16 @@
--- The whole force: one tree serves all iterations, building it refuses by 6 or 7, and the visits stay few. Assumes nothing.
+-- The whole force: one tree serves all iterations, and the visits stay few. Assumes nothing.
 use mathlib.Core.Path.{_≡_, refl, sym, ap, _∙_, subst}
-use mathlib.Core.Bool.{Bool, true, false}
 use mathlib.Core.List.{List, [], _∷_}
 use Prim.Native.Nat.{ℕ, zero, suc, _+_, _*_, _/_, _≤_, _^_}
 use native.Mathlib.Nat.{mul-le-mul}
 use native.Mathlib.Omega.{arith}
-use lib.Dec.{leb}
 use lib.ListN.{length}
 use lib.Ieee.{Float}
 use Rattle.rules.specs.declared.Extent.{Extent}
 use Rattle.rules.specs.declared.Refusal.{Refusal}
 use Rattle.rules.specs.Plain.{upTo}
-use Rattle.rules.specs.Outcome.{Outcome, done, refused, refusal, _>>=_, foldStages, Check, fine, require, _then_, checkFrom, zeroesWork}
-use Rattle.rules.specs.Tree.{Tree, nodes, depth, treeOf, fitsCheck, treeCheck}
+use Rattle.rules.specs.Outcome.{Outcome, done, refused, _>>=_, foldStages, fine}
+use Rattle.rules.specs.Tree.{Tree, nodes, depth, treeOf, treeCheck}
 use Rattle.rules.specs.Walk.{Counted}
 use Rattle.rules.specs.Flow.{Flow}
 use Rattle.rules.specs.Collide.{radiusTree, collideOnce, runCollide}
@@ -20,11 +18,10 @@ use Rattle.rules.proofs.CellRule.{tree-nodes}
 use Rattle.quadtree.specs.declared.Quadtree.{Quadtree}
 use Rattle.quadtree.specs.declared.build.Built.{Built}
 use Rattle.quadtree.specs.declared.build.Built.the-variants.{Refused}
-use Rattle.quadtree.specs.Slots.{inCells, Stands}
+use Rattle.quadtree.specs.Slots.{Stands}
 use Rattle.quadtree.specs.Build.{particles, Builds}
-use Rattle.quadtree.proofs.AddHold.{cells-depth}
+use Rattle.quadtree.proofs.AddHold.{cells-depth, cells-nodes}
 use Rattle.walk.proofs.WalkTurns.{nodes-seen}
-use Rattle.walk.proofs.WalkStands.{seen-cells}
 use Rattle.collide.specs.Radius.{Rounded}
 use Rattle.collide.specs.Collide.{Bounded, Stood, walkAll, walkTimes}
 use Rattle.collide.proofs.CollideSteps.{look, seen-radii}
@@ -63,33 +60,6 @@ unfolding runCollide
 run-refused at radii strength zero slots m n e = absurd (n refl)
 run-refused at radii strength (suc k) slots m n e = rw (once-refused at radii strength (suc k) slots m e)
 
--- ---- 6 or 7
-
--- a refusal after which the work slots are zero
-abbrev Late : Refusal → Type 0
-Late r = (r .number ≡ 0 → ⊥) × (zeroesWork r ≡ true)
-
-late-fits : {A : Type 0} (slots i : ℕ) (t : Tree A) (r : Refusal) → fitsCheck slots i t ≡ refused r → Late r
-unfolding fitsCheck zeroesWork
-late-fits slots i t r e = go (leb (depth t) 65) (leb (nodes t) slots) e
-  where
-    go : (b d : Bool) → (require b 6 i then require d 7 i) ≡ refused r → Late r
-    go true true e = let z : _≡_ {A = ℕ} 0 1 = cc in absurd (omega arith)
-    go true false e = let k : refusal 7 i ≡ r = cc in subst Late k (λ z. omega arith, refl)
-    go false d e = let k : refusal 6 i ≡ r = cc in subst Late k (λ z. omega arith, refl)
-
-late-from : (f : ℕ → ℕ → Check) (r : Refusal) → ((i a : ℕ) → f i a ≡ refused r → Late r) → (i : ℕ) (l : List ℕ) → checkFrom f i l ≡ refused r → Late r
-late-from f r h i [] e = let z : _≡_ {A = ℕ} 0 1 = cc in absurd (omega arith)
-late-from f r h i (a ∷ l) e = go (f i a) refl (late-from f r h (i + 1) l)
-  where
-    go : (o : Check) → f i a ≡ o → (checkFrom f (i + 1) l ≡ refused r → Late r) → Late r
-    go (done t) k rest = rest (rw k at e)
-    go (refused q) k rest = h i a (k ∙ rw k at e)
-
-pub late-tree : (at : List Float) (n slots : ℕ) (r : Refusal) → treeCheck at n slots ≡ refused r → Late r
-unfolding treeCheck
-late-tree at n slots r e = late-from (λ i _. fitsCheck slots i (treeOf at (i + 1))) r (λ i a. late-fits slots i (treeOf at (i + 1)) r) 0 (upTo n) e
-
 -- ---- what building says
 
 -- b is what building answered for a place for each radius, and m the slots, as many as `slots`
@@ -108,14 +78,11 @@ module _ (at radii : List Float) (m next : List ℕ) (slots : ℕ) (b : Built) (
 
 -- ---- how many nodes
 
-nodes-cells : (c : Extent) (t : Tree ℕ) → nodes (inCells c t) ≡ nodes t
-nodes-cells c t = ap nodes (sym (seen-cells c t)) ∙ nodes-seen (λ s c. c) c t
-
 nodes-radii : {at radii : List Float} {m : List ℕ} {q : Quadtree} → Rounded at radii m q → nodes (radiusTree at radii) ≤ 1 + 64 * length radii
 nodes-radii {at} {radii} {m} {q} s =
     let t = s .valued .stands in
     let d : depth (treeOf at (length radii)) ≤ 65 = subst (λ (u : Tree Extent). depth u ≤ 65) (t .is) (subst (λ (k : ℕ). k ≤ 65) (sym (cells-depth (q .extent) (t .tree))) (t .levels)) in
-    let e : nodes (treeOf at (length radii)) ≡ nodes (t .tree) = ap nodes (sym (t .is)) ∙ nodes-cells (q .extent) (t .tree) in
+    let e : nodes (treeOf at (length radii)) ≡ nodes (t .tree) = ap nodes (sym (t .is)) ∙ cells-nodes (q .extent) (t .tree) in
     let g : nodes (radiusTree at radii) ≡ nodes (t .tree) = ap nodes (sym (seen-radii s)) ∙ nodes-seen (look m) (q .extent) (t .tree) in
     omega (arith, e, g, tree-nodes at (length radii) d .1)
 

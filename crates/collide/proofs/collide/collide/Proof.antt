@@ -5,9 +5,10 @@ use borrow.Author.Needs.{needs}
 use lib.ListN.{length}
 use Rattle.rules.specs.Outcome.{zeroesWork}
 use Rattle.force.specs.Ran.{standing, ranOf}
+use Rattle.quadtree.proofs.Refusals.{tree-clears}
 use Rattle.collide.specs.Collide.{begun}
 use Rattle.collide.proofs.CollideFolds.{ran-refused}
-use Rattle.collide.proofs.CollideRun.{run-none, run-walked, run-refused, late-tree, told-refused, told-fine, told-stood}
+use Rattle.collide.proofs.CollideRun.{run-none, run-walked, run-refused, told-refused, told-fine, told-stood}
 use Rattle.collide.proofs.collide.collide.Statement.{statement}
 use Rattle.collide.proofs.collide.collide.Tie as tie
 
@@ -45,7 +46,7 @@ returns-2 c =
     let a = f .args in
     let p = f .pre in
     let t = told-refused (a .at .now) (a .radii .now) (b .build .last .1 .1 .1 .0) (b .build .last .1 .0) (length (a .m .now) / 8) (b .build .result) (p .1 .places) (ap (λ (n : ℕ). n / 8) (b .build .kept .1 .1 .1 .0)) (b .build .ensures) (g .refusal .given .1) in
-    let l = late-tree (a .at .now) (length (a .radii .now)) (length (a .m .now) / 8) _ t in (
+    let l = tree-clears (a .at .now) (length (a .radii .now)) (length (a .m .now) / 8) _ t in (
       record {
         is = ran-refused (a .vs .now) (a .draws .now) _ (l .0)
             ∙ run-refused (a .at .now) (a .radii .now) (a .strength) (a .iterations) (length (a .m .now) / 8) (begun (a .vs .now) (a .draws .now) (a .used) (a .visits)) (b .before .before .before .before .if1 .left) t;
