@@ -4,3 +4,4 @@ pub mod CollideSteps
 pub mod CollideFolds
 pub mod CollideRun
 pub mod CollideCalled
+pub mod Facts
