@@ -17,8 +17,6 @@ use Rattle.rules.specs.Flow.{Flow}
 use Rattle.rules.specs.Collide.{runCollide}
 use Rattle.rules.specs.Force.{collide, run}
 use Rattle.rules.specs.Calls.{ForceInput, count, inputLengths}
-use Rattle.quadtree.specs.Add.{Ranged}
-use Rattle.quadtree.specs.Build as Build
 use Rattle.force.specs.Checks.{coordinatesCheck, velocitiesCheck}
 use Rattle.force.specs.Calls.{firstOf, lentCheck, numbersCheck}
 use Rattle.force.proofs.Scans.{real-require, real-then, real-all, real-coordinates, real-velocities, first-then}
@@ -87,10 +85,6 @@ module _ (l : ForceInput) (radii : List Float) (strength : Float) (iterations : 
 
   pub spread : (vs draws : List Float) → length vs ≡ length (l .places) → Spread (l .places) vs radii draws 0
   spread vs draws e = record { places = omega (arith, radius-each, h .pairs); speeds = omega (arith, radius-each, h .pairs); drawn = omega arith }
-
-  -- and 4
-  pub can-build : Ranged (l .places) (count l) → (next tail : List ℕ) → length next ≡ count l → length tail ≡ count l → Build.Lent (l .places) next tail
-  can-build g next tail en et = record { ranged = g; few = h .few; links = en; tails = et }
 
 -- ---- the run
 

@@ -12,9 +12,10 @@ use Rattle.rules.specs.Force.{Push, collide}
 use Rattle.rules.specs.Calls.{ForceInput, slotsOf, speeds}
 use Rattle.force.specs.Ran.{ranOf}
 use Rattle.force.specs.Calls.{lent, numbersCheck}
-use Rattle.force.proofs.Called.{Lent, lent-all, ranged, real-numbers, stopped, passed, result-numbers, result-ran, answered-refused, answered-ran, settled-slots}
+use Rattle.force.proofs.Called.{Lent, lent-all, real-numbers, stopped, passed, result-numbers, result-ran, answered-refused, answered-ran, settled-slots}
+use Rattle.force.proofs.CalledTree.{can-build}
 use Rattle.collide.specs.Collide.{begun}
-use Rattle.collide.proofs.CollideCalled.{times, spread, can-build, collide-runs}
+use Rattle.collide.proofs.CollideCalled.{times, spread, collide-runs}
 use Rattle.collide.proofs.call.on_part.Statement.{statement}
 use Rattle.collide.proofs.call.on_part.Tie as tie
 
@@ -77,7 +78,7 @@ collide-requires c κs =
     let a = s .args in
     let l = passed-lent s in
     let vs = d .read-pairs .last .1 .1 .1 .0 in (
-      can-build (input s) (a .radii .now) (a .strength) (a .iterations) l (ranged (a .places .now) vs (force s) (a .draws .now) [] (past e)) (a .next .now) (a .tail .now) (s .pre .3) (s .pre .4),
+      can-build (input s) (force s) true vs (a .draws .now) [] (a .next .now) (a .tail .now) l (past e) (s .pre .3) (s .pre .4),
       spread (input s) (a .radii .now) (a .strength) (a .iterations) l vs (a .draws .now) (d .read-pairs .kept .1 .1 .1 .0 ∙ s .pre .2),
       times (input s) (a .radii .now) (a .strength) (a .iterations) l,
       omega arith,
