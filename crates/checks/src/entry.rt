@@ -1,9 +1,17 @@
-// A force slot's entry, read from its seven words, and what it says of the lists behind it.
+// A force slot's entry, read from its seven words.
 use number::float_of;
 use rules::ForceEntry;
 ghost use mathlib.Core.Path.{_≡_};
 ghost use Prim.Native.Nat.{_*_, _<_};
+ghost use lib.ListN.{getD};
 ghost use Rattle.rules.specs.Tick.{entryAt};
+
+fn word(forces: &[u64; 56], at: usize) -> u64
+    requires { ⌜ at < 56 ⌝ }
+    ensures { λ r. ⌜ r ≡ getD (now (forces .entry)) at 0 ⌝ }
+{
+    forces[at]
+}
 
 // The entry of slot number i.
 pub fn entry_at(forces: &[u64; 56], i: usize) -> ForceEntry
@@ -11,13 +19,20 @@ pub fn entry_at(forces: &[u64; 56], i: usize) -> ForceEntry
     ensures { λ r. ⌜ r ≡ entryAt (now (forces .entry)) (i * 7) ⌝ }
 {
     let at = i * 7;
+    let kind = word(forces, at);
+    let iterations = word(forces, at + 1);
+    let links = word(forces, at + 2);
+    let strengths = word(forces, at + 3);
+    let a = float_of(word(forces, at + 4));
+    let b = float_of(word(forces, at + 5));
+    let c = float_of(word(forces, at + 6));
     ForceEntry {
-        kind: forces[at],
-        iterations: forces[at + 1],
-        links: forces[at + 2],
-        strengths: forces[at + 3],
-        a: float_of(forces[at + 4]),
-        b: float_of(forces[at + 5]),
-        c: float_of(forces[at + 6]),
+        kind,
+        iterations,
+        links,
+        strengths,
+        a,
+        b,
+        c,
     }
 }
