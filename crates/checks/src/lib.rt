@@ -1,3 +1,4 @@
 // What a tick and a step are lent beside their sheet: the force slots' entries, and every check of the whole input in its order.
 mod counts;
 pub mod entry;
+mod lengths;
