@@ -1,3 +1,4 @@
 pub mod ByKind
 pub mod Early
 pub mod Entries
+pub mod Parts
