@@ -21,6 +21,9 @@ use Rattle.checks.proofs.Entries.{entriesLeft, entries-left, entries-no
 pub part-size : (at m : ℕ) → at + m - at ≡ m
 part-size at m = omega arith
 
+pub part-long : {A : Type 0} (l : List A) (at m : ℕ) → at + m ≤ length l → length (take (at + m - at) (drop at l)) ≡ m
+part-long l at m h = rw (part-size at m) (length-take-le m (drop at l) (simp length-drop (omega arith)))
+
 -- ---- the walk: the slots before i are past, and with them the list up to `at`
 
 module _ {A : Type 0} (need : ForceEntry → ℕ) (check : ForceEntry → List A → Check) (w : List ℕ) (l : List A) where

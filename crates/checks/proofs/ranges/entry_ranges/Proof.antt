@@ -1,27 +1,49 @@
+use mathlib.Core.Path.{sym, ap}
+use mathlib.Core.List.{[], _∷_}
+use mathlib.Core.Bool.{false}
 use borrow.Author.Needs.{needs}
+use lib.ListN.{take, drop}
+use Rattle.rules.specs.Outcome.{Check, fine, require, _then_, refusalOf}
+use Rattle.rules.specs.Refusal.{strengthsCheck, distancesCheck, settingsCheck}
+use Rattle.checks.specs.Parts.{ownRanges}
+use Rattle.checks.proofs.ByKind.{unknown-kind}
+use Rattle.checks.proofs.Early.{prior, real-distances, answer-then}
 use Rattle.checks.proofs.ranges.entry_ranges.Statement.{statement}
 use Rattle.checks.proofs.ranges.entry_ranges.Tie as tie
 
-link-ranges-requires : tie.Need-link-ranges-requires
-link-ranges-requires c κs = ?
-
 returns : tie.Need-returns
-returns c = ?
+unfolding ownRanges
+returns c = rw (c .match .keys1)
 
 returns-2 : tie.Need-returns-2
-returns-2 c = ?
+unfolding ownRanges
+returns-2 c = rw (c .before .match .keys2) (c .strengths-check .ensures)
 
 returns-3 : tie.Need-returns-3
-returns-3 c = ?
+unfolding ownRanges
+returns-3 c =
+    let s = c .before in
+    let d = s .before in
+    let a = d .before .before .before .args in
+    rw (d .before .match .keys3)
+    (answer-then (distancesCheck (a .part .now)) (settingsCheck (a .e .a ∷ [])) (d .distances-check .result) (s .setting-check .result) (c .first .result)
+    (prior (distancesCheck (a .part .now)) (real-distances (a .part .now))) (d .distances-check .ensures) (s .setting-check .ensures) (c .first .ensures))
 
 returns-4 : tie.Need-returns-4
-returns-4 c = ?
+unfolding ownRanges
+returns-4 c = rw (c .before .match .keys4) (c .link-ranges .ensures)
 
 returns-5 : tie.Need-returns-5
-returns-5 c = ?
+unfolding ownRanges
+returns-5 c = rw (c .before .match .keys5) (c .settings-check .ensures)
 
 returns-6 : tie.Need-returns-6
-returns-6 c = ?
+unfolding ownRanges
+returns-6 c =
+    let a = c .before .before .args in
+    let r = c .match .rest in
+    ap (λ (c : Check). refusalOf c)
+    (sym (unknown-kind (a .e .kind) fine _ _ _ _ (require false 5 0) (r .0 .0 .0 .0 .1) (r .0 .0 .0 .1) (r .0 .0 .1) (r .0 .1) (r .1)))
 
 pub entry-ranges-spec : {M : Type 1} → statement M
 entry-ranges-spec =
@@ -31,7 +53,7 @@ entry-ranges-spec =
     (λ c κs. search needs)
     (λ c κs. search needs)
     (λ c κs. search needs)
-    link-ranges-requires
+    (λ c κs. c .before .before .pre (c .match .keys4))
     (λ c κs. search needs)
     returns
     returns-2
