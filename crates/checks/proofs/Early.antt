@@ -16,7 +16,8 @@ use Rattle.rules.specs.Outcome.{Check, done, refused, fine, require, _then_, _>
 use Rattle.rules.specs.Refusal.{mostLinks, mostIterations, countCheck, strengthsCheck, distancesCheck, settingsCheck}
 use Rattle.rules.specs.Tick.{byKind, entryCounts}
 use Rattle.force.specs.Calls.{firstOf}
-use Rattle.force.proofs.Scans.{Early, Real, real-require, real-then, real-from, real-all}
+use Rattle.force.proofs.Scans.{Early, Real, real-require, real-then, real-all}
+use Rattle.force.proofs.Called.{real-settings}
 use Rattle.checks.specs.Parts.{ownRanges}
 
 -- ---- a check that refuses by 1 to 5, or by 10
@@ -64,6 +65,12 @@ first-then (refused r) d h = rw (ne-eqb (r .number) 0 (numbered (r .number) h))
 pub answer-then : (c d : Check) (p q r : Refusal) → Prior c → p ≡ refusalOf c → q ≡ refusalOf d → r ≡ firstOf p q → r ≡ refusalOf (c then d)
 answer-then c d p q r h ep eq er = er ∙ ap₂ firstOf ep eq ∙ first-then c d h
 
+pub answer-four : (c d e g : Check) (p q s t x y z : Refusal) → Prior c → Prior d → Prior e → p ≡ refusalOf c → q ≡ refusalOf d → s ≡ refusalOf e → t ≡ refusalOf g
+    → x ≡ firstOf p q → y ≡ firstOf x s → z ≡ firstOf y t → z ≡ refusalOf (c then d then e then g)
+answer-four c d e g p q s t x y z hc hd he ep eq es et ex ey ez =
+    answer-then (c then d then e) g y t z (prior-then (c then d) e (prior-then c d hc hd) he)
+    (answer-then (c then d) e x s y (prior-then c d hc hd) (answer-then c d p q x hc ep eq ex) es ey) et ez
+
 -- ---- the checks of a slot refuse by 1 to 5
 
 real-kind : (k : ℕ) (e m c l z u : Check) → Real e → Real m → Real c → Real l → Real z → Real u → Real (byKind k e m c l z u)
@@ -89,12 +96,9 @@ real-strengths l = real-all within 5 (omega arith) l
 pub real-distances : (l : List Float) → Real (distancesCheck l)
 real-distances l = real-all distanceRange 5 (omega arith) l
 
-pub real-settings : (l : List Float) → Real (settingsCheck l)
-real-settings l = real-from (λ _ x. require (within x) 5 0) (λ i x. real-require (within x) 5 0 (omega arith)) 0 l
-
-pub real-ranges : (e : ForceEntry) (part : List Float) → Real (ownRanges e part)
+pub real-own : (e : ForceEntry) (part : List Float) → Real (ownRanges e part)
 unfolding ownRanges
-real-ranges e part =
+real-own e part =
     real-kind (e .kind) fine _ _ _ _ _ tt (real-strengths part)
     (real-then (distancesCheck part) (settingsCheck (e .a ∷ [])) (real-distances part) (real-settings (e .a ∷ [])))
     (real-then (strengthsCheck (take (e .strengths) part)) (distancesCheck (drop (e .strengths) part)) (real-strengths (take (e .strengths) part)) (real-distances (drop (e .strengths) part)))

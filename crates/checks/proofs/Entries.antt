@@ -76,6 +76,11 @@ module _ (need : ForceEntry → ℕ) (w : List ℕ) where
     pub summed-end : 8 ≤ i → total ≡ sum (map need (entriesOf w))
     summed-end h = sym (s .1 ∙ omega (arith, need-none i h))
 
+-- two ends for each link
+pub sum-twice : (es : List ForceEntry) → sum (map linksNeeded es) * 2 ≡ sum (map (λ e. linksNeeded e * 2) es)
+sum-twice [] = refl
+sum-twice (e ∷ es) = omega (arith, sum-twice es)
+
 -- ---- what 1 and the test of the strengths let pass is small
 
 pub bind-then : (c d : Check) → (c >>= λ _. d) ≡ c then d

@@ -1,17 +1,21 @@
 -- Lists that the force slots share one after another: the walk over the slots, and how the rules' checks of the forces go part by part.
-use mathlib.Core.Path.{_≡_, refl, sym, ap, _∙_}
+use mathlib.Core.Path.{_≡_, refl, sym, ap, ap₂, _∙_}
+use mathlib.Core.Bool.{false}
 use mathlib.Core.List.{List, [], _∷_, map}
 use Prim.Native.Nat.{ℕ, zero, suc, _+_, _-_, _*_, _/_, _≤_, _<_}
-use native.Mathlib.Nat.{sub-zero}
+use native.Mathlib.Nat.{zero-add, suc-add}
 use native.Mathlib.Omega.{arith}
 use lib.ListN.{length, take, drop, length-drop}
-use lib.Seq.{length-take-le, drop-drop, take-take}
+use lib.Seq.{length-take-le, take-nil, drop-drop, take-take}
 use lib.Ieee.{Float}
 use Rattle.rules.specs.declared.ForceEntry.{ForceEntry}
 use Rattle.rules.specs.declared.Refusal.{Refusal}
 use Rattle.rules.specs.Plain.{sum}
 use Rattle.rules.specs.Outcome.{Check, done, refused, refusal, fine, require, requireAll, _then_, _>>=_, refusalOf, checkFrom}
-use Rattle.rules.specs.Tick.{entryAt, entriesOf}
+use Rattle.rules.specs.Refusal.{strengthsCheck, distancesCheck, settingsCheck}
+use Rattle.rules.specs.Link.{Ends}
+use Rattle.rules.specs.Force.{manyBody, collide, link, endsFrom, endsOf, endsRange}
+use Rattle.rules.specs.Tick.{empty, push, center, unknown, byKind, entryAt, entriesOf, numbersNeeded, linksNeeded, forceOf, forcesFrom, forceEnds, forceRanges}
 use Rattle.sheet.proofs.Checked.{then-stays}
 use Rattle.force.proofs.Scans.{Real, passes}
 use Rattle.checks.specs.Parts.{eachPart, ownEnds, ownRanges, endsEach, rangesEach}
@@ -64,3 +68,93 @@ module _ {A : Type 0} (need : ForceEntry → ℕ) (check : ForceEntry → List A
                     ∙ turn
                     ∙ ap (λ (c : Check). c then eachPart need check (entriesLeft w (i + 1)) (drop (at + m) l)) (passes (check e (take m (drop at l))) real (sym (ap (λ (r : Refusal). r .number) ir) ∙ z));
             }
+
+-- ---- a slot's force is checked on the slot's own part
+
+twice : (k : ℕ) → suc k * 2 ≡ suc (suc (k * 2))
+twice k = omega arith
+
+take-ends : (k : ℕ) (l : List ℕ) → endsFrom (take (k * 2) l) k ≡ endsFrom l k
+take-ends zero l = refl
+take-ends (suc k) [] = rw (twice k)
+take-ends (suc k) (s ∷ []) = rw (twice k)
+take-ends (suc k) (s ∷ t ∷ l) = rw (twice k, take-ends k l)
+
+-- the first k links
+first-ends : (k : ℕ) (l : List ℕ) → k * 2 ≤ length l → endsFrom l k ≡ endsOf (take (k * 2) l)
+first-ends k l h = sym (ap (endsFrom (take (k * 2) l)) e ∙ take-ends k l)
+  where
+    e : length (take (k * 2) l) / 2 ≡ k
+    e = omega (arith, length-take-le (k * 2) l h)
+
+ends-own : (n : ℕ) (e : ForceEntry) (numbers : List Float) (links : List ℕ) → linksNeeded e * 2 ≤ length links
+    → forceEnds n (forceOf n e numbers links) ≡ ownEnds n (take (linksNeeded e * 2) links)
+unfolding forceOf
+ends-own n e numbers links h = go (e .kind) h
+  where
+    go : (k : ℕ) → byKind k 0 0 0 (e .links) 0 0 * 2 ≤ length links
+        → forceEnds n
+          (byKind k
+          empty
+          (push (manyBody (take n numbers)))
+          (push (collide (take n numbers) (e .a) (e .iterations)))
+          (push (link (endsFrom links (e .links)) (take (e .strengths) numbers) (take (e .links) (drop (e .strengths) numbers)) (e .iterations)))
+          (center (e .a) (e .b) (e .c))
+          unknown)
+        ≡ ownEnds n (take (byKind k 0 0 0 (e .links) 0 0 * 2) links)
+    go zero h = refl
+    go (suc zero) h = refl
+    go (suc (suc zero)) h = refl
+    go (suc (suc (suc zero))) h = ap (λ (es : List Ends). requireAll (endsRange n) 3 es) (first-ends (e .links) links h)
+    go (suc (suc (suc (suc zero)))) h = refl
+    go (suc (suc (suc (suc (suc k))))) h = refl
+
+drop-take : {A : Type 0} (s k : ℕ) (l : List A) → drop s (take (s + k) l) ≡ take k (drop s l)
+drop-take zero k l = rw zero-add
+drop-take (suc s) k [] = rw (suc-add s k, take-nil k)
+drop-take (suc s) k (a ∷ l) = rw (suc-add s k) (drop-take s k l)
+
+ranges-own : (n : ℕ) (e : ForceEntry) (numbers : List Float) (links : List ℕ) → forceRanges (forceOf n e numbers links) ≡ ownRanges e (take (numbersNeeded n e) numbers)
+unfolding forceOf ownRanges
+ranges-own n e numbers links = go (e .kind)
+  where
+    go : (k : ℕ)
+        → forceRanges
+          (byKind k
+          empty
+          (push (manyBody (take n numbers)))
+          (push (collide (take n numbers) (e .a) (e .iterations)))
+          (push (link (endsFrom links (e .links)) (take (e .strengths) numbers) (take (e .links) (drop (e .strengths) numbers)) (e .iterations)))
+          (center (e .a) (e .b) (e .c))
+          unknown)
+        ≡ let part = take (byKind k 0 n n (e .strengths + e .links) 0 0) numbers in
+          byKind k
+          fine
+          (strengthsCheck part)
+          (distancesCheck part then settingsCheck (e .a ∷ []))
+          (strengthsCheck (take (e .strengths) part) then distancesCheck (drop (e .strengths) part))
+          (settingsCheck (e .a ∷ e .b ∷ e .c ∷ []))
+          (require false 5 0)
+    go zero = refl
+    go (suc zero) = refl
+    go (suc (suc zero)) = refl
+    go (suc (suc (suc zero))) = rw (take-take (e .strengths) (e .strengths + e .links) numbers (omega arith), drop-take (e .strengths) (e .links) numbers)
+    go (suc (suc (suc (suc zero)))) = refl
+    go (suc (suc (suc (suc (suc k))))) = refl
+
+-- ---- and so are the forces of all slots
+
+pub ends-each : (n i : ℕ) (es : List ForceEntry) (numbers : List Float) (links : List ℕ) → sum (map (λ e. linksNeeded e * 2) es) ≤ length links
+    → checkFrom (λ _ f. forceEnds n f) i (forcesFrom n es numbers links) ≡ endsEach n es links
+ends-each n i [] numbers links h = refl
+ends-each n i (e ∷ es) numbers links h =
+    bind-then (forceEnds n (forceOf n e numbers links)) (checkFrom (λ _ f. forceEnds n f) (i + 1) (forcesFrom n es (drop (numbersNeeded n e) numbers) (drop (linksNeeded e * 2) links)))
+    ∙ ap₂ _then_ (ends-own n e numbers links (omega arith))
+    (ends-each n (i + 1) es (drop (numbersNeeded n e) numbers) (drop (linksNeeded e * 2) links) (simp length-drop (omega arith)))
+
+pub ranges-each : (n i : ℕ) (es : List ForceEntry) (numbers : List Float) (links : List ℕ)
+    → checkFrom (λ _ f. forceRanges f) i (forcesFrom n es numbers links) ≡ rangesEach n es numbers
+ranges-each n i [] numbers links = refl
+ranges-each n i (e ∷ es) numbers links =
+    bind-then (forceRanges (forceOf n e numbers links)) (checkFrom (λ _ f. forceRanges f) (i + 1) (forcesFrom n es (drop (numbersNeeded n e) numbers) (drop (linksNeeded e * 2) links)))
+    ∙ ap₂ _then_ (ranges-own n e numbers links) (ranges-each n (i + 1) es (drop (numbersNeeded n e) numbers) (drop (linksNeeded e * 2) links))

@@ -1,3 +1,3 @@
 pub mod Fits
-pub mod Lent
+pub mod Input
 pub mod Parts

@@ -14,7 +14,7 @@ ghost use Rattle.checks.specs.Parts.{endsEach};
 
 // Of n particles. The slots' links lie one after another; a slot that is no link has none.
 pub fn all_ends(forces: &[u64; 56], links: &[u32], n: usize) -> Refusal
-    requires { ⌜ length (now links) ≡ sum (map (λ e. linksNeeded e * 2) (entriesOf (now forces))) ⌝ }
+    requires { ⌜ length (now links) ≡ sum (map linksNeeded (entriesOf (now forces))) * 2 ⌝ }
     ensures { λ r. ⌜ r ≡ refusalOf (endsEach n (entriesOf (now (forces .entry))) (now (links .entry))) ⌝ }
 {
     let mut at: usize = 0;

@@ -136,7 +136,7 @@ module _ (l : ForceInput) (f : Push) (w : Bool) (alpha : Float) (settings : List
 -- ---- answers
 
 -- a refusal by 1 to 5 leaves everything as it was
-early-keeps : (q : Refusal) → Early (q .number) → zeroesWork q ≡ false
+pub early-keeps : (q : Refusal) → Early (q .number) → zeroesWork q ≡ false
 unfolding zeroesWork
 early-keeps q h = rw (ne-eqb (q .number) 0 (λ z. omega arith), lt-leb 6 (q .number) (omega arith))
 
@@ -338,12 +338,12 @@ real-counts (collide radii strength iterations) = real-require (leb iterations 6
 real-counts (link links strengths distances iterations) =
     real-then (countCheck mostLinks (length links)) (countCheck mostIterations iterations) (real-require (leb (length links) 8192) 1 0 (omega arith)) (real-require (leb iterations 64) 1 0 (omega arith))
 
-real-ends : (n : ℕ) (f : Push) → Real (pushEnds n f)
+pub real-ends : (n : ℕ) (f : Push) → Real (pushEnds n f)
 real-ends n (manyBody strengths) = tt
 real-ends n (collide radii strength iterations) = tt
 real-ends n (link links strengths distances iterations) = real-all (endsRange n) 3 (omega arith) links
 
-real-settings : (l : List Float) → Real (settingsCheck l)
+pub real-settings : (l : List Float) → Real (settingsCheck l)
 real-settings l = real-from (λ _ x. require (within x) 5 0) (λ i x. real-require (within x) 5 0 (omega arith)) 0 l
 
 pub real-ranges : (f : Push) → Real (pushRanges f)

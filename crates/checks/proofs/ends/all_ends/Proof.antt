@@ -7,9 +7,10 @@ use lib.ListN.{length, take, drop}
 use Rattle.rules.specs.declared.ForceEntry.{ForceEntry}
 use Rattle.rules.specs.Outcome.{Check, refusalOf}
 use Rattle.rules.specs.Force.{endsOf, endsRange}
-use Rattle.rules.specs.Tick.{linksNeeded}
+use Rattle.rules.specs.Tick.{linksNeeded, entriesOf}
 use Rattle.force.proofs.Scans.{real-all}
 use Rattle.checks.specs.Parts.{ownEnds}
+use Rattle.checks.proofs.Entries.{sum-twice}
 use Rattle.checks.proofs.Parts.{part-size, Walked, walk-start, walk-room, walk-stop, walk-on, walk-end}
 use Rattle.checks.proofs.ends.all_ends.Statement.{statement}
 use Rattle.checks.proofs.ends.all_ends.Tie as tie
@@ -33,7 +34,7 @@ room c =
     let o = c .before .before .before .loop in
     let s = c .before .before .before .before .before in
     walk-room need (check (s .args .n)) (s .args .forces .now) (s .args .links .now) (o .at) (o .i) (o .inv) (omega arith)
-    (c .before .entry-at .result) (c .before .entry-at .ensures) (c .links-needed .result * 2) (ap (λ (k : ℕ). k * 2) (c .links-needed .ensures)) (s .pre)
+    (c .before .entry-at .result) (c .before .entry-at .ensures) (c .links-needed .result * 2) (ap (λ (k : ℕ). k * 2) (c .links-needed .ensures)) (s .pre ∙ sum-twice (entriesOf (s .args .forces .now)))
 
 -- what was answered for the slot's part
 answered : (c : tie.After-ends-check Inv-loop μ-loop) → let m = c .before .before in
