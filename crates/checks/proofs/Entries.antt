@@ -10,7 +10,7 @@ use lib.Dec.{eqb, leb}
 use lib.ListN.{length}
 use Rattle.rules.specs.declared.ForceEntry.{ForceEntry}
 use Rattle.rules.specs.Plain.{all, sum}
-use Rattle.rules.specs.Outcome.{Check, done, refused, fine, require, _then_, _>>=_, checkFrom, checkEach}
+use Rattle.rules.specs.Outcome.{Check, done, refused, fine, _then_, _>>=_, checkFrom, checkEach}
 use Rattle.rules.specs.Refusal.{mostLinks, mostIterations, countCheck}
 use Rattle.rules.specs.Force.{noneOr}
 use Rattle.rules.specs.Tick.{byKind, entryAt, entriesFrom, entriesOf, entryCounts, strengthsRight, numbersNeeded, linksNeeded}

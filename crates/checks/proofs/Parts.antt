@@ -11,7 +11,7 @@ use lib.Ieee.{Float}
 use Rattle.rules.specs.declared.ForceEntry.{ForceEntry}
 use Rattle.rules.specs.declared.Refusal.{Refusal}
 use Rattle.rules.specs.Plain.{sum}
-use Rattle.rules.specs.Outcome.{Check, done, refused, refusal, fine, require, requireAll, _then_, _>>=_, refusalOf, checkFrom}
+use Rattle.rules.specs.Outcome.{Check, refusal, fine, require, requireAll, _then_, refusalOf, checkFrom}
 use Rattle.rules.specs.Refusal.{strengthsCheck, distancesCheck, settingsCheck}
 use Rattle.rules.specs.Link.{Ends}
 use Rattle.rules.specs.Force.{manyBody, collide, link, endsFrom, endsOf, endsRange}
@@ -64,9 +64,9 @@ module _ {A : Type 0} (need : ForceEntry → ℕ) (check : ForceEntry → List A
             record {
               summed = rw (im, is) (summed-on need w at i (g .summed) h);
               same =
-                g .same
-                    ∙ turn
-                    ∙ ap (λ (c : Check). c then eachPart need check (entriesLeft w (i + 1)) (drop (at + m) l)) (passes (check e (take m (drop at l))) real (sym (ap (λ (r : Refusal). r .number) ir) ∙ z));
+                  g .same
+                  ∙ turn
+                  ∙ ap (λ (c : Check). c then eachPart need check (entriesLeft w (i + 1)) (drop (at + m) l)) (passes (check e (take m (drop at l))) real (sym (ap (λ (r : Refusal). r .number) ir) ∙ z));
             }
 
 -- ---- a slot's force is checked on the slot's own part
@@ -94,13 +94,13 @@ ends-own n e numbers links h = go (e .kind) h
   where
     go : (k : ℕ) → byKind k 0 0 0 (e .links) 0 0 * 2 ≤ length links
         → forceEnds n
-          (byKind k
-          empty
-          (push (manyBody (take n numbers)))
-          (push (collide (take n numbers) (e .a) (e .iterations)))
-          (push (link (endsFrom links (e .links)) (take (e .strengths) numbers) (take (e .links) (drop (e .strengths) numbers)) (e .iterations)))
-          (center (e .a) (e .b) (e .c))
-          unknown)
+        (byKind k
+        empty
+        (push (manyBody (take n numbers)))
+        (push (collide (take n numbers) (e .a) (e .iterations)))
+        (push (link (endsFrom links (e .links)) (take (e .strengths) numbers) (take (e .links) (drop (e .strengths) numbers)) (e .iterations)))
+        (center (e .a) (e .b) (e .c))
+        unknown)
         ≡ ownEnds n (take (byKind k 0 0 0 (e .links) 0 0 * 2) links)
     go zero h = refl
     go (suc zero) h = refl
@@ -120,21 +120,21 @@ ranges-own n e numbers links = go (e .kind)
   where
     go : (k : ℕ)
         → forceRanges
-          (byKind k
-          empty
-          (push (manyBody (take n numbers)))
-          (push (collide (take n numbers) (e .a) (e .iterations)))
-          (push (link (endsFrom links (e .links)) (take (e .strengths) numbers) (take (e .links) (drop (e .strengths) numbers)) (e .iterations)))
-          (center (e .a) (e .b) (e .c))
-          unknown)
+        (byKind k
+        empty
+        (push (manyBody (take n numbers)))
+        (push (collide (take n numbers) (e .a) (e .iterations)))
+        (push (link (endsFrom links (e .links)) (take (e .strengths) numbers) (take (e .links) (drop (e .strengths) numbers)) (e .iterations)))
+        (center (e .a) (e .b) (e .c))
+        unknown)
         ≡ let part = take (byKind k 0 n n (e .strengths + e .links) 0 0) numbers in
-          byKind k
-          fine
-          (strengthsCheck part)
-          (distancesCheck part then settingsCheck (e .a ∷ []))
-          (strengthsCheck (take (e .strengths) part) then distancesCheck (drop (e .strengths) part))
-          (settingsCheck (e .a ∷ e .b ∷ e .c ∷ []))
-          (require false 5 0)
+        byKind k
+        fine
+        (strengthsCheck part)
+        (distancesCheck part then settingsCheck (e .a ∷ []))
+        (strengthsCheck (take (e .strengths) part) then distancesCheck (drop (e .strengths) part))
+        (settingsCheck (e .a ∷ e .b ∷ e .c ∷ []))
+        (require false 5 0)
     go zero = refl
     go (suc zero) = refl
     go (suc (suc zero)) = refl

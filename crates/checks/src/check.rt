@@ -18,6 +18,7 @@ ghost use Prim.Native.Nat.{_*_};
 ghost use lib.ListN.{length};
 ghost use Rattle.rules.specs.Plain.{sum};
 ghost use Rattle.rules.specs.Outcome.{refusalOf};
+ghost use Rattle.rules.specs.Refusal.{settingsCheck};
 ghost use Rattle.rules.specs.Sheet.{countOf};
 ghost use Rattle.rules.specs.Tick.{sheetCheck, numbersNeeded, linksNeeded, entriesOf};
 ghost use Rattle.checks.specs.Input.{lentSheet, sizesCheck, contentsCheck};
@@ -77,7 +78,17 @@ pub fn input_check(
     contents_check(sheet, forces, numbers, links, draws)
 }
 
-// Of one tick: its settings come last, alpha first among them.
+// The settings of a tick.
+fn tick_settings(alpha: f64, s: Settings) -> Refusal
+    ensures { λ r. ⌜ r ≡ refusalOf (settingsCheck (alpha ∷ s .target ∷ s .cooling ∷ s .decay ∷ [])) ⌝ }
+{
+    first(
+        setting_check(alpha),
+        settings_check(s.target, s.cooling, s.decay),
+    )
+}
+
+// Of one tick: its settings come last.
 pub fn tick_check(
     sheet: &[u8],
     forces: &[u64; 56],
@@ -89,15 +100,13 @@ pub fn tick_check(
 ) -> Refusal
     ensures { λ r. ⌜ r ≡ refusalOf (sheetCheck (lentSheet (now (sheet .entry)) 0 (now (forces .entry)) (now (numbers .entry)) (now (links .entry)) (now (draws .entry)) []) 0 (alpha ∷ s .target ∷ s .cooling ∷ s .decay ∷ [])) ⌝ }
 {
-    let input = input_check(sheet, forces, numbers, links, draws, 0);
-    let settings = first(
-        setting_check(alpha),
-        settings_check(s.target, s.cooling, s.decay),
-    );
-    first(input, settings)
+    first(
+        input_check(sheet, forces, numbers, links, draws, 0),
+        tick_settings(alpha, s),
+    )
 }
 
-// Of a step of at most `budget` ticks: `least`, the least alpha, is the last of its settings.
+// Of a step of at most `budget` ticks: `least`, where alpha is to stop, is the last of its settings.
 pub fn step_check(
     sheet: &[u8],
     forces: &[u64; 56],
@@ -111,10 +120,9 @@ pub fn step_check(
 ) -> Refusal
     ensures { λ r. ⌜ r ≡ refusalOf (sheetCheck (lentSheet (now (sheet .entry)) 0 (now (forces .entry)) (now (numbers .entry)) (now (links .entry)) (now (draws .entry)) []) budget ((alpha ∷ s .target ∷ s .cooling ∷ s .decay ∷ []) ++ (least ∷ []))) ⌝ }
 {
-    let input = input_check(sheet, forces, numbers, links, draws, budget);
-    let settings = first(
-        setting_check(alpha),
-        settings_check(s.target, s.cooling, s.decay),
-    );
-    first(input, first(settings, setting_check(least)))
+    let settings = first(tick_settings(alpha, s), setting_check(least));
+    first(
+        input_check(sheet, forces, numbers, links, draws, budget),
+        settings,
+    )
 }

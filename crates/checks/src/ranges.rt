@@ -20,10 +20,7 @@ ghost use Rattle.checks.specs.Parts.{ownRanges, rangesEach};
 pub fn settings_check(a: f64, b: f64, c: f64) -> Refusal
     ensures { λ r. ⌜ r ≡ refusalOf (settingsCheck (a ∷ b ∷ c ∷ [])) ⌝ }
 {
-    first(
-        first(setting_check(a), setting_check(b)),
-        setting_check(c),
-    )
+    first(first(setting_check(a), setting_check(b)), setting_check(c))
 }
 
 // A link's strengths, of which there are so many, then its distances.

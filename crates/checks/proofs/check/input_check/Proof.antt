@@ -20,7 +20,7 @@ lengths-agree-requires c κs =
     let q = c .before in
     let s = q .before .before .before .before .before in
     let p = sizes-passed (s .args .sheet .now) (s .args .forces .now) (s .args .ticks)
-      (sizes-fine (input s) (s .args .ticks) (q .sizes-check .result) (q .sizes-check .ensures) (c .if1 .left)) in
+    (sizes-fine (input s) (s .args .ticks) (q .sizes-check .result) (q .sizes-check .ensures) (c .if1 .left)) in
     (p .1, p .2)
 
 returns-2 : tie.Need-returns-2

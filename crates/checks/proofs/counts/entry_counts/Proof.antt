@@ -1,4 +1,4 @@
-use mathlib.Core.Path.{sym, ap, _∙_}
+use mathlib.Core.Path.{sym, ap}
 use borrow.Author.Needs.{needs}
 use Rattle.rules.specs.Outcome.{Check, fine, _then_, refusalOf}
 use Rattle.rules.specs.Refusal.{mostLinks, mostIterations, countCheck}

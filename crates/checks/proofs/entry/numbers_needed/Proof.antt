@@ -1,5 +1,4 @@
-use mathlib.Core.Path.{_≡_, sym}
-use native.Mathlib.Omega.{arith}
+use mathlib.Core.Path.{sym}
 use Prim.Native.Nat.{_+_}
 use Rattle.checks.proofs.ByKind.{each-particle, no-force, past-link}
 use Rattle.checks.proofs.entry.numbers_needed.Statement.{statement}

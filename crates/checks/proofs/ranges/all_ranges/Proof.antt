@@ -24,7 +24,7 @@ numbers-needed-requires c κs =
     let s = c .before .before .before .before in
     let e = c .entry-at .result in
     let fits = walk-room (numbersNeeded (s .args .n)) ownRanges (s .args .forces .now) (s .args .numbers .now) (o .at) (o .i) (o .inv) (omega arith)
-      e (c .entry-at .ensures) (numbersNeeded (s .args .n) e) refl (s .pre) in
+    e (c .entry-at .ensures) (numbersNeeded (s .args .n) e) refl (s .pre) in
     omega (arith, fits)
 
 -- the slot's part lies within the list

@@ -2,9 +2,8 @@ use mathlib.Core.Path.{sym, ap}
 use mathlib.Core.List.{[], _∷_}
 use mathlib.Core.Bool.{false}
 use borrow.Author.Needs.{needs}
-use lib.ListN.{take, drop}
-use Rattle.rules.specs.Outcome.{Check, fine, require, _then_, refusalOf}
-use Rattle.rules.specs.Refusal.{strengthsCheck, distancesCheck, settingsCheck}
+use Rattle.rules.specs.Outcome.{Check, fine, require, refusalOf}
+use Rattle.rules.specs.Refusal.{distancesCheck, settingsCheck}
 use Rattle.checks.specs.Parts.{ownRanges}
 use Rattle.checks.proofs.ByKind.{unknown-kind}
 use Rattle.checks.proofs.Early.{prior, real-distances, answer-then}
