@@ -13,7 +13,7 @@ use Rattle.rules.specs.Plain.{all, sum}
 use Rattle.rules.specs.Outcome.{Check, done, refused, fine, _then_, _>>=_, checkFrom, checkEach}
 use Rattle.rules.specs.Refusal.{mostLinks, mostIterations, countCheck}
 use Rattle.rules.specs.Force.{noneOr}
-use Rattle.rules.specs.Tick.{byKind, entryAt, entriesFrom, entriesOf, entryCounts, strengthsRight, numbersNeeded, linksNeeded}
+use Rattle.rules.specs.Tick.{entryAt, entriesFrom, entriesOf, entryCounts, strengthsRight, numbersNeeded, linksNeeded}
 use Rattle.force.proofs.Called.{then-both, require-true, and-both}
 
 -- the entries from slot i on
@@ -95,7 +95,7 @@ none-small n k h = go (eqb k 0) (eqb k n) (eqb-true k 0) (eqb-true k n) h
     go false true f g h = omega (arith, g refl)
     go false false f g h = absurd (false≢true h)
 
-count-small : (most n : ℕ) → countCheck most n ≡ fine → n ≤ most
+pub count-small : (most n : ℕ) → countCheck most n ≡ fine → n ≤ most
 count-small most n h = leb-true n most (require-true (leb n most) 1 0 h)
 
 -- links and strengths of a link
@@ -105,29 +105,21 @@ link-small links strengths iterations c h =
     let few = count-small 8192 links (then-both (countCheck mostLinks links) (countCheck mostIterations iterations) c .0) in
     (few, omega (arith, none-small links strengths h))
 
-entry-small : (n : ℕ) (e : ForceEntry) → n ≤ 4096 → entryCounts e ≡ fine → strengthsRight e ≡ true → (numbersNeeded n e ≤ 16384) × (linksNeeded e ≤ 8192)
-entry-small n e few c r = go (e .kind) c r
-  where
-    counts : ℕ → Check
-    counts k =
-        byKind k fine fine (countCheck mostIterations (e .iterations)) (countCheck mostLinks (e .links) then countCheck mostIterations (e .iterations)) fine fine
+entry-small : (k n : ℕ) (e : ForceEntry) → e .kind ≡ k → n ≤ 4096 → entryCounts e ≡ fine → strengthsRight e ≡ true → (numbersNeeded n e ≤ 16384) × (linksNeeded e ≤ 8192)
+entry-small zero n e i few c r = rw i (omega arith)
+entry-small (suc zero) n e i few c r = rw i (omega arith)
+entry-small (suc (suc zero)) n e i few c r = rw i (omega arith)
+entry-small (suc (suc (suc zero))) n e i few c r = rw i (omega (arith, link-small (e .links) (e .strengths) (e .iterations) (rw i at c) (rw i at r)))
+entry-small (suc (suc (suc (suc zero)))) n e i few c r = rw i (omega arith)
+entry-small (suc (suc (suc (suc (suc k))))) n e i few c r = rw i (omega arith)
 
-    go : (k : ℕ) → counts k ≡ fine → byKind k true true true (noneOr (e .links) (e .strengths)) true true ≡ true
-        → (byKind k 0 n n (e .strengths + e .links) 0 0 ≤ 16384) × (byKind k 0 0 0 (e .links) 0 0 ≤ 8192)
-    go zero c r = omega arith
-    go (suc zero) c r = omega arith
-    go (suc (suc zero)) c r = omega arith
-    go (suc (suc (suc zero))) c r = omega (arith, link-small (e .links) (e .strengths) (e .iterations) c r)
-    go (suc (suc (suc (suc zero)))) c r = omega arith
-    go (suc (suc (suc (suc (suc k))))) c r = omega arith
-
-pub entries-small : (n i : ℕ) (es : List ForceEntry) → n ≤ 4096 → checkFrom (λ _ e. entryCounts e) i es ≡ fine → all strengthsRight es ≡ true
+entries-small : (n i : ℕ) (es : List ForceEntry) → n ≤ 4096 → checkFrom (λ _ e. entryCounts e) i es ≡ fine → all strengthsRight es ≡ true
     → (sum (map (numbersNeeded n) es) ≤ length es * 16384) × (sum (map linksNeeded es) ≤ length es * 8192)
 entries-small n i [] few c r = omega arith
 entries-small n i (e ∷ es) few c r =
     let b = then-both (entryCounts e) (checkFrom (λ _ e. entryCounts e) (i + 1) es) (sym (bind-then (entryCounts e) (checkFrom (λ _ e. entryCounts e) (i + 1) es)) ∙ c) in
     let d = and-both (strengthsRight e) (all strengthsRight es) r in
-    omega (arith, entry-small n e few (b .0) (d .0), entries-small n (i + 1) es few (b .1) (d .1))
+    omega (arith, entry-small (e .kind) n e refl few (b .0) (d .0), entries-small n (i + 1) es few (b .1) (d .1))
 
 -- the same of all slots, in numbers
 pub all-small : (n : ℕ) (w : List ℕ) → n ≤ 4096 → checkEach (λ _ e. entryCounts e) (entriesOf w) ≡ fine → all strengthsRight (entriesOf w) ≡ true

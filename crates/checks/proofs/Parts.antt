@@ -1,6 +1,5 @@
 -- Lists that the force slots share one after another: the walk over the slots, and how the rules' checks of the forces go part by part.
 use mathlib.Core.Path.{_≡_, refl, sym, ap, ap₂, _∙_}
-use mathlib.Core.Bool.{false}
 use mathlib.Core.List.{List, [], _∷_, map}
 use Prim.Native.Nat.{ℕ, zero, suc, _+_, _-_, _*_, _/_, _≤_, _<_}
 use native.Mathlib.Nat.{zero-add, suc-add}
@@ -11,11 +10,10 @@ use lib.Ieee.{Float}
 use Rattle.rules.specs.declared.ForceEntry.{ForceEntry}
 use Rattle.rules.specs.declared.Refusal.{Refusal}
 use Rattle.rules.specs.Plain.{sum}
-use Rattle.rules.specs.Outcome.{Check, refusal, fine, require, requireAll, _then_, refusalOf, checkFrom}
-use Rattle.rules.specs.Refusal.{strengthsCheck, distancesCheck, settingsCheck}
+use Rattle.rules.specs.Outcome.{Check, refusal, requireAll, _then_, refusalOf, checkFrom}
 use Rattle.rules.specs.Link.{Ends}
-use Rattle.rules.specs.Force.{manyBody, collide, link, endsFrom, endsOf, endsRange}
-use Rattle.rules.specs.Tick.{empty, push, center, unknown, byKind, entryAt, entriesOf, numbersNeeded, linksNeeded, forceOf, forcesFrom, forceEnds, forceRanges}
+use Rattle.rules.specs.Force.{endsFrom, endsOf, endsRange}
+use Rattle.rules.specs.Tick.{entryAt, entriesOf, numbersNeeded, linksNeeded, forceOf, forcesFrom, forceEnds, forceRanges}
 use Rattle.sheet.proofs.Checked.{then-stays}
 use Rattle.force.proofs.Scans.{Real, passes}
 use Rattle.checks.specs.Parts.{eachPart, ownEnds, ownRanges, endsEach, rangesEach}
@@ -87,60 +85,31 @@ first-ends k l h = sym (ap (endsFrom (take (k * 2) l)) e ∙ take-ends k l)
     e : length (take (k * 2) l) / 2 ≡ k
     e = omega (arith, length-take-le (k * 2) l h)
 
-ends-own : (n : ℕ) (e : ForceEntry) (numbers : List Float) (links : List ℕ) → linksNeeded e * 2 ≤ length links
+ends-kind : (k n : ℕ) (e : ForceEntry) (numbers : List Float) (links : List ℕ) → e .kind ≡ k → linksNeeded e * 2 ≤ length links
     → forceEnds n (forceOf n e numbers links) ≡ ownEnds n (take (linksNeeded e * 2) links)
 unfolding forceOf
-ends-own n e numbers links h = go (e .kind) h
-  where
-    go : (k : ℕ) → byKind k 0 0 0 (e .links) 0 0 * 2 ≤ length links
-        → forceEnds n
-        (byKind k
-        empty
-        (push (manyBody (take n numbers)))
-        (push (collide (take n numbers) (e .a) (e .iterations)))
-        (push (link (endsFrom links (e .links)) (take (e .strengths) numbers) (take (e .links) (drop (e .strengths) numbers)) (e .iterations)))
-        (center (e .a) (e .b) (e .c))
-        unknown)
-        ≡ ownEnds n (take (byKind k 0 0 0 (e .links) 0 0 * 2) links)
-    go zero h = refl
-    go (suc zero) h = refl
-    go (suc (suc zero)) h = refl
-    go (suc (suc (suc zero))) h = ap (λ (es : List Ends). requireAll (endsRange n) 3 es) (first-ends (e .links) links h)
-    go (suc (suc (suc (suc zero)))) h = refl
-    go (suc (suc (suc (suc (suc k))))) h = refl
+ends-kind zero n e numbers links i h = rw i
+ends-kind (suc zero) n e numbers links i h = rw i
+ends-kind (suc (suc zero)) n e numbers links i h = rw i
+ends-kind (suc (suc (suc zero))) n e numbers links i h = rw i (ap (λ (es : List Ends). requireAll (endsRange n) 3 es) (first-ends (e .links) links (rw i at h)))
+ends-kind (suc (suc (suc (suc zero)))) n e numbers links i h = rw i
+ends-kind (suc (suc (suc (suc (suc k))))) n e numbers links i h = rw i
 
 drop-take : {A : Type 0} (s k : ℕ) (l : List A) → drop s (take (s + k) l) ≡ take k (drop s l)
 drop-take zero k l = rw zero-add
 drop-take (suc s) k [] = rw (suc-add s k, take-nil k)
 drop-take (suc s) k (a ∷ l) = rw (suc-add s k) (drop-take s k l)
 
-ranges-own : (n : ℕ) (e : ForceEntry) (numbers : List Float) (links : List ℕ) → forceRanges (forceOf n e numbers links) ≡ ownRanges e (take (numbersNeeded n e) numbers)
+ranges-kind : (k n : ℕ) (e : ForceEntry) (numbers : List Float) (links : List ℕ) → e .kind ≡ k
+    → forceRanges (forceOf n e numbers links) ≡ ownRanges e (take (numbersNeeded n e) numbers)
 unfolding forceOf ownRanges
-ranges-own n e numbers links = go (e .kind)
-  where
-    go : (k : ℕ)
-        → forceRanges
-        (byKind k
-        empty
-        (push (manyBody (take n numbers)))
-        (push (collide (take n numbers) (e .a) (e .iterations)))
-        (push (link (endsFrom links (e .links)) (take (e .strengths) numbers) (take (e .links) (drop (e .strengths) numbers)) (e .iterations)))
-        (center (e .a) (e .b) (e .c))
-        unknown)
-        ≡ let part = take (byKind k 0 n n (e .strengths + e .links) 0 0) numbers in
-        byKind k
-        fine
-        (strengthsCheck part)
-        (distancesCheck part then settingsCheck (e .a ∷ []))
-        (strengthsCheck (take (e .strengths) part) then distancesCheck (drop (e .strengths) part))
-        (settingsCheck (e .a ∷ e .b ∷ e .c ∷ []))
-        (require false 5 0)
-    go zero = refl
-    go (suc zero) = refl
-    go (suc (suc zero)) = refl
-    go (suc (suc (suc zero))) = rw (take-take (e .strengths) (e .strengths + e .links) numbers (omega arith), drop-take (e .strengths) (e .links) numbers)
-    go (suc (suc (suc (suc zero)))) = refl
-    go (suc (suc (suc (suc (suc k))))) = refl
+ranges-kind zero n e numbers links i = rw i
+ranges-kind (suc zero) n e numbers links i = rw i
+ranges-kind (suc (suc zero)) n e numbers links i = rw i
+ranges-kind (suc (suc (suc zero))) n e numbers links i =
+    rw (i, take-take (e .strengths) (e .strengths + e .links) numbers (omega arith), drop-take (e .strengths) (e .links) numbers)
+ranges-kind (suc (suc (suc (suc zero)))) n e numbers links i = rw i
+ranges-kind (suc (suc (suc (suc (suc k))))) n e numbers links i = rw i
 
 -- ---- and so are the forces of all slots
 
@@ -149,7 +118,7 @@ pub ends-each : (n i : ℕ) (es : List ForceEntry) (numbers : List Float) (links
 ends-each n i [] numbers links h = refl
 ends-each n i (e ∷ es) numbers links h =
     bind-then (forceEnds n (forceOf n e numbers links)) (checkFrom (λ _ f. forceEnds n f) (i + 1) (forcesFrom n es (drop (numbersNeeded n e) numbers) (drop (linksNeeded e * 2) links)))
-    ∙ ap₂ _then_ (ends-own n e numbers links (omega arith))
+    ∙ ap₂ _then_ (ends-kind (e .kind) n e numbers links refl (omega arith))
     (ends-each n (i + 1) es (drop (numbersNeeded n e) numbers) (drop (linksNeeded e * 2) links) (simp length-drop (omega arith)))
 
 pub ranges-each : (n i : ℕ) (es : List ForceEntry) (numbers : List Float) (links : List ℕ)
@@ -157,4 +126,4 @@ pub ranges-each : (n i : ℕ) (es : List ForceEntry) (numbers : List Float) (lin
 ranges-each n i [] numbers links = refl
 ranges-each n i (e ∷ es) numbers links =
     bind-then (forceRanges (forceOf n e numbers links)) (checkFrom (λ _ f. forceRanges f) (i + 1) (forcesFrom n es (drop (numbersNeeded n e) numbers) (drop (linksNeeded e * 2) links)))
-    ∙ ap₂ _then_ (ranges-own n e numbers links) (ranges-each n (i + 1) es (drop (numbersNeeded n e) numbers) (drop (linksNeeded e * 2) links))
+    ∙ ap₂ _then_ (ranges-kind (e .kind) n e numbers links refl) (ranges-each n (i + 1) es (drop (numbersNeeded n e) numbers) (drop (linksNeeded e * 2) links))

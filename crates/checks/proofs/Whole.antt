@@ -6,7 +6,7 @@ use mathlib.Core.Logic.{_⊎_, inl, ⊎-elim}
 use Prim.Native.Nat.{ℕ, _*_, _%_, _≤_}
 use native.Mathlib.Nat.{le-of-eq}
 use native.Mathlib.Omega.{arith}
-use borrow.Author.Tests.{not-true, not-false, leb-true, eqb-true}
+use borrow.Author.Tests.{not-true, not-false, eqb-true}
 use lib.Dec.{eqb, leb}
 use lib.ListN.{length, take, drop}
 use lib.Ieee.{Float}
@@ -27,7 +27,7 @@ use Rattle.checks.specs.Fits.{Fits}
 use Rattle.checks.specs.Parts.{ownEnds, ownRanges, eachPart, endsEach, rangesEach}
 use Rattle.checks.specs.Input.{lentSheet, sizesCheck, contentsCheck}
 use Rattle.checks.proofs.Early.{Prior, prior, prior-require, prior-then, prior-from, prior-passes, answer-then, real-count, real-counts, real-own}
-use Rattle.checks.proofs.Entries.{sum-twice}
+use Rattle.checks.proofs.Entries.{sum-twice, count-small}
 use Rattle.checks.proofs.Parts.{ends-each, ranges-each}
 
 -- ---- the checks one after the other
@@ -168,7 +168,7 @@ sizes-passed sheet forces ticks h =
     let a = then-both (lengthCheck sheet then few then countCheck mostTicks ticks) (checkEach (λ _ e. entryCounts e) (entriesOf forces)) h in
     let b = then-both (lengthCheck sheet then few) (countCheck mostTicks ticks) (a .0) in
     let c = then-both (lengthCheck sheet) few (b .0) in
-    (c .0, leb-true (countOf sheet) 4096 (require-true (leb (countOf sheet) 4096) 1 0 (c .1)), a .1)
+    (c .0, count-small 4096 (countOf sheet) (c .1), a .1)
 
 pub passed : (l : SheetInput) (ticks : ℕ) (settings : List Float) → sheetCheck l ticks settings ≡ fine
     → Fits (count l) (entries l) (l .numbers) (l .links) × (lengthCheck (l .sheet) ≡ fine) × (recordsCheck (particlesOf (l .sheet)) ≡ fine)
