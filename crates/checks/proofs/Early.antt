@@ -56,14 +56,14 @@ prior-passes (done t) r h e z = refl
 prior-passes (refused q) r h e z = absurd (numbered (q .number) h (sym (ap (λ (r : Refusal). r .number) e) ∙ z))
 
 -- two checks one after the other
-first-then : (c d : Check) → Prior c → firstOf (refusalOf c) (refusalOf d) ≡ refusalOf (c then d)
+prior-first : (c d : Check) → Prior c → firstOf (refusalOf c) (refusalOf d) ≡ refusalOf (c then d)
 unfolding firstOf
-first-then (done t) d h = refl
-first-then (refused r) d h = rw (ne-eqb (r .number) 0 (numbered (r .number) h))
+prior-first (done t) d h = refl
+prior-first (refused r) d h = rw (ne-eqb (r .number) 0 (numbered (r .number) h))
 
 -- as they were answered
 pub answer-then : (c d : Check) (p q r : Refusal) → Prior c → p ≡ refusalOf c → q ≡ refusalOf d → r ≡ firstOf p q → r ≡ refusalOf (c then d)
-answer-then c d p q r h ep eq er = er ∙ ap₂ firstOf ep eq ∙ first-then c d h
+answer-then c d p q r h ep eq er = er ∙ ap₂ firstOf ep eq ∙ prior-first c d h
 
 pub answer-four : (c d e g : Check) (p q s t x y z : Refusal) → Prior c → Prior d → Prior e → p ≡ refusalOf c → q ≡ refusalOf d → s ≡ refusalOf e → t ≡ refusalOf g
     → x ≡ firstOf p q → y ≡ firstOf x s → z ≡ firstOf y t → z ≡ refusalOf (c then d then e then g)
@@ -122,7 +122,7 @@ from-append f i j k (a ∷ l) m =
     ap (λ (c : Check). f a >>= λ _. c) (from-append f (i + 1) (j + 1) k l m)
     ∙ then-bind (f a) (checkFrom (λ _ a. f a) (j + 1) l) (checkFrom (λ _ a. f a) k m)
 
-pub settings-append : (l m : List Float) → settingsCheck (l ++ m) ≡ settingsCheck l then settingsCheck m
+settings-append : (l m : List Float) → settingsCheck (l ++ m) ≡ settingsCheck l then settingsCheck m
 settings-append l m = from-append (λ x. require (within x) 5 0) 0 0 0 l m
 
 -- as they were answered
