@@ -6,7 +6,7 @@ ghost use mathlib.Core.Path.{_≡_};
 ghost use Rattle.rules.specs.Floor.{floorAnswer};
 ghost use Rattle.rules.specs.Root.{rootBits};
 ghost use Rattle.rules.specs.Refusal.{mostParticles};
-ghost use Rattle.rules.specs.Calls.{treeResult, linkResult};
+ghost use Rattle.rules.specs.Calls.{treeResult, manyBodyResult, collideResult, linkResult};
 ghost use Rattle.tree.specs.Tree as Tree;
 ghost use Rattle.force.specs.Calls.{lent, Answered};
 
@@ -40,7 +40,51 @@ pub extern "C" fn talemiku_tree(
     tree::tree(records, rows, chains, work)
 }
 
-// Link on plain lists: places in pairs, velocities in pairs from byte `start` of the buffer on, ends of links in pairs, strengths (none for the default), distances.
+// ManyBody on plain lists: places in pairs, velocities in pairs from byte `start` of the buffer on, a strength for each particle.
+#[no_mangle]
+pub extern "C" fn talemiku_many_body(
+    places: &[f64],
+    buffer: &mut [u8],
+    start: usize,
+    strengths: &[f64],
+    alpha: f64,
+    draws: &[f64],
+    work: &mut [u64],
+) -> Counts
+    ensures { λ r. ⌜ (let l = lent (now (places .entry)) (now (buffer .entry)) start (now (draws .entry)) (now (work .entry)) in
+        Answered l (manyBodyResult l (now (strengths .entry)) alpha) r (now (buffer .exit)) (now (work .exit))) ⌝ }
+{
+    many_body::many_body_call(places, buffer, start, strengths, alpha, draws, work)
+}
+
+// Collide on plain lists, with a radius for each particle.
+#[no_mangle]
+pub extern "C" fn talemiku_collide(
+    places: &[f64],
+    buffer: &mut [u8],
+    start: usize,
+    radii: &[f64],
+    strength: f64,
+    iterations: usize,
+    draws: &[f64],
+    work: &mut [u64],
+) -> Counts
+    ensures { λ r. ⌜ (let l = lent (now (places .entry)) (now (buffer .entry)) start (now (draws .entry)) (now (work .entry)) in
+        Answered l (collideResult l (now (radii .entry)) strength iterations) r (now (buffer .exit)) (now (work .exit))) ⌝ }
+{
+    collide::collide_call(
+        places,
+        buffer,
+        start,
+        radii,
+        strength,
+        iterations,
+        draws,
+        work,
+    )
+}
+
+// Link on plain lists, with ends of links in pairs, strengths (none for the default) and distances.
 #[no_mangle]
 pub extern "C" fn talemiku_link(
     places: &[f64],
