@@ -19,7 +19,7 @@ use Rattle.rules.specs.Flow.{Flow}
 use Rattle.rules.specs.Collide.{radiusTree, collideStep, runCollide}
 use Rattle.rules.proofs.CellRule.{grow-leaf}
 use Rattle.collide.specs.Collide.{walkFor, walkAll, walkTimes}
-use Rattle.collide.proofs.CollideRun.{run-walked}
+use Rattle.collide.proofs.CollideRun.{run-none, run-walked}
 
 -- ---- stages that change nothing and hand out d nodes each
 
@@ -37,6 +37,10 @@ module _ (at radii : List Float) (strength : Float) (iterations slots : ℕ) (m 
       → runCollide at radii strength iterations slots m ≡ done (counted (m .state) (m .visits + iterations * length radii))
   unfolding walkTimes
   run-idle h = sym (run-walked at radii strength iterations slots m f) ∙ idle (λ m _. walkAll at radii strength m) (length radii) (λ m _. h m) m 0 iterations
+
+-- With no iteration no tree is built: neither 6 nor 7 is given, however few the slots, and nothing changes.
+pub none-idle : (at radii : List Float) (strength : Float) (slots : ℕ) (m : Counted Flow) → runCollide at radii strength 0 slots m ≡ done m
+none-idle at radii strength slots m = sym (run-none at radii strength 0 slots m refl)
 
 -- ---- a tree of one leaf
 
