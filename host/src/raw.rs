@@ -1,0 +1,421 @@
+//! The entries of the archive with slices for pointers and lengths, and answers as they come. All unsafe code is here.
+//!
+//! Nothing checks these declarations against crates/talemiku/src/lib.rt and crates/rules/src/lib.rt, so read them side by side. A slice passes
+//! as a pointer and a length, in order; an array behind a reference as a pointer alone.
+#![allow(unsafe_code)]
+// The entries have as many parameters as they need; what the crate offers above them groups these.
+#![allow(clippy::too_many_arguments)]
+
+/// A refusal's number and its place; number 0 where nothing is refused.
+#[repr(C)]
+#[derive(Clone, Copy, Debug, PartialEq, Eq)]
+pub struct Refusal {
+    /// 1 to 10, or 0.
+    pub number: u64,
+    /// An index, or 0.
+    pub place: u64,
+}
+
+/// A cell: four numbers.
+#[repr(C)]
+#[derive(Clone, Copy, Debug, PartialEq)]
+pub struct Extent {
+    /// Least x.
+    pub x0: f64,
+    /// Least y.
+    pub y0: f64,
+    /// The end of x, outside.
+    pub x1: f64,
+    /// The end of y, outside.
+    pub y1: f64,
+}
+
+/// A particle, in the order of its 40-byte record.
+#[repr(C)]
+#[derive(Clone, Copy, Debug, Default, PartialEq)]
+pub struct Particle {
+    /// Where it is.
+    pub x: f64,
+    /// Where it is.
+    pub y: f64,
+    /// How fast it moves along x.
+    pub vx: f64,
+    /// How fast it moves along y.
+    pub vy: f64,
+    /// Bit 0 for `with_fixed_x`, bit 1 for `with_fixed_y`; others are refused.
+    pub flags: u64,
+}
+
+/// What a floor is, or the refusal with the value 0.
+#[repr(C)]
+#[derive(Clone, Copy, Debug, PartialEq, Eq)]
+pub struct FloorAnswer {
+    /// Number 0, or 4.
+    pub refusal: Refusal,
+    /// The floor.
+    pub value: i64,
+}
+
+/// What is known of a tree beside its lists.
+#[repr(C)]
+#[derive(Clone, Copy, Debug, PartialEq)]
+pub struct TreeAnswer {
+    /// Number 0, or what was refused.
+    pub refusal: Refusal,
+    /// How many nodes there are.
+    pub nodes: u64,
+    /// The root's cell.
+    pub extent: Extent,
+}
+
+/// What a force or a tick counted.
+#[repr(C)]
+#[derive(Clone, Copy, Debug, PartialEq, Eq)]
+pub struct Counts {
+    /// Number 0, or what was refused.
+    pub refusal: Refusal,
+    /// Nodes handed out by parent-first walks.
+    pub visits: u64,
+    /// Draws used.
+    pub draws: u64,
+}
+
+/// What a step did.
+#[repr(C)]
+#[derive(Clone, Copy, Debug, PartialEq, Eq)]
+pub struct StepAnswer {
+    /// The step's own refusal (1 to 5 and 10), or that of the tick that ended it (6 to 9), or number 0.
+    pub refusal: Refusal,
+    /// Ticks done.
+    pub ticks: u64,
+    /// Whether alpha is at most the least one.
+    pub finished: bool,
+    /// Nodes handed out in all these ticks.
+    pub visits: u64,
+    /// Draws used in all these ticks.
+    pub draws: u64,
+}
+
+mod entry {
+    use super::{Counts, FloorAnswer, Particle, Refusal, StepAnswer, TreeAnswer};
+
+    // an archive may lack some
+    #[allow(dead_code)]
+    extern "C" {
+        pub fn talemiku_floor(x: f64) -> FloorAnswer;
+
+        pub fn talemiku_root(bits: u64) -> u64;
+
+        pub fn talemiku_tree(
+            records: *const u8,
+            records_len: usize,
+            rows: *mut u32,
+            rows_len: usize,
+            chains: *mut u32,
+            chains_len: usize,
+            work: *mut u64,
+            work_len: usize,
+        ) -> TreeAnswer;
+
+        pub fn talemiku_many_body(
+            places: *const f64,
+            places_len: usize,
+            buffer: *mut u8,
+            buffer_len: usize,
+            start: usize,
+            strengths: *const f64,
+            strengths_len: usize,
+            alpha: f64,
+            draws: *const f64,
+            draws_len: usize,
+            work: *mut u64,
+            work_len: usize,
+        ) -> Counts;
+
+        pub fn talemiku_collide(
+            places: *const f64,
+            places_len: usize,
+            buffer: *mut u8,
+            buffer_len: usize,
+            start: usize,
+            radii: *const f64,
+            radii_len: usize,
+            strength: f64,
+            iterations: usize,
+            draws: *const f64,
+            draws_len: usize,
+            work: *mut u64,
+            work_len: usize,
+        ) -> Counts;
+
+        pub fn talemiku_link(
+            places: *const f64,
+            places_len: usize,
+            buffer: *mut u8,
+            buffer_len: usize,
+            start: usize,
+            links: *const u32,
+            links_len: usize,
+            strengths: *const f64,
+            strengths_len: usize,
+            distances: *const f64,
+            distances_len: usize,
+            iterations: usize,
+            alpha: f64,
+            draws: *const f64,
+            draws_len: usize,
+            work: *mut u64,
+            work_len: usize,
+        ) -> Counts;
+
+        pub fn talemiku_center(particles: *mut Particle, particles_len: usize, x: f64, y: f64, strength: f64) -> Refusal;
+
+        pub fn talemiku_apply_velocities(particles: *mut Particle, particles_len: usize, decay: f64) -> Refusal;
+
+        pub fn talemiku_tick(
+            sheet: *mut u8,
+            sheet_len: usize,
+            alpha: *mut u64,
+            forces: *const [u64; 56],
+            numbers: *const f64,
+            numbers_len: usize,
+            links: *const u32,
+            links_len: usize,
+            draws: *const f64,
+            draws_len: usize,
+            target: f64,
+            cooling: f64,
+            decay: f64,
+            work: *mut u64,
+            work_len: usize,
+        ) -> Counts;
+
+        pub fn talemiku_step(
+            sheet: *mut u8,
+            sheet_len: usize,
+            alpha: *mut u64,
+            forces: *const [u64; 56],
+            numbers: *const f64,
+            numbers_len: usize,
+            links: *const u32,
+            links_len: usize,
+            draws: *const f64,
+            draws_len: usize,
+            target: f64,
+            cooling: f64,
+            decay: f64,
+            least: f64,
+            budget: u64,
+            work: *mut u64,
+            work_len: usize,
+        ) -> StepAnswer;
+    }
+}
+
+/// The floor as a whole number, or refusal 4.
+pub fn floor(x: f64) -> FloorAnswer {
+    unsafe { entry::talemiku_floor(x) }
+}
+
+/// The correctly rounded square root, from bits to bits.
+pub fn root(bits: u64) -> u64 {
+    unsafe { entry::talemiku_root(bits) }
+}
+
+/// The tree of a sheet.
+pub fn tree(records: &[u8], rows: &mut [u32], chains: &mut [u32], work: &mut [u64]) -> TreeAnswer {
+    unsafe {
+        entry::talemiku_tree(
+            records.as_ptr(),
+            records.len(),
+            rows.as_mut_ptr(),
+            rows.len(),
+            chains.as_mut_ptr(),
+            chains.len(),
+            work.as_mut_ptr(),
+            work.len(),
+        )
+    }
+}
+
+/// ManyBody on plain lists.
+#[cfg(feature = "many_body")]
+pub fn many_body(
+    places: &[f64],
+    buffer: &mut [u8],
+    start: usize,
+    strengths: &[f64],
+    alpha: f64,
+    draws: &[f64],
+    work: &mut [u64],
+) -> Counts {
+    unsafe {
+        entry::talemiku_many_body(
+            places.as_ptr(),
+            places.len(),
+            buffer.as_mut_ptr(),
+            buffer.len(),
+            start,
+            strengths.as_ptr(),
+            strengths.len(),
+            alpha,
+            draws.as_ptr(),
+            draws.len(),
+            work.as_mut_ptr(),
+            work.len(),
+        )
+    }
+}
+
+/// Collide on plain lists.
+#[cfg(feature = "collide")]
+pub fn collide(
+    places: &[f64],
+    buffer: &mut [u8],
+    start: usize,
+    radii: &[f64],
+    strength: f64,
+    iterations: usize,
+    draws: &[f64],
+    work: &mut [u64],
+) -> Counts {
+    unsafe {
+        entry::talemiku_collide(
+            places.as_ptr(),
+            places.len(),
+            buffer.as_mut_ptr(),
+            buffer.len(),
+            start,
+            radii.as_ptr(),
+            radii.len(),
+            strength,
+            iterations,
+            draws.as_ptr(),
+            draws.len(),
+            work.as_mut_ptr(),
+            work.len(),
+        )
+    }
+}
+
+/// Link on plain lists.
+pub fn link(
+    places: &[f64],
+    buffer: &mut [u8],
+    start: usize,
+    links: &[u32],
+    strengths: &[f64],
+    distances: &[f64],
+    iterations: usize,
+    alpha: f64,
+    draws: &[f64],
+    work: &mut [u64],
+) -> Counts {
+    unsafe {
+        entry::talemiku_link(
+            places.as_ptr(),
+            places.len(),
+            buffer.as_mut_ptr(),
+            buffer.len(),
+            start,
+            links.as_ptr(),
+            links.len(),
+            strengths.as_ptr(),
+            strengths.len(),
+            distances.as_ptr(),
+            distances.len(),
+            iterations,
+            alpha,
+            draws.as_ptr(),
+            draws.len(),
+            work.as_mut_ptr(),
+            work.len(),
+        )
+    }
+}
+
+/// Center on a list of particles.
+#[cfg(feature = "particles")]
+pub fn center(particles: &mut [Particle], x: f64, y: f64, strength: f64) -> Refusal {
+    unsafe { entry::talemiku_center(particles.as_mut_ptr(), particles.len(), x, y, strength) }
+}
+
+/// The closing move on a list of particles.
+#[cfg(feature = "particles")]
+pub fn apply_velocities(particles: &mut [Particle], decay: f64) -> Refusal {
+    unsafe { entry::talemiku_apply_velocities(particles.as_mut_ptr(), particles.len(), decay) }
+}
+
+/// One tick of a sheet; alpha as its bits.
+#[cfg(feature = "tick")]
+pub fn tick(
+    sheet: &mut [u8],
+    alpha: &mut u64,
+    forces: &[u64; 56],
+    numbers: &[f64],
+    links: &[u32],
+    draws: &[f64],
+    target: f64,
+    cooling: f64,
+    decay: f64,
+    work: &mut [u64],
+) -> Counts {
+    unsafe {
+        entry::talemiku_tick(
+            sheet.as_mut_ptr(),
+            sheet.len(),
+            alpha,
+            forces,
+            numbers.as_ptr(),
+            numbers.len(),
+            links.as_ptr(),
+            links.len(),
+            draws.as_ptr(),
+            draws.len(),
+            target,
+            cooling,
+            decay,
+            work.as_mut_ptr(),
+            work.len(),
+        )
+    }
+}
+
+/// Ticks of a sheet within a budget; alpha as its bits.
+#[cfg(feature = "tick")]
+pub fn step(
+    sheet: &mut [u8],
+    alpha: &mut u64,
+    forces: &[u64; 56],
+    numbers: &[f64],
+    links: &[u32],
+    draws: &[f64],
+    target: f64,
+    cooling: f64,
+    decay: f64,
+    least: f64,
+    budget: u64,
+    work: &mut [u64],
+) -> StepAnswer {
+    unsafe {
+        entry::talemiku_step(
+            sheet.as_mut_ptr(),
+            sheet.len(),
+            alpha,
+            forces,
+            numbers.as_ptr(),
+            numbers.len(),
+            links.as_ptr(),
+            links.len(),
+            draws.as_ptr(),
+            draws.len(),
+            target,
+            cooling,
+            decay,
+            least,
+            budget,
+            work.as_mut_ptr(),
+            work.len(),
+        )
+    }
+}
