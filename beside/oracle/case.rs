@@ -48,6 +48,9 @@ pub enum Case {
 
 pub const KINDS: [&str; 8] = ["floor", "root", "tree", "visit", "force", "move", "tick", "step"];
 
+/// A `force` case with one of the forces, by its letter.
+pub const FORCES: [&str; 4] = ["M", "C", "L", "E"];
+
 // ---- reading
 
 struct Words<'a>(SplitWhitespace<'a>);
@@ -167,7 +170,19 @@ pub fn read(line: &str) -> Option<Case> {
 
 /// The bits, as 16 hex digits; every NaN is written the same.
 pub fn hex(x: f64) -> String {
-    format!("{:016x}", if x.is_nan() { 0x7ff8_0000_0000_0000 } else { x.to_bits() })
+    format!("{:016x}", canonical(x.to_bits()))
+}
+
+/// Apart, and over whole numbers: where a compiler sees a float's test for NaN and that either answer is a NaN, it may leave the test out.
+#[inline(never)]
+fn canonical(bits: u64) -> u64 {
+    const NAN: u64 = 0x7ff8_0000_0000_0000;
+    const INFINITY: u64 = 0x7ff0_0000_0000_0000;
+    if bits << 1 > INFINITY << 1 {
+        NAN
+    } else {
+        bits
+    }
 }
 
 /// The bits of an input as they are.

@@ -555,10 +555,10 @@ fn visit(r: &mut Random, max: usize) -> Case {
     Case::Visit { particles, skips }
 }
 
-fn force(r: &mut Random, max: usize) -> Case {
+fn force(r: &mut Random, max: usize, make: fn(&mut Random, &[Record]) -> Force) -> Case {
     let mut particles = particles(r, max);
     let n = particles.len();
-    let mut force = any_force(r, &particles);
+    let mut force = make(r, &particles);
     let mut alpha = alpha(r);
     let mut draws = draws(r, 4 * n + 8);
     let slots = slots(r, n);
@@ -630,14 +630,21 @@ fn step(r: &mut Random, max: usize) -> Case {
 /// A case of one of these kinds, by their first words.
 pub fn case(r: &mut Random, max: usize, kinds: &[String]) -> Case {
     // the whole ones come more often than the single numbers
-    let often = ["tree", "tree", "visit", "force", "force", "force", "move", "tick", "tick", "step", "floor", "root"];
+    let often = [
+        "tree", "tree", "visit", "force", "force", "force", "move", "tick", "tick", "step", "floor", "root", "M", "M", "C", "C", "L", "L",
+        "E",
+    ];
     let open: Vec<&str> = often.iter().copied().filter(|kind| kinds.iter().any(|k| k == kind)).collect();
     match r.pick(&open) {
         "floor" => Case::Floor(number(r)),
         "root" => Case::Root(number(r)),
         "tree" => tree(r, max),
         "visit" => visit(r, max),
-        "force" => force(r, max),
+        "force" => force(r, max, any_force),
+        "M" => force(r, max, |r, particles| many_body(r, particles.len())),
+        "C" => force(r, max, collide),
+        "L" => force(r, max, |r, particles| link(r, particles.len())),
+        "E" => force(r, max, |r, _| center(r)),
         "move" => closing(r, max),
         "tick" => tick(r, max),
         _ => step(r, max),

@@ -13,7 +13,7 @@ use std::env::args;
 use std::io::{self, BufRead, Write};
 use std::process::ExitCode;
 
-use case::{Case, KINDS};
+use case::{Case, FORCES, KINDS};
 use rust::MinusZero;
 
 const USAGE: &str = "oracle rust | raw | rule | table | gen SEED COUNT [MAX [KINDS]] | compare SEED COUNT [MAX [KINDS]]";
@@ -77,7 +77,7 @@ fn plan(words: &[String]) -> Option<Plan> {
         None => KINDS.map(String::from).to_vec(),
         Some(list) => list.split(',').map(String::from).collect(),
     };
-    if !kinds.iter().all(|kind| KINDS.contains(&kind.as_str())) {
+    if !kinds.iter().all(|kind| KINDS.contains(&kind.as_str()) || FORCES.contains(&kind.as_str())) {
         return None;
     }
     Some(Plan {
