@@ -11,7 +11,7 @@ fn fail(message: &str) -> ! {
 fn main() {
     let variable = |name: &str| env::var(name).unwrap_or_default();
     if variable("CARGO_CFG_TARGET_ARCH") != "x86_64" || variable("CARGO_CFG_TARGET_OS") != "linux" {
-        fail("the archive is for x86-64 Linux; on an Arm machine host/arm builds for it");
+        fail("the archive is for x86-64 Linux; host/test builds for it on Arm too");
     }
     let folder = match env::var_os("TALEMIKU_LIB") {
         Some(folder) => PathBuf::from(folder),
