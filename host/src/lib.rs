@@ -9,8 +9,8 @@
 //! - `center`, `apply_velocities`: Center and the closing move on particles.
 //! - `tick`, `step`: a whole sheet, with up to eight forces ([`Forces`]).
 //!
-//! Nothing is allocated by the archive: a tree's nodes live in lent work slots ([`SLOT_WORDS`]), jiggles come from a lent list of draws. [`raw`] has the same
-//! calls with their answers as they come.
+//! Nothing is allocated by the archive: a tree's nodes live in lent work slots ([`SLOT_WORDS`]), jiggles come from a lent list of draws, and a call's own lists stand on the
+//! stack (some hundred KB). [`raw`] has the same calls with their answers as they come.
 #![deny(missing_docs, unsafe_code)]
 
 mod force;
