@@ -1,7 +1,7 @@
 use mathlib.Core.Path.{_≡_, refl, sym, ap, _∙_}
 use mathlib.Core.Bool.{true}
 use mathlib.Core.List.{[], _∷_}
-use Prim.Native.Nat.{ℕ, _/_}
+use Prim.Native.Nat.{ℕ, _+_, _*_, _/_, _%_, _^_, _≤_, _<_, zero-le}
 use native.Mathlib.Omega.{arith}
 use borrow.Author.Needs.{needs}
 use borrow.Author.Tests.{eqb-true}
@@ -31,11 +31,19 @@ force s = manyBody (s .args .strengths .now)
 passed-lent : (s : tie.Start) → Lent (input s) (force s) true
 passed-lent s = lent-all (input s) (force s) true (s .pre .0)
 
+-- n numbers in the places, as many velocities, and 8 bytes for each
+fits-part : (n k m : ℕ) → n ≡ n / 2 * 2 → k ≡ n → m ≡ n / 2 * 16 → (k % 2 ≡ 0) × (0 + k / 2 * 16 + 16 ≤ m + 16) × (m ≡ k * 8)
+fits-part n k m e ek em = (omega arith, omega arith, omega arith)
+
+fits-each : (n k j : ℕ) → n ≡ n / 2 * 2 → k ≡ n → j ≡ n / 2 → (n ≡ j * 2) × (k ≡ j * 2)
+fits-each n k j e ek ej = (omega arith, omega arith)
+
 read-pairs-requires : tie.Need-read-pairs-requires
 read-pairs-requires c κs =
     let s = c .before .before .before .before .before .before .before .before .before .before in
     let l = passed-lent s in
-    record { even = omega (arith, l .pairs, s .pre .2); reach = omega (arith, l .pairs, s .pre .1, s .pre .2) }
+    let r = fits-part _ _ _ (l .pairs) (s .pre .2) (s .pre .1) in
+    record { even = r .0; reach = r .1 }
 
 abbrev start : tie.After-read-pairs → tie.Start
 start d = d .before .before .before .before .before .before .before .before .before .before .before
@@ -71,6 +79,9 @@ past c =
     passed (numbersCheck (a .places .now) vs (manyBody (a .strengths .now)) (a .draws .now) (a .alpha ∷ [])) (c .before .numbers-check .result)
     (real-numbers (a .places .now) vs (manyBody (a .strengths .now)) (a .draws .now) (a .alpha ∷ [])) (c .before .numbers-check .ensures) (c .if1 .left)
 
+small : 0 < 2 ^ 63
+small = omega arith
+
 many-body-requires : tie.Need-many-body-requires
 many-body-requires c κs =
     let e = c .before .before .before .before .before in
@@ -78,9 +89,9 @@ many-body-requires c κs =
     let s = start d in
     let a = s .args in
     let l = passed-lent s in
-    let each = eqb-true (length (a .strengths .now)) (length (a .places .now) / 2) (l .lengths) in (
+    let each = fits-each _ _ _ (l .pairs) (d .read-pairs .kept .1 .1 .1 .0 ∙ s .pre .2) (eqb-true (length (a .strengths .now)) (length (a .places .now) / 2) (l .lengths)) in (
       can-build (input s) (force s) true (d .read-pairs .last .1 .1 .1 .0) (a .draws .now) (a .alpha ∷ []) (a .next .now) (a .tail .now) l (past e) (s .pre .3) (s .pre .4),
-      (omega (arith, l .pairs, each), omega (arith, d .read-pairs .kept .1 .1 .1 .0, s .pre .2, l .pairs, each), omega arith, omega arith),
+      (each .0, each .1, zero-le, small),
     )
 
 abbrev last : tie.After-many-body → tie.Else1
@@ -95,7 +106,8 @@ settle-requires c κs =
     let e = c .before .before .before .before .before .before .before .before .before .before .before in
     let s = start (begun (last e)) in
     let l = passed-lent s in
-    (omega (arith, kept e, l .pairs), omega (arith, kept e, l .pairs, s .pre .1))
+    let r = fits-part _ _ _ (l .pairs) (kept e) (s .pre .1) in
+    (r .0, r .2)
 
 same-length-4 : tie.Need-same-length-4
 same-length-4 c =

@@ -5,7 +5,10 @@ use Rattle.many_body.proofs.charge.with_child.Tie as tie
 
 returns : tie.Need-returns
 unfolding withChild
-returns c = cc
+returns c =
+    let y = c .before .before .before .before in
+    let x = y .before .before in
+    rw (y .weighed2 .ensures, x .weighed .ensures, x .before .abs .ensures)
 
 pub with-child-spec : {M : Type 1} → statement M
 with-child-spec = tie.close (tie.spec (λ c κs. search needs) (λ c κs. search needs) (λ c κs. search needs) returns)
