@@ -5,12 +5,14 @@ use mathlib.Core.List.{List, [], _∷_}
 use Prim.Native.Nat.{ℕ, _+_, _*_, _≤_}
 use native.Mathlib.Nat.{mul-le-mul-left}
 use native.Mathlib.Omega.{arith}
+use borrow.Author.Tests.{eq-eqb}
 use lib.ListN.{length}
 use lib.Ieee.{Float}
 use Rattle.rules.specs.declared.Extent.{Extent}
 use Rattle.rules.specs.declared.Tuning.{Tuning}
 use Rattle.rules.specs.declared.Visit.the-variants.{Continue}
 use Rattle.rules.specs.Plain.{upTo}
+use Rattle.rules.specs.Number.{finite, xAt, yAt}
 use Rattle.rules.specs.Outcome.{Outcome, Check, done, refused, fine, _>>=_, ifDone}
 use Rattle.rules.specs.Tree.{nodes, treeOf, treeCheck}
 use Rattle.rules.specs.Walk.{Counted, counted, tip, after, walk}
@@ -23,6 +25,7 @@ use Rattle.rules.proofs.CellCount.{distinct, length-upTo}
 use Rattle.walk.proofs.WalkTheorems.{counts-few}
 use Rattle.force.proofs.Visits.{nodes-valued, accepted-nodes, stages-few}
 use Rattle.many_body.specs.ManyBody.{pulledAll}
+use Rattle.many_body.proofs.OwnLeaf.{own-length, square-unsigned, never-far}
 
 -- ---- how many nodes are handed out
 
@@ -95,3 +98,10 @@ module _ (t : Tuning) (strengths : List Float) (alpha : Float) (i : ℕ) (is : L
       → manyBodyStep t at strengths alpha i (tip (c, q) is) σ ≡ done (after σ Continue)
   unfolding manyBodyStep meetNode
   alone-met at c q σ e = rw (e, alone-near (gapTo at i q) (length² (gapTo at i q)) σ)
+
+-- With the standard settings its own leaf is never far. So whatever the cell, a particle alone there draws nothing.
+pub own-leaf : (at strengths : List Float) (alpha : Float) (i : ℕ) (c : Extent) (σ : Flow) → finite (xAt at i) ≡ true → finite (yAt at i) ≡ true
+    → manyBodyStep standard at strengths alpha i (tip (c, leafCharge at strengths (i ∷ [])) (i ∷ [])) σ ≡ done (after σ Continue)
+own-leaf at strengths alpha i c σ hx hy =
+    alone-met standard strengths alpha i (i ∷ []) (eq-eqb i i refl) at c (leafCharge at strengths (i ∷ [])) σ
+    (ap (far standard c) (own-length at strengths i hx hy) ∙ never-far standard c (square-unsigned _))

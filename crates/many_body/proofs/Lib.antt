@@ -4,4 +4,5 @@ pub mod ManyBodyLaws
 pub mod ManyBodyWalk
 pub mod ManyBodyRun
 pub mod ManyBodyCalled
+pub mod OwnLeaf
 pub mod Facts
