@@ -3,7 +3,7 @@ use mathlib.Core.Path.{_≡_, refl, sym, ap, _∙_}
 use mathlib.Core.Bool.{Bool, true}
 use mathlib.Core.List.{List, _∷_}
 use Prim.Native.Nat.{ℕ, zero, suc, _+_, _*_, _≤_, _<_}
-use native.Mathlib.Nat.{add-zero}
+use native.Mathlib.Nat.{add-zero, mul-le-mul-left}
 use native.Mathlib.Numerals.{add-one}
 use native.Mathlib.Omega.{arith}
 use borrow.Author.Tests.{le-ltb, le-leb}
@@ -11,13 +11,16 @@ use lib.ListN.{length}
 use lib.Ieee.{Float}
 use Rattle.rules.specs.declared.Extent.{Extent}
 use Rattle.rules.specs.Plain.{all, countFrom, upTo}
-use Rattle.rules.specs.Outcome.{Outcome, done, fine, _>>=_, foldStages, checkFrom}
+use Rattle.rules.specs.Outcome.{Outcome, Check, done, refused, fine, _>>=_, foldStages, checkFrom}
 use Rattle.rules.specs.Cover.{coverFirst, extentOf}
-use Rattle.rules.specs.Tree.{leaf, same, treeIn, treeOf, fitsCheck, treeCheck}
+use Rattle.rules.specs.Tree.{leaf, same, nodes, treeIn, treeOf, fitsCheck, treeCheck}
 use Rattle.rules.specs.Walk.{Counted, counted}
 use Rattle.rules.specs.Flow.{Flow}
-use Rattle.rules.specs.Collide.{radiusTree, collideStep, runCollide}
+use Rattle.rules.specs.Collide.{leafRadius, nodeRadius, radiusTree, collideStep, collideOnce, runCollide}
+use Rattle.rules.proofs.CellCount.{length-upTo}
 use Rattle.rules.proofs.CellRule.{grow-leaf}
+use Rattle.walk.proofs.WalkTheorems.{counts-few}
+use Rattle.force.proofs.Visits.{nodes-valued, accepted-nodes, stages-few}
 use Rattle.collide.specs.Collide.{walkFor, walkAll, walkTimes}
 use Rattle.collide.proofs.CollideRun.{run-none, run-walked}
 
@@ -90,3 +93,33 @@ coincident-idle at radii strength iterations slots m h f = go (length radii) ref
     go : (n : ℕ) → length radii ≡ n → ((i : ℕ) → i < n → same at 0 i ≡ true) → runCollide at radii strength iterations slots m ≡ done (counted (m .state) (m .visits + iterations * length radii))
     go zero e g = run-idle at radii strength iterations slots m f (λ m. rw (e, add-zero))
     go (suc n) e g = one-leaf-idle at radii strength iterations slots m f (extentOf (coverFirst at (suc n))) (countFrom 1 n) (rw e (coincident-leaf at n g))
+
+-- ---- how many nodes are handed out
+
+module _ (at radii : List Float) (strength : Float) (slots : ℕ) where
+  radius-nodes : nodes (radiusTree at radii) ≡ nodes (treeOf at (length radii))
+  unfolding radiusTree
+  radius-nodes = nodes-valued (λ c is. leafRadius radii is) (λ c rs. nodeRadius rs) (treeOf at (length radii))
+
+  walks-few : (m m' : Counted Flow) → walkAll at radii strength m ≡ done m' → m' .visits ≤ m .visits + length radii * nodes (treeOf at (length radii))
+  unfolding walkAll
+  walks-few m m' e =
+      rw (← radius-nodes, ← length-upTo (length radii))
+      (stages-few (walkFor at radii strength) (nodes (radiusTree at radii))
+      (λ i m m' e. counts-few (collideStep at radii strength i) (radiusTree at radii) m m' e) (upTo (length radii)) m m' e)
+
+  -- one iteration: at most 1 + 64 n nodes for each of n particles
+  once-few : (m m' : Counted Flow) → collideOnce at radii strength slots m ≡ done m' → m' .visits ≤ m .visits + length radii * (1 + 64 * length radii)
+  unfolding collideOnce walkAll
+  once-few m m' e = go (treeCheck at (length radii) slots) refl e
+    where
+      go : (c : Check) → treeCheck at (length radii) slots ≡ c → (c >>= λ _. walkAll at radii strength m) ≡ done m' → m' .visits ≤ m .visits + length radii * (1 + 64 * length radii)
+      go (done u) k f = omega (arith, walks-few m m' f, mul-le-mul-left (length radii) (accepted-nodes at (length radii) slots k .1))
+      go (refused r) k f = absurd (let z : _≡_ {A = ℕ} 0 1 = cc in omega arith)
+
+  -- A run hands out at most 1 + 64 n nodes for each iteration and each of n particles.
+  pub visits-particles : (iterations : ℕ) (m m' : Counted Flow) → runCollide at radii strength iterations slots m ≡ done m'
+      → m' .visits ≤ m .visits + iterations * (length radii * (1 + 64 * length radii))
+  unfolding runCollide
+  visits-particles iterations m m' e =
+      rw (← length-upTo iterations) (stages-few (λ m _. collideOnce at radii strength slots m) (length radii * (1 + 64 * length radii)) (λ i m m' e. once-few m m' e) (upTo iterations) m m' e)
