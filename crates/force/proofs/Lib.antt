@@ -6,3 +6,4 @@ pub mod Closing
 pub mod Called
 pub mod CalledTree
 pub mod Visits
+pub mod Facts
