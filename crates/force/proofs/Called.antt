@@ -151,7 +151,7 @@ nine-clears true = refl
 nine-clears false = refl
 
 -- a force refuses by 6 to 9 only, and so does what follows it
-late-clears : (ran : Ran) (places vs : List Float) → zeroesWork (ran .refusal) ≡ true → zeroesWork (refusalOf (standing ran then resultCheck places vs)) ≡ true
+pub late-clears : (ran : Ran) (places vs : List Float) → zeroesWork (ran .refusal) ≡ true → zeroesWork (refusalOf (standing ran then resultCheck places vs)) ≡ true
 unfolding standing resultCheck
 late-clears ran places vs h = go (eqb (ran .refusal .number) 0) (all within places && all finite vs)
   where

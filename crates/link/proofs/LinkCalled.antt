@@ -74,7 +74,7 @@ module _ (n : ℕ) (links : List ℕ) where
       (ltb-true (getD links (k * 2) 0) n (b .0), ltb-true (getD links (k * 2 + 1) 0) n (b .1))
 
   -- every end
-  ends-range : requireAll (endsRange n) 3 (endsOf links) ≡ fine → length links % 2 ≡ 0 → (j : ℕ) → j < length links → getD links j 0 < n
+  pub ends-range : requireAll (endsRange n) 3 (endsOf links) ≡ fine → length links % 2 ≡ 0 → (j : ℕ) → j < length links → getD links j 0 < n
   ends-range e w j h = go (j % 2) refl
     where
       b : (getD links (j / 2 * 2) 0 < n) × (getD links (j / 2 * 2 + 1) 0 < n)

@@ -2,15 +2,16 @@
 use mathlib.Core.Path.{_≡_, refl, ap}
 use mathlib.Core.Bool.{Bool, true, false, _&&_, not, false≢true}
 use mathlib.Core.List.{List, [], _∷_}
-use Prim.Native.Nat.{ℕ, _+_}
+use Prim.Native.Nat.{ℕ, zero, suc, _+_, _*_, _/_, _<_}
 use native.Mathlib.Omega.{arith}
 use lib.Dec.{T, leb}
+use lib.ListN.{length, getD}
 use lib.Ieee.{Float, nan, inf, fin, isNan, neg, le}
 use Rattle.rules.specs.declared.Particle.{Particle}
 use Rattle.rules.specs.declared.Refusal.{Refusal}
 use Rattle.rules.specs.Plain.{all}
 use Rattle.rules.specs.Outcome.{Outcome, done, refused, Check, fine, require, _then_, _>>=_, refusalOf, checkFrom}
-use Rattle.rules.specs.Number.{between, within, finite, limit}
+use Rattle.rules.specs.Number.{between, within, finite, limit, xAt, yAt}
 use Rattle.rules.specs.Sheet.{recordCheck, recordsCheck, placesOf, speedsOf}
 use Rattle.sheet.specs.Columns.{flagsOf}
 
@@ -84,6 +85,16 @@ sound-fine i p s = rw (s .flags, s .x, s .y, s .vx, s .vy)
 pub and-split : (a b : Bool) → a && b ≡ true → (a ≡ true) × (b ≡ true)
 and-split true b h = (refl, h)
 and-split false b h = absurd (false≢true h)
+
+-- what holds of all holds of each
+pub all-at : {A : Type 0} (p : A → Bool) (l : List A) (i : ℕ) (d : A) → all p l ≡ true → i < length l → p (getD l i d) ≡ true
+all-at p [] i d h k = absurd (omega arith)
+all-at p (x ∷ l) zero d h k = and-split (p x) (all p l) h .0
+all-at p (x ∷ l) (suc i) d h k = all-at p l i d (and-split (p x) (all p l) h .1) (omega arith)
+
+-- both coordinates of each place
+pub all-ranged : (at : List Float) → all within at ≡ true → (i : ℕ) → i < length at / 2 → (within (xAt at i) ≡ true) × (within (yAt at i) ≡ true)
+all-ranged at h i k = (all-at within at (i * 2) nan h (omega arith), all-at within at (i * 2 + 1) nan h (omega arith))
 
 -- ---- numbers in range are no NaN
 

@@ -1,30 +1,27 @@
 -- What the tree call leaves, by what it comes to.
 use mathlib.Core.Path.{_≡_, refl, sym, ap, subst, _∙_}
-use mathlib.Core.Bool.{Bool, true}
-use mathlib.Core.List.{List, [], _∷_}
-use Prim.Native.Nat.{ℕ, zero, suc, _+_, _*_, _/_, _≤_, _<_}
+use mathlib.Core.List.{List}
+use Prim.Native.Nat.{ℕ, _/_, _≤_, _<_}
 use native.Mathlib.Omega.{arith}
 use borrow.Author.Tests.{ne-eqb, le-leb, lt-leb}
-use lib.ListN.{length, getD, replicate}
-use lib.Ieee.{Float, nan}
+use lib.ListN.{length, replicate}
+use lib.Ieee.{Float}
 use Rattle.rules.specs.declared.Extent.{Extent}
 use Rattle.rules.specs.declared.Refusal.{Refusal}
 use Rattle.rules.specs.declared.TreeAnswer.{TreeAnswer}
-use Rattle.rules.specs.Plain.{all, padded}
+use Rattle.rules.specs.Plain.{padded}
 use Rattle.rules.specs.Outcome.{Outcome, done, refused, refusal, fine, zeroesWork}
-use Rattle.rules.specs.Number.{within}
 use Rattle.rules.specs.Sheet.{countOf, particlesOf, placesOf, pairsFrom}
 use Rattle.rules.specs.Cover.{coverFirst, extentOf}
 use Rattle.rules.specs.Tree.{Tree, nodes, treeOf, treeCheck, rowsOf, flat, chainsOf}
 use Rattle.rules.specs.Calls.{slotsOf, TreeInput, treeAnswer, rowsAfter, chainsAfter, treeWorkAfter}
-use Rattle.sheet.proofs.Checked.{and-split, records-sound}
+use Rattle.sheet.proofs.Checked.{all-ranged, records-sound}
 use Rattle.sheet.proofs.Columns.{places-of}
 use Rattle.quadtree.specs.declared.Quadtree.{Quadtree}
 use Rattle.tree.specs.List.{Whole}
 use Rattle.tree.specs.Tree.{Ends, refusedTree, refusedWork, built, Ready}
 use Rattle.quadtree.specs.declared.build.Built.{Built}
 use Rattle.quadtree.specs.declared.build.Built.the-variants.{Refused}
-use Rattle.quadtree.specs.Add.{Ranged}
 use Rattle.quadtree.specs.Build.{particles, Lent, Builds}
 use Rattle.quadtree.proofs.AddHold.{cells-nodes}
 use Rattle.quadtree.proofs.Refusals.{tree-clears}
@@ -68,15 +65,6 @@ pub told-tree : (at : List Float) (m next : List ℕ) {b : Built} {q : Quadtree}
 told-tree at m next e h = subst (Builds at m next) e h
 
 -- ---- the call on a sheet that passed every check
-
--- what holds of all holds of each
-all-at : (p : Float → Bool) (l : List Float) (i : ℕ) (d : Float) → all p l ≡ true → i < length l → p (getD l i d) ≡ true
-all-at p [] i d h k = absurd (omega arith)
-all-at p (x ∷ l) zero d h k = and-split (p x) (all p l) h .0
-all-at p (x ∷ l) (suc i) d h k = all-at p l i d (and-split (p x) (all p l) h .1) (omega arith)
-
-all-ranged : (at : List Float) → all within at ≡ true → Ranged at (particles at)
-all-ranged at h i k = (all-at within at (i * 2) nan h (omega arith), all-at within at (i * 2 + 1) nan h (omega arith))
 
 module _ {l : TreeInput} {size : ℕ} {at : List Float} {links tails : ℕ} (d : Ready l size links tails) (e : at ≡ pairsFrom 40 (l .sheet) 0 (size / 2)) where
   abbrev n : ℕ

@@ -1,0 +1,35 @@
+use Prim.Native.Nat.{_/_}
+use native.Mathlib.Omega.{arith}
+use borrow.Author.Needs.{needs}
+use lib.ListN.{length}
+use Rattle.rules.specs.Force.{collide, run}
+use Rattle.simulation.proofs.Staged.{can-build, pushed-stages}
+use Rattle.simulation.proofs.stage.collide_stage.Statement.{statement}
+use Rattle.simulation.proofs.stage.collide_stage.Tie as tie
+
+collide-requires : tie.Need-collide-requires
+collide-requires c κs =
+    let s = c .before .before .before .before .before .before .before .before .before .before .before .before in
+    let p = s .pre in
+    (can-build (p .0) (p .1), record { places = omega (arith, p .0 .places, p .2); speeds = omega (arith, p .0 .speeds, p .2); drawn = p .0 .drawn }, p .3, p .4)
+
+returns : tie.Need-returns
+unfolding run
+returns c =
+    let m = c .before .before .before .before .before .before .before .before .before .before in
+    let s = m .before .before .before .before .before .before .before .before .before .before .before .before .before in
+    let a = s .args in
+    pushed-stages (a .places .now) (a .speeds .now) (m .collide .last .1 .0) (a .draws .now) (a .flags .now) (collide (a .radii .now) (a .strength) (a .iterations)) (a .alpha) (length (a .work .now) / 8) (a .used) (a .visits) _
+    (m .collide .result) (c .settled .result) (s .pre .0) (m .collide .kept .1 .0) (m .collide .ensures .0) (λ _. m .collide .ensures .1) (c .settled .ensures)
+
+pub collide-stage-spec : {M : Type 1} → statement M
+collide-stage-spec =
+    tie.close
+    (tie.spec
+    collide-requires
+    (λ c κs. search needs)
+    (λ c. search needs)
+    (λ c. search needs)
+    (λ c. search needs)
+    (λ c. search needs)
+    returns)

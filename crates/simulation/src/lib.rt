@@ -1,0 +1,2 @@
+// The cooled tick and the step of many ticks, on particles by columns, after src/force/simulation.rs of fjadra.
+pub mod stage;
