@@ -1,1 +1,3 @@
+pub mod Flags
 pub mod Staged
+pub mod Slot

@@ -10,22 +10,25 @@ use lib.ListN.{length, drop}
 use lib.Ieee.{Float}
 use Rattle.rules.specs.declared.Particle.{Particle}
 use Rattle.rules.specs.Plain.{all, countFrom, upTo}
-use Rattle.rules.specs.Outcome.{Outcome, done, refused, Check, fine, require, _>>=_, _then_, refusalOf, ifDone}
+use Rattle.rules.specs.Outcome.{Outcome, done, refused, Check, fine, require, _>>=_, _then_, refusalOf, ifDone, zeroesWork}
+use Rattle.rules.specs.Particle.{centered}
 use Rattle.rules.specs.Number.{within, finite}
 use Rattle.rules.specs.Refusal.{resultCheck}
 use Rattle.rules.specs.Sheet.{placesOf, speedsOf}
 use Rattle.rules.specs.Walk.{Counted, counted}
 use Rattle.rules.specs.Flow.{Flow, flow}
 use Rattle.rules.specs.Force.{Push, run}
-use Rattle.rules.specs.Tick.{State, state, settled, withSpeeds, withSpeedsFrom, pushStage}
+use Rattle.rules.specs.Tick.{State, state, settled, withSpeeds, withSpeedsFrom, pushStage, center, forceStage}
 use Rattle.sheet.proofs.Checked.{all-ranged}
 use Rattle.quadtree.specs.Build as Build
 use Rattle.force.specs.declared.Ran.{Ran}
 use Rattle.force.specs.Ran.{standing, ranOf, Runs, visited}
 use Rattle.force.specs.Columns.{particleAt, particlesFrom}
 use Rattle.force.proofs.Called.{late-clears, standing-fine}
-use Rattle.force.proofs.Closing.{places-back, speeds-back}
-use Rattle.simulation.specs.Stage.{Columns, Chains, stateOf, settledRan, stagedOf, Stages}
+use Rattle.force.proofs.Centring.{centered-speeds}
+use Rattle.force.proofs.Closing.{places-back, speeds-back, flags-back}
+use Rattle.simulation.specs.Stage.{Columns, Chains, stateOf, idle, settledRan, stagedOf, Stages}
+use Rattle.simulation.proofs.Flags.{centered-flags, columns-of}
 
 -- ---- particles from columns
 
@@ -104,14 +107,15 @@ module _ (places speeds vs ds : List Float) (flags : List ℕ) (p : length place
       go (refused q) = refl
 
 -- what such a stage comes to, r being answered
-pub pushed-stages : (places speeds vs ds : List Float) (flags : List ℕ) (f : Push) (alpha : Float) (slots used visits most : ℕ) (ran r : Ran)
-    → Columns places speeds ds flags used → length vs ≡ length speeds
+pub pushed-stages : (places speeds vs ds : List Float) (flags : List ℕ) (f : Push) (alpha : Float) (slots n used visits most : ℕ) (ran r : Ran)
+    → Columns places speeds ds n used → length places ≡ length flags * 2 → length vs ≡ length speeds
     → Runs vs ds used ran (run f places alpha slots (counted (flow speeds (drop used ds)) visits)) → (ran .refusal .number ≡ 0 → ran .visits ≤ most) → r ≡ settledRan places vs ran
     → Stages places vs flags alpha ds used most r (pushStage slots f (stateOf places speeds flags alpha ds used visits))
-pushed-stages places speeds vs ds flags f alpha slots used visits most ran r h k runs few e =
+pushed-stages places speeds vs ds flags f alpha slots n used visits most ran r h l k runs few e =
     rw e (
       record {
-        is = pushed-is places speeds vs ds flags (h .places) (h .speeds) (k ∙ h .speeds) f alpha slots used visits ran (runs .is);
+        is =
+            pushed-is places speeds vs ds flags l (omega (arith, h .places, h .speeds)) (omega (arith, h .places, h .speeds)) f alpha slots used visits ran (runs .is);
         draws = runs .draws;
         late = late-clears ran places vs (runs .late);
         few = λ z. few (settled-passed places vs ran z);
@@ -119,9 +123,66 @@ pushed-stages places speeds vs ds flags f alpha slots used visits most ran r h k
       }
     )
 
+-- ---- Center
+
+-- where nothing is answered the columns are in range
+settled-ranged : (places speeds : List Float) (ran : Ran) → settledRan places speeds ran .refusal .number ≡ 0 → all within places ≡ true
+unfolding resultCheck
+settled-ranged places speeds ran h = go (all within places) (all finite speeds) (ap (λ (c : Check). refusalOf (c then resultCheck places speeds) .number) (sym (standing-fine ran (settled-passed places speeds ran h))) ∙ h)
+  where
+    go : (a b : Bool) → refusalOf (require (a && b) 9 0) .number ≡ 0 → a ≡ true
+    go true b e = refl
+    go false b e = absurd (omega arith)
+
+-- the places are moved to `at`, and 9 was tested
+pub centered-stages : (places at speeds ds : List Float) (flags : List ℕ) (x y strength alpha : Float) (slots used visits most : ℕ) (r : Ran)
+    → length places ≡ length flags * 2 → length speeds ≡ length flags * 2 → length at ≡ length places → used ≤ length ds → visits ≤ most
+    → ((ps : List Particle) → placesOf ps ≡ places → at ≡ placesOf (centered x y strength ps)) → r ≡ settledRan at speeds (idle used visits)
+    → Stages at speeds flags alpha ds used most r (forceStage slots (stateOf places speeds flags alpha ds used visits) (center x y strength))
+unfolding stagedOf zeroesWork
+centered-stages places at speeds ds flags x y strength alpha slots used visits most r p v k d few moves e =
+    rw e (
+      record {
+        is =
+            ap (λ (c : Check). c >>= λ _. done (stateOf at speeds flags alpha ds used visits)) (settled-stands at speeds (idle used visits))
+            ∙ ap (λ (c : Check). (c then resultCheck at speeds) >>= λ _. done (stateOf at speeds flags alpha ds used visits)) (standing-fine (idle used visits) refl)
+            ∙ settled-is at speeds flags (k ∙ p) v (stateOf places speeds flags alpha ds used visits)
+            ∙ ap (λ (qs : List Particle). settled qs (stateOf places speeds flags alpha ds used visits)) is;
+        draws = record { begun = omega arith; reach = d };
+        late = late-clears (idle used visits) at speeds refl;
+        few = λ _. few;
+        ranged = settled-ranged at speeds (idle used visits);
+      }
+    )
+  where
+    ps : List Particle
+    ps = particlesFrom places speeds flags
+
+    is : particlesFrom at speeds flags ≡ centered x y strength ps
+    is =
+        columns-of (centered x y strength ps) at speeds flags (sym (moves ps (places-back places speeds flags p))) (centered-speeds x y strength ps ∙ speeds-back places speeds flags v)
+        (centered-flags x y strength ps ∙ flags-back places speeds flags)
+
+-- ---- no force
+
+pub idle-stages : (places speeds ds : List Float) (flags : List ℕ) (alpha : Float) (n used visits most : ℕ) (r : Ran) (o : Outcome State)
+    → Columns places speeds ds n used → visits ≤ most → r ≡ idle used visits → done (stateOf places speeds flags alpha ds used visits) ≡ o
+    → Stages places speeds flags alpha ds used most r o
+unfolding stagedOf standing zeroesWork
+idle-stages places speeds ds flags alpha n used visits most r o h few e is =
+    rw e (
+      record {
+        is = is;
+        draws = record { begun = omega arith; reach = h .drawn };
+        late = refl;
+        few = λ _. few;
+        ranged = λ _. h .ranged;
+      }
+    )
+
 -- ---- what a tree is built of
 
-pub can-build : {places speeds ds : List Float} {flags next tail : List ℕ} {used : ℕ} → Columns places speeds ds flags used → Chains (length flags) next tail → Build.Lent places next tail
+pub can-build : {places speeds ds : List Float} {next tail : List ℕ} {n used : ℕ} → Columns places speeds ds n used → Chains n next tail → Build.Lent places next tail
 can-build {places} h k =
     record {
       ranged = all-ranged places (h .ranged);

@@ -7,7 +7,7 @@ use lib.ListN.{length, drop}
 use lib.Ieee.{Float}
 use Rattle.rules.specs.declared.ForceEntry.{ForceEntry}
 use Rattle.rules.specs.Plain.{all}
-use Rattle.rules.specs.Outcome.{Outcome, done, fine, _>>=_, _then_, refusalOf, zeroesWork}
+use Rattle.rules.specs.Outcome.{Outcome, done, refusal, fine, _>>=_, _then_, refusalOf, zeroesWork}
 use Rattle.rules.specs.Number.{within}
 use Rattle.rules.specs.Refusal.{resultCheck}
 use Rattle.rules.specs.Tick.{State, state, entryCounts, strengthsRight, numbersNeeded, linksNeeded, forceOf, forceEnds}
@@ -16,11 +16,11 @@ use Rattle.force.specs.Draws.{From}
 use Rattle.force.specs.Ran.{standing}
 use Rattle.force.specs.Columns.{particlesFrom}
 
--- at most 4,096 particles, none further than 2 ^ 40 from zero: places and speeds in pairs, a flag for each; and no draw used past the last
-pub record Columns (at vs ds : List Float) (flags : List ℕ) (used : ℕ) : Type 0 where
-  pub few : length flags ≤ 4096
-  pub places : length at ≡ length flags * 2
-  pub speeds : length vs ≡ length flags * 2
+-- n particles, at most 4,096 and none further than 2 ^ 40 from zero: places and speeds in pairs; and no draw used past the last
+pub record Columns (at vs ds : List Float) (n used : ℕ) : Type 0 where
+  pub few : n ≤ 4096
+  pub places : length at ≡ n * 2
+  pub speeds : length vs ≡ n * 2
   pub ranged : all within at ≡ true
   pub drawn : used ≤ length ds
 
@@ -40,6 +40,10 @@ pub record SlotFits (n : ℕ) (e : ForceEntry) (xs : List Float) (ls : List ℕ)
 -- the state that columns stand for, `used` of the draws ds being used
 abbrev pub stateOf : List Float → List Float → List ℕ → Float → List Float → ℕ → ℕ → State
 stateOf places speeds flags alpha ds used visits = state (particlesFrom places speeds flags) alpha (drop used ds) visits
+
+-- what is answered where no force runs
+abbrev pub idle : ℕ → ℕ → Ran
+idle used visits = record { refusal = refusal 0 0; used = used; visits = visits }
 
 -- what is answered where 9 is tested after a force
 abbrev pub settledRan : List Float → List Float → Ran → Ran

@@ -1,8 +1,7 @@
-use mathlib.Core.Path.{ap, _∙_}
 use Prim.Native.Nat.{_/_}
 use native.Mathlib.Omega.{arith}
 use borrow.Author.Needs.{needs}
-use lib.ListN.{length, drop}
+use lib.ListN.{length}
 use Rattle.rules.specs.Force.{manyBody, run}
 use Rattle.simulation.proofs.Staged.{can-build, pushed-stages}
 use Rattle.simulation.proofs.stage.many_body_stage.Statement.{statement}
@@ -10,19 +9,17 @@ use Rattle.simulation.proofs.stage.many_body_stage.Tie as tie
 
 many-body-requires : tie.Need-many-body-requires
 many-body-requires c κs =
-    let s = c .before .before .before .before .before .before .before .before .before .before .before .before .before in
-    let p = s .pre in
-    (can-build (p .0) (p .1), (omega (arith, p .0 .places, p .2), omega (arith, p .0 .speeds, p .2), p .0 .drawn, p .3))
+    let p = c .before .before .before .before .before .before .before .before .before .before .before .before .pre in
+    (can-build (p .0) (p .1), (p .0 .places, p .0 .speeds, p .0 .drawn, p .2))
 
 returns : tie.Need-returns
 unfolding run
-returns c =
+returns c flags l =
     let m = c .before .before .before .before .before .before .before .before .before .before in
-    let s = m .before .before .before .before .before .before .before .before .before .before .before .before .before .before in
+    let s = m .before .before .before .before .before .before .before .before .before .before .before .before .before in
     let a = s .args in
-    pushed-stages (a .places .now) (a .speeds .now) (m .many-body .last .1 .1 .0) (a .draws .now) (a .flags .now) (manyBody (a .strengths .now)) (a .alpha) (length (a .work .now) / 8) (a .used) (a .visits) _
-    (m .many-body .result) (c .settled .result) (s .pre .0) (m .many-body .kept .1 .1 .0)
-    (rw (m .before .before .before .before .before .standard .ensures) at (m .many-body .ensures .0))
+    pushed-stages (a .places .now) (a .speeds .now) (m .many-body .last .1 .1 .0) (a .draws .now) flags (manyBody (a .strengths .now)) (a .alpha) (length (a .work .now) / 8) _ (a .used) (a .visits) _
+    (m .many-body .result) (c .settled .result) (s .pre .0) l (m .many-body .kept .1 .1 .0) (rw (m .before .before .before .before .before .standard .ensures) at (m .many-body .ensures .0))
     (λ _. omega (arith, m .many-body .ensures .1)) (c .settled .ensures)
 
 pub many-body-stage-spec : {M : Type 1} → statement M
