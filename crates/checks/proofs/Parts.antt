@@ -79,7 +79,7 @@ take-ends (suc k) (s ∷ []) = rw (twice k)
 take-ends (suc k) (s ∷ t ∷ l) = rw (twice k, take-ends k l)
 
 -- the first k links
-first-ends : (k : ℕ) (l : List ℕ) → k * 2 ≤ length l → endsFrom l k ≡ endsOf (take (k * 2) l)
+pub first-ends : (k : ℕ) (l : List ℕ) → k * 2 ≤ length l → endsFrom l k ≡ endsOf (take (k * 2) l)
 first-ends k l h = sym (ap (endsFrom (take (k * 2) l)) e ∙ take-ends k l)
   where
     e : length (take (k * 2) l) / 2 ≡ k

@@ -1,3 +1,4 @@
 pub mod Flags
 pub mod Staged
 pub mod Slot
+pub mod SlotsLeft

@@ -12,12 +12,12 @@ use lib.Ieee.{Float}
 use Rattle.rules.specs.declared.ForceEntry.{ForceEntry}
 use Rattle.rules.specs.Outcome.{Outcome, done, fine, requireAll, _then_}
 use Rattle.rules.specs.Refusal.{countCheck}
-use Rattle.rules.specs.Link.{Ends, ends}
 use Rattle.rules.specs.Force.{Push, manyBody, collide, link, endsFrom, endsOf, endsRange, noneOr}
 use Rattle.rules.specs.Tick.{State, Force, push, center, byKind, forceOf, forceStage}
 use Rattle.link.specs.Links.{EndsLent, ListsLent}
 use Rattle.link.proofs.LinkCalled.{ends-range}
 use Rattle.force.proofs.Called.{then-both, require-true}
+use Rattle.checks.proofs.Parts.{first-ends}
 use Rattle.simulation.specs.Stage.{SlotFits}
 
 -- ---- which force
@@ -67,16 +67,6 @@ module _ (n : ℕ) (e : ForceEntry) (xs : List Float) (ls : List ℕ) (h : SlotF
 
 -- ---- Link's lists
 
-two : (k : ℕ) → suc k * 2 ≡ suc (suc (k * 2))
-two k = omega arith
-
--- the first ends of a longer list
-ends-take : (k : ℕ) (ls : List ℕ) → endsFrom (take (k * 2) ls) k ≡ endsFrom ls k
-ends-take zero ls = refl
-ends-take (suc k) [] = rw (two k)
-ends-take (suc k) (s ∷ []) = rw (two k)
-ends-take (suc k) (s ∷ t ∷ ls) = rw (two k) (ap (λ (l : List Ends). ends s t ∷ l) (ends-take k ls))
-
 -- what is known of a slot that is a Link: s strengths and k distances, then k links
 pub record LinkFits (n s k : ℕ) (xs : List Float) (ls : List ℕ) : Type 0 where
   pub few : k ≤ 8192
@@ -104,24 +94,17 @@ module _ {n s k : ℕ} {xs : List Float} {ls : List ℕ} (h : LinkFits n s k xs 
   ends-long : length (take (k * 2) ls) ≡ k * 2
   ends-long = length-take-le (k * 2) ls (h .links)
 
-  -- the slot's own ends
-  ends-own : endsOf (take (k * 2) ls) ≡ endsFrom ls k
-  ends-own = ap (endsFrom (take (k * 2) ls)) half ∙ ends-take k ls
-    where
-      half : length (take (k * 2) ls) / 2 ≡ k
-      half = omega (arith, ends-long)
-
   -- the force of the lists that the code takes apart
   pub link-taken : (e : ForceEntry) → e .kind ≡ 3 → s ≡ e .strengths → k ≡ e .links → (i d m : ℕ) → i ≡ e .iterations → d ≡ k
       → forceOf m e xs ls ≡ push (link (endsOf (take (k * 2) ls)) (take s xs) (take d (drop s xs)) i)
-  link-taken e h es ek i d m ei ed = rw (link-of m e xs ls h, ed, ends-own, es, ek, ei)
+  link-taken e k3 es ek i d m ei ed = rw (link-of m e xs ls k3, ed, ← first-ends k ls (h .links), es, ek, ei)
 
   pub ends-lent : EndsLent n (take (k * 2) ls)
   ends-lent =
       record {
         whole = omega (arith, ends-long);
         few = omega (arith, ends-long, h .few);
-        range = ends-range n (take (k * 2) ls) (rw ends-own (h .ends)) (omega (arith, ends-long));
+        range = ends-range n (take (k * 2) ls) (rw (← first-ends k ls (h .links)) (h .ends)) (omega (arith, ends-long));
       }
 
   pub lists-lent : (d : ℕ) → d ≡ k → ListsLent (take (k * 2) ls) (take s xs) (take d (drop s xs))
