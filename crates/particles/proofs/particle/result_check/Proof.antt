@@ -1,0 +1,34 @@
+use mathlib.Core.Logic.{⊎-elim}
+use borrow.Author.Needs.{needs}
+use Rattle.rules.specs.Refusal.{resultCheck}
+use Rattle.particles.proofs.particle.result_check.Statement.{statement}
+use Rattle.particles.proofs.particle.result_check.Tie as tie
+
+returns : tie.Need-returns
+unfolding resultCheck
+returns c =
+    rw (
+      ← c .before .before .before .before .before .before .before .within .ensures,
+      c .before .before .before .before .before .before .if1 .taken,
+      ← c .before .before .before .before .before .within2 .ensures,
+      c .before .before .before .before .if2 .taken,
+      ← c .before .before .before .is-finite .ensures,
+      c .before .before .if3 .taken,
+      ← c .before .is-finite2 .ensures,
+      c .if4 .taken,
+    )
+
+returns-2 : tie.Need-returns-2
+unfolding resultCheck
+returns-2 c =
+    let x = c .before .within .ensures in
+    ⊎-elim
+    (λ w. rw (← x, w .0 .taken, ← w .1 .ensures, w .2 .taken, ← w .3 .ensures, w .4 .taken, ← w .5 .ensures, w .6 .left))
+    (⊎-elim (λ w. rw (← x, w .0 .taken, ← w .1 .ensures, w .2 .taken, ← w .3 .ensures, w .4 .left))
+    (⊎-elim (λ w. rw (← x, w .0 .taken, ← w .1 .ensures, w .2 .left)) (λ w. rw (← x, w .left))))
+    (c .if1 .came)
+
+pub result-check-spec : {M : Type 1} → statement M
+result-check-spec =
+    tie.close
+    (tie.spec (λ c κs. search needs) (λ c κs. search needs) (λ c κs. search needs) (λ c κs. search needs) returns returns-2)
