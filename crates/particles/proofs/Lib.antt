@@ -4,3 +4,4 @@ pub mod Rules
 pub mod Callees
 pub mod Passes
 pub mod Outcomes
+pub mod Lent
