@@ -2,7 +2,7 @@
 --     held E vs    each local of E holds its value of vs, and is room where vs has none for it.        deaths E     that each local dies
 --     alloc-all, free-all      a function's locals are allocated, and freed, all at once
 --     counted      a loop `while i < n`: a turn at i < n ends in the context at i + 1, and the turn at n leaves the loop. Φ i is what is known at the test
-use mathlib.Core.Path.{_≡_, refl, sym, _∙_, subst}
+use mathlib.Core.Path.{_≡_, sym, _∙_, subst}
 use mathlib.Core.List.{List, [], _∷_, _++_, append-nil}
 use mathlib.Core.Option.{Option, none as room, some as value}
 use Prim.Native.Nat.{ℕ, zero, suc, _+_, _<_}
@@ -17,7 +17,7 @@ use prog.Wp.{Heap, Out, Env, afterTurn, Wp, Tables}
 use ghost.Atoms.{Atoms}
 use sound.Laws.{Laws}
 use sound.Loop.{unroll}
-use types.Kit.{Given, Item, ‵, mean, ⋆, push, pop, sel⊢, ++⊢, ⊢++, Goal, allocs, frees, Seq, Step, step, _$_}
+use types.Kit.{Given, Item, ‵, ⋆, sel⊢, ++⊢, ⊢++, Goal, allocs, frees, Seq, Step, step, _$_}
 use types.Run.{alloc0, alloc1, free0, free1}
 
 -- ---- a function's locals

@@ -1,7 +1,8 @@
-pub mod Values
-pub mod Frame
-pub mod Rules
-pub mod Callees
-pub mod Passes
-pub mod Outcomes
-pub mod Lent
+pub mod Agree
+mod Callees
+mod Frame
+mod Lent
+mod Outcomes
+mod Passes
+mod Rules
+mod Values

@@ -1,13 +1,13 @@
 -- The outcome of a call on a list, check by check: what it answers, and what it leaves.
-use mathlib.Core.Path.{_≡_, refl, ap, _∙_}
+use mathlib.Core.Path.{_≡_, _∙_}
 use mathlib.Core.List.{List, map}
 use lib.ListN.{length}
 use lib.Ieee.{Float}
 use Rattle.rules.specs.declared.Particle.{Particle}
 use Rattle.rules.specs.declared.Refusal.{Refusal}
-use Rattle.rules.specs.Outcome.{Outcome, done, refused, refusal, Check, fine, _then_, _>>=_, checkEach}
-use Rattle.rules.specs.Refusal.{mostParticles, countCheck, settingsCheck, resultCheck}
-use Rattle.rules.specs.Sheet.{recordCheck, recordsCheck, placesOf, speedsOf}
+use Rattle.rules.specs.Outcome.{Outcome, done, refused, refusal, fine, _>>=_, checkEach}
+use Rattle.rules.specs.Refusal.{mostParticles, countCheck, settingsCheck}
+use Rattle.rules.specs.Sheet.{recordCheck, recordsCheck}
 use Rattle.rules.specs.Calls.{listResult}
 use Rattle.particles.specs.Answered.{Answered}
 use Rattle.particles.specs.Pass.{resultOf}

@@ -14,12 +14,12 @@ use Rattle.rules.specs.declared.Particle.{Particle}
 use Rattle.rules.specs.declared.Refusal.{Refusal}
 use Rattle.rules.specs.Plain.{all, foldl}
 use Rattle.rules.specs.Number.{_⊕_, 0·, within, finite}
-use Rattle.rules.specs.Outcome.{done, refused, Check, fine, require, _then_, _>>=_, refusalOf, checkFrom, checkEach}
+use Rattle.rules.specs.Outcome.{refused, Check, fine, require, _>>=_, refusalOf, checkFrom, checkEach}
 use Rattle.rules.specs.Refusal.{countCheck, settingsCheck, resultCheck}
 use Rattle.rules.specs.Sheet.{particle, placesOf, speedsOf}
 use Rattle.rules.specs.Particle.{offset, shifted, centered, moved, closing}
-use Rattle.force.proofs.Scans.{Early, real-require, real-from, passes}
-use Rattle.particles.specs.declared.particle.Pair.{Pair}
+use Rattle.force.proofs.Scans.{real-require, real-from, passes}
+use Rattle.particles.specs.declared.centring.Pair.{Pair}
 use Rattle.particles.specs.Pass.{resultOf, pair, addedTo, offsetsOf}
 
 -- what stands past a list's end: no pass looks there
@@ -70,12 +70,8 @@ module _ (f : Particle → Particle) where
 
 -- ---- number 0 is a check that is fine
 
-require-fine : (ok : Bool) (n i : ℕ) → (n ≡ 0 → ⊥) → refusalOf (require ok n i) .number ≡ 0 → require ok n i ≡ fine
-require-fine true n i k z = refl
-require-fine false n i k z = absurd (k z)
-
 pub count-fine : (m n : ℕ) → refusalOf (countCheck m n) .number ≡ 0 → countCheck m n ≡ fine
-count-fine m n z = require-fine (leb n m) 1 0 (λ e. omega arith) z
+count-fine m n z = passes (countCheck m n) (real-require (leb n m) 1 0 (omega arith, omega arith)) z
 
 pub settings-fine : (l : List Float) → refusalOf (settingsCheck l) .number ≡ 0 → settingsCheck l ≡ fine
 settings-fine l z = passes (settingsCheck l) (real-from (λ _ x. require (within x) 5 0) (λ i x. real-require (within x) 5 0 (omega arith, omega arith)) 0 l) z

@@ -1,8 +1,8 @@
 use mathlib.Core.Logic.{⊎-elim}
 use borrow.Author.Needs.{needs}
 use Rattle.rules.specs.Refusal.{resultCheck}
-use Rattle.particles.proofs.particle.result_check.Statement.{statement}
-use Rattle.particles.proofs.particle.result_check.Tie as tie
+use Rattle.particles.proofs.check.result_check.Statement.{statement}
+use Rattle.particles.proofs.check.result_check.Tie as tie
 
 returns : tie.Need-returns
 unfolding resultCheck

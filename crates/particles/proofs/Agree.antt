@@ -1,0 +1,97 @@
+-- Center and the closing move come in two forms: over a lent list of particles here, and over columns in the crate `force` (`center_all`, `close_all`). Where the list's form accepts, both give the same particles.
+--     accepted         number 0 is answered only for an outcome that is done
+--     closing-agrees, center-agrees        the particles of the columns that one form leaves are those that the other leaves
+use mathlib.Core.Path.{_≡_, refl, sym, ap, _∙_}
+use mathlib.Core.List.{List, [], _∷_, map}
+use Prim.Native.Nat.{ℕ, _+_}
+use native.Mathlib.Omega.{arith}
+use lib.ListN.{length}
+use lib.Ieee.{Float}
+use Rattle.rules.specs.declared.Particle.{Particle}
+use Rattle.rules.specs.declared.Refusal.{Refusal}
+use Rattle.rules.specs.Outcome.{Outcome, done, refused, Check, fine, _then_, _>>=_, refusalOf, checkFrom}
+use Rattle.rules.specs.Refusal.{mostParticles, countCheck, settingsCheck, resultCheck}
+use Rattle.rules.specs.Sheet.{recordCheck, recordsCheck, placesOf, speedsOf}
+use Rattle.rules.specs.Particle.{shifted, centered, moved, closing}
+use Rattle.rules.specs.Calls.{listResult, listAnswer, centerResult, closingResult}
+use Rattle.sheet.specs.Columns.{flagsOf}
+use Rattle.sheet.proofs.Checked.{record-fine}
+use Rattle.force.specs.Columns.{particlesFrom}
+use Rattle.force.proofs.Called.{result-fine}
+use Rattle.force.proofs.Closing.{particles-back}
+use Rattle.force.proofs.Centring.{centered-speeds}
+use Rattle.particles.specs.Answered.{Answered}
+use Rattle.particles.proofs.Passes.{count-fine, settings-fine, closing-each, centered-each}
+
+-- ---- number 0 is an outcome that is done
+
+-- a check that answers number 0 only where it is fine
+abbrev Sure : Check → Type 0
+Sure c = refusalOf c .number ≡ 0 → c ≡ fine
+
+past : {B : Type 0} (c : Check) (k : Unit {0} → Outcome B) → Sure c → refusalOf (c >>= k) .number ≡ 0 → (c ≡ fine) × (refusalOf (k tt) .number ≡ 0)
+past (done u) k sure z = (refl, z)
+past (refused r) k sure z = absurd (let e = sure z in let no : _≡_ {A = ℕ} 0 1 = cc in omega arith)
+
+sure-then : (c d : Check) → Sure c → Sure d → Sure (c then d)
+sure-then (done u) d sc sd z = sd z
+sure-then (refused r) d sc sd z = sc z
+
+sure-records : (i : ℕ) (ps : List Particle) → Sure (checkFrom recordCheck i ps)
+sure-records i [] z = refl
+sure-records i (p ∷ ps) z =
+    let g = past (recordCheck i p) (λ _. checkFrom recordCheck (i + 1) ps) (record-fine i p) z in
+    rw (g .0) (sure-records (i + 1) ps (g .1))
+
+module _ (settings : List Float) (f : List Particle → List Particle) (ps : List Particle) where
+  sure-before : Sure (countCheck mostParticles (length ps) then recordsCheck ps then settingsCheck settings)
+  unfolding recordsCheck
+  sure-before =
+      sure-then (countCheck mostParticles (length ps) then checkFrom recordCheck 0 ps) (settingsCheck settings)
+      (sure-then (countCheck mostParticles (length ps)) (checkFrom recordCheck 0 ps) (count-fine mostParticles (length ps)) (sure-records 0 ps)) (settings-fine settings)
+
+  pub accepted : listAnswer (listResult settings f ps) .number ≡ 0 → listResult settings f ps ≡ done (f ps)
+  unfolding listResult
+  accepted z =
+      let g = past (countCheck mostParticles (length ps) then recordsCheck ps then settingsCheck settings) _ sure-before z in
+      let h = past (resultCheck (placesOf (f ps)) (speedsOf (f ps))) _ (result-fine (placesOf (f ps)) (speedsOf (f ps))) (g .1) in
+      rw (g .0, h .0)
+
+  -- what such a call leaves
+  left : (r : Refusal) (after : List Particle) → Answered (listResult settings f ps) ps r after → r .number ≡ 0 → after ≡ f ps
+  left r after a z = a .particles ∙ rw (accepted (sym (ap (λ (q : Refusal). q .number) (a .answer)) ∙ z))
+
+-- ---- no flag changes
+
+map-flags : (f : Particle → Particle) → ((p : Particle) → f p .flags ≡ p .flags) → (ps : List Particle) → flagsOf (map f ps) ≡ flagsOf ps
+map-flags f h [] = refl
+map-flags f h (p ∷ ps) = rw (h p, map-flags f h ps)
+
+closing-flags : (decay : Float) (ps : List Particle) → flagsOf (closing decay ps ps) ≡ flagsOf ps
+unfolding moved
+closing-flags decay ps = ap flagsOf (closing-each decay ps) ∙ map-flags (λ p. moved decay p p) (λ p. refl) ps
+
+centered-flags : (x y strength : Float) (ps : List Particle) → flagsOf (centered x y strength ps) ≡ flagsOf ps
+unfolding shifted
+centered-flags x y strength ps = ap flagsOf (centered-each x y strength ps) ∙ map-flags _ (λ p. refl) ps
+
+-- ---- the two forms, on the same particles ps
+
+-- the particles that the columns of ps give
+abbrev pub byColumns : List Particle → List Particle
+byColumns ps = particlesFrom (placesOf ps) (speedsOf ps) (flagsOf ps)
+
+module _ (ps : List Particle) (r : Refusal) (after : List Particle) (z : r .number ≡ 0) where
+  -- `apply_velocities` left `after`, and `close_all` left `places` and `speeds`
+  pub closing-agrees : (decay : Float) → Answered (closingResult decay ps) ps r after
+      → (places speeds : List Float) → places ≡ placesOf (closing decay (byColumns ps) (byColumns ps)) → speeds ≡ speedsOf (closing decay (byColumns ps) (byColumns ps))
+      → particlesFrom places speeds (flagsOf ps) ≡ after
+  closing-agrees decay a places speeds hp hs =
+      rw (hp, hs, particles-back ps, ← closing-flags decay ps) (particles-back (closing decay ps ps)) ∙ sym (left (decay ∷ []) (closing decay ps) ps r after a z)
+
+  -- `center` left `after`, and `center_all` left `places`
+  pub center-agrees : (x y strength : Float) → Answered (centerResult x y strength ps) ps r after
+      → (places : List Float) → ((qs : List Particle) → placesOf qs ≡ placesOf ps → places ≡ placesOf (centered x y strength qs))
+      → particlesFrom places (speedsOf ps) (flagsOf ps) ≡ after
+  center-agrees x y strength a places h =
+      rw (h ps refl, ← centered-speeds x y strength ps, ← centered-flags x y strength ps) (particles-back (centered x y strength ps)) ∙ sym (left (x ∷ y ∷ strength ∷ []) (centered x y strength) ps r after a z)
