@@ -13,6 +13,7 @@ use Rattle.particles.specs.declared.centring.Pair.{Pair}
 abbrev pub resultOf : Particle → Check
 resultOf p = resultCheck (placesOf (p ∷ [])) (speedsOf (p ∷ []))
 
+-- a number for each axis
 abbrev pub pair : Float → Float → Pair
 pair x y = record { x = x; y = y }
 
