@@ -113,14 +113,14 @@ pub pushed-stages : (places speeds vs ds : List Float) (flags : List ℕ) (f : P
     → Stages places vs flags alpha ds used most r (pushStage slots f (stateOf places speeds flags alpha ds used visits))
 pushed-stages places speeds vs ds flags f alpha slots n used visits most ran r h l k runs few e =
     rw e (
-      record {
-        is =
-            pushed-is places speeds vs ds flags l (omega (arith, h .places, h .speeds)) (omega (arith, h .places, h .speeds)) f alpha slots used visits ran (runs .is);
-        draws = runs .draws;
-        late = late-clears ran places vs (runs .late);
-        few = λ z. few (settled-passed places vs ran z);
-        ranged = λ _. h .ranged;
-      }
+    record {
+      is =
+          pushed-is places speeds vs ds flags l (omega (arith, h .places, h .speeds)) (omega (arith, h .places, h .speeds)) f alpha slots used visits ran (runs .is);
+      draws = runs .draws;
+      late = late-clears ran places vs (runs .late);
+      few = λ z. few (settled-passed places vs ran z);
+      ranged = λ _. h .ranged;
+    }
     )
 
 -- ---- Center
@@ -142,17 +142,17 @@ pub centered-stages : (places at speeds ds : List Float) (flags : List ℕ) (x y
 unfolding stagedOf zeroesWork
 centered-stages places at speeds ds flags x y strength alpha slots used visits most r p v k d few moves e =
     rw e (
-      record {
-        is =
-            ap (λ (c : Check). c >>= λ _. done (stateOf at speeds flags alpha ds used visits)) (settled-stands at speeds (idle used visits))
-            ∙ ap (λ (c : Check). (c then resultCheck at speeds) >>= λ _. done (stateOf at speeds flags alpha ds used visits)) (standing-fine (idle used visits) refl)
-            ∙ settled-is at speeds flags (k ∙ p) v (stateOf places speeds flags alpha ds used visits)
-            ∙ ap (λ (qs : List Particle). settled qs (stateOf places speeds flags alpha ds used visits)) is;
-        draws = record { begun = omega arith; reach = d };
-        late = late-clears (idle used visits) at speeds refl;
-        few = λ _. few;
-        ranged = settled-ranged at speeds (idle used visits);
-      }
+    record {
+      is =
+          ap (λ (c : Check). c >>= λ _. done (stateOf at speeds flags alpha ds used visits)) (settled-stands at speeds (idle used visits))
+          ∙ ap (λ (c : Check). (c then resultCheck at speeds) >>= λ _. done (stateOf at speeds flags alpha ds used visits)) (standing-fine (idle used visits) refl)
+          ∙ settled-is at speeds flags (k ∙ p) v (stateOf places speeds flags alpha ds used visits)
+          ∙ ap (λ (qs : List Particle). settled qs (stateOf places speeds flags alpha ds used visits)) is;
+      draws = record { begun = omega arith; reach = d };
+      late = late-clears (idle used visits) at speeds refl;
+      few = λ _. few;
+      ranged = settled-ranged at speeds (idle used visits);
+    }
     )
   where
     ps : List Particle
@@ -171,13 +171,13 @@ pub idle-stages : (places speeds ds : List Float) (flags : List ℕ) (alpha : Fl
 unfolding stagedOf standing zeroesWork
 idle-stages places speeds ds flags alpha n used visits most r o h few e is =
     rw e (
-      record {
-        is = is;
-        draws = record { begun = omega arith; reach = h .drawn };
-        late = refl;
-        few = λ _. few;
-        ranged = λ _. h .ranged;
-      }
+    record {
+      is = is;
+      draws = record { begun = omega arith; reach = h .drawn };
+      late = refl;
+      few = λ _. few;
+      ranged = λ _. h .ranged;
+    }
     )
 
 -- ---- what a tree is built of

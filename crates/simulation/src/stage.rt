@@ -265,7 +265,17 @@ pub fn stage(
         );
     }
     if kind == 3 {
-        return link_slot(e, numbers, links, places, speeds, alpha, draws, used, visits);
+        return link_slot(
+            e,
+            numbers,
+            links,
+            places,
+            speeds,
+            alpha,
+            draws,
+            used,
+            visits,
+        );
     }
     if kind == 4 {
         return center_stage(e.a, e.b, e.c, places, speeds, used, visits);

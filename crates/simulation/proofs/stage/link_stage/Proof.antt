@@ -33,9 +33,12 @@ returns c flags slots l =
     let a = s .args in
     pushed-stages (a .places .now) (a .speeds .now) (m .link .last .1 .0) (a .draws .now) flags (link (endsOf (a .links .now)) (a .strengths .now) (a .distances .now) (a .iterations)) (a .alpha) slots _ (a .used) (a .visits) _
     (m .link .result) (c .settled .result) (s .pre .0) l (m .link .kept .1 .0) (m .link .ensures)
-    (λ z. omega (arith, visits-kept (m .link .last .1 .0) (a .draws .now) (m .link .result) (a .visits)
-    (runLink (a .places .now) (endsOf (a .links .now)) (a .strengths .now) (a .distances .now) (a .iterations) (a .alpha) (flow (a .speeds .now) (drop (a .used) (a .draws .now))))
-    (m .link .ensures .is) z)) (c .settled .ensures)
+    (λ z. omega (
+      arith,
+      visits-kept (m .link .last .1 .0) (a .draws .now) (m .link .result) (a .visits)
+          (runLink (a .places .now) (endsOf (a .links .now)) (a .strengths .now) (a .distances .now) (a .iterations) (a .alpha) (flow (a .speeds .now) (drop (a .used) (a .draws .now))))
+          (m .link .ensures .is) z,
+    )) (c .settled .ensures)
 
 pub link-stage-spec : {M : Type 1} → statement M
 link-stage-spec = tie.close (tie.spec link-requires (λ c κs. search needs) (λ c. search needs) returns)

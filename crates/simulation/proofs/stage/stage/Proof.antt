@@ -73,8 +73,8 @@ stage-spec =
     tie.close
     (tie.spec
     (λ c.
-      let s = c .before .before .before .before .before .before .before .before .before .before .before in
-      sym (strengths-long (length (s .args .flags .now)) (s .args .e) (s .args .numbers .now) (s .args .links .now) (s .pre .2) (c .before .if1 .taken)))
+    let s = c .before .before .before .before .before .before .before .before .before .before .before in
+    sym (strengths-long (length (s .args .flags .now)) (s .args .e) (s .args .numbers .now) (s .args .links .now) (s .pre .2) (c .before .if1 .taken)))
     many-body-stage-requires
     (λ c. search needs)
     (λ c. search needs)
@@ -83,8 +83,8 @@ stage-spec =
     (λ c. search needs)
     returns
     (λ c.
-      let s = c .before .before .before .before .before .before .before .before .before .before .before .before in
-      sym (radii-long (length (s .args .flags .now)) (s .args .e) (s .args .numbers .now) (s .args .links .now) (s .pre .2) (c .before .if2 .taken)))
+    let s = c .before .before .before .before .before .before .before .before .before .before .before .before in
+    sym (radii-long (length (s .args .flags .now)) (s .args .e) (s .args .numbers .now) (s .args .links .now) (s .pre .2) (c .before .if2 .taken)))
     (λ c κs. search needs)
     collide-stage-requires
     (λ c. search needs)

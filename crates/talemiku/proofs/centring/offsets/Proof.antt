@@ -2,8 +2,8 @@ use native.Mathlib.Omega.{arith}
 use borrow.Author.Needs.{needs}
 use lib.Dec.{le→leb}
 use lib.Ieee.{inFloat}
-use Rattle.particles.proofs.centring.offsets.Statement.{statement}
-use Rattle.particles.proofs.centring.offsets.Tie as tie
+use Rattle.talemiku.proofs.centring.offsets.Statement.{statement}
+use Rattle.talemiku.proofs.centring.offsets.Tie as tie
 
 -- a count below 2 ^ 53 is exact
 int-to-float-count : tie.Need-int-to-float-count

@@ -25,7 +25,7 @@ use denote.Lend.{Held}
 use denote.Index.{row, opens-slice}
 use Rattle.rules.specs.declared.Particle.{Particle}
 use Rattle.rules.proofs.Particle as T
-use Rattle.particles.proofs.Frame.{held, deaths}
+use Rattle.talemiku.proofs.Frame.{held, deaths}
 
 pub record Lent : Type 0 where
   pub κ : Lft

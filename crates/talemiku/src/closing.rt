@@ -7,10 +7,11 @@ use rules::Particle;
 use rules::Refusal;
 use sheet::record_check;
 ghost use Rattle.rules.specs.Calls.{closingResult};
-ghost use Rattle.particles.specs.Answered.{Answered};
+ghost use Rattle.talemiku.specs.Answered.{Answered};
 
 // Every result is tested before the first is written, so that a refusal changes nothing.
-pub fn apply_velocities(particles: &mut [Particle], decay: f64) -> Refusal
+#[no_mangle]
+pub extern "C" fn talemiku_apply_velocities(particles: &mut [Particle], decay: f64) -> Refusal
     ensures { λ r. ⌜ Answered (closingResult decay (now (particles .entry))) (now (particles .entry)) r (now (particles .exit)) ⌝ }
 {
     let n = particles.len();

@@ -7,7 +7,7 @@ ghost use mathlib.Core.Path.{_≡_};
 ghost use mathlib.Core.List.{[], _∷_};
 ghost use Rattle.rules.specs.Outcome.{refusalOf};
 ghost use Rattle.rules.specs.Refusal.{settingsCheck};
-ghost use Rattle.particles.specs.Pass.{resultOf};
+ghost use Rattle.talemiku.specs.Pass.{resultOf};
 
 // 9, of one particle as it is to be.
 pub fn result_check(p: Particle) -> Refusal

@@ -7,7 +7,7 @@ use Rattle.rules.specs.Outcome.{Check}
 use Rattle.rules.specs.Number.{_⊕_, _⊖_, _⊗_, _⊘_, float}
 use Rattle.rules.specs.Sheet.{placesOf, speedsOf}
 use Rattle.rules.specs.Refusal.{resultCheck}
-use Rattle.particles.specs.declared.centring.Pair.{Pair}
+use Rattle.talemiku.specs.declared.centring.Pair.{Pair}
 
 -- 9, of one particle
 abbrev pub resultOf : Particle → Check

@@ -14,9 +14,9 @@ use Rattle.rules.proofs.Particle as particle
 use Rattle.rules.proofs.Particle.Laws as particle-laws
 use Rattle.rules.proofs.Refusal as refusal
 use Rattle.rules.proofs.Refusal.Laws as refusal-laws
-use Rattle.particles.specs.declared.centring.Pair.{Pair}
-use Rattle.particles.proofs.centring.Pair as pair
-use Rattle.particles.proofs.centring.Pair.Laws as pair-laws
+use Rattle.talemiku.specs.declared.centring.Pair.{Pair}
+use Rattle.talemiku.proofs.centring.Pair as pair
+use Rattle.talemiku.proofs.centring.Pair.Laws as pair-laws
 
 abbrev pub val : Particle → Val
 val p = LL.val particle.the-type particle-laws.the-laws p

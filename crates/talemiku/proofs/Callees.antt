@@ -45,30 +45,30 @@ use Rattle.sheet.proofs.record_check.Met as record-check-thm
 use Rattle.force.proofs.check.setting_check as setting-check
 use Rattle.force.proofs.check.setting_check.Symbol as setting-check-def
 use Rattle.force.proofs.check.setting_check.Met as setting-check-thm
-use Rattle.particles.proofs.check.settings_check as settings-check
-use Rattle.particles.proofs.check.settings_check.Symbol as settings-check-def
-use Rattle.particles.proofs.check.settings_check.Met as settings-check-thm
-use Rattle.particles.proofs.check.result_check as result-check
-use Rattle.particles.proofs.check.result_check.Symbol as result-check-def
-use Rattle.particles.proofs.check.result_check.Met as result-check-thm
+use Rattle.talemiku.proofs.check.settings_check as settings-check
+use Rattle.talemiku.proofs.check.settings_check.Symbol as settings-check-def
+use Rattle.talemiku.proofs.check.settings_check.Met as settings-check-thm
+use Rattle.talemiku.proofs.check.result_check as result-check
+use Rattle.talemiku.proofs.check.result_check.Symbol as result-check-def
+use Rattle.talemiku.proofs.check.result_check.Met as result-check-thm
 use Rattle.force.proofs.particle.moved as moved
 use Rattle.force.proofs.particle.moved.Symbol as moved-def
 use Rattle.force.proofs.particle.moved.Met as moved-thm
 use Rattle.force.proofs.center.shifted as shifted
 use Rattle.force.proofs.center.shifted.Symbol as shifted-def
 use Rattle.force.proofs.center.shifted.Met as shifted-thm
-use Rattle.particles.proofs.centring.added as added
-use Rattle.particles.proofs.centring.added.Symbol as added-def
-use Rattle.particles.proofs.centring.added.Met as added-thm
-use Rattle.particles.proofs.centring.offsets as offsets
-use Rattle.particles.proofs.centring.offsets.Symbol as offsets-def
-use Rattle.particles.proofs.centring.offsets.Met as offsets-thm
-use Rattle.particles.specs.declared.centring.Pair.{Pair}
-use Rattle.particles.specs.Pass.{resultOf, addedTo, offsetsOf}
-use Rattle.particles.proofs.centring.Pair as P
-use Rattle.particles.proofs.centring.Pair.Laws as P′
-use Rattle.particles.proofs.Values.{val, valP, Fits, FitsP}
-use Rattle.particles.proofs.Rules.{Gives, Answers, gives}
+use Rattle.talemiku.proofs.centring.added as added
+use Rattle.talemiku.proofs.centring.added.Symbol as added-def
+use Rattle.talemiku.proofs.centring.added.Met as added-thm
+use Rattle.talemiku.proofs.centring.offsets as offsets
+use Rattle.talemiku.proofs.centring.offsets.Symbol as offsets-def
+use Rattle.talemiku.proofs.centring.offsets.Met as offsets-thm
+use Rattle.talemiku.specs.declared.centring.Pair.{Pair}
+use Rattle.talemiku.specs.Pass.{resultOf, addedTo, offsetsOf}
+use Rattle.talemiku.proofs.centring.Pair as P
+use Rattle.talemiku.proofs.centring.Pair.Laws as P′
+use Rattle.talemiku.proofs.Values.{val, valP, Fits, FitsP}
+use Rattle.talemiku.proofs.Rules.{Gives, Answers, gives}
 
 module _ {M : Type 1} (𝓤 : URA M) (H : Heap 𝓤) (A : Atoms 𝓤) where
   -- what a function asks for that has no lifetime and no `requires`: that its arguments are of their types

@@ -54,22 +54,22 @@ use Rattle.rules.proofs.Refusal as R
 use Rattle.rules.proofs.Refusal.Laws as R′
 use Rattle.sheet.proofs.Checked.{record-fine}
 use Rattle.force.proofs.Called.{result-fine}
-use Rattle.particles.specs.Answered.{Answered}
-use Rattle.particles.proofs.Frame.{Blocks, env, alloc-all, free-all, counted}
-use Rattle.particles.proofs.Rules.{copied, part, big, sets, goes-on, leaves, counts, judges, takes, puts, calls}
-use Rattle.particles.proofs.Lent.{Lent, lent, slice, At, Closed, opens, whole-again, here-fits, next-fits, place-fits}
-use Rattle.particles.proofs.Callees as callee
-use Rattle.particles.proofs.Outcomes.{stops-count, stops-records, stops-settings, stops-results, accepts}
+use Rattle.talemiku.specs.Answered.{Answered}
+use Rattle.talemiku.proofs.Frame.{Blocks, env, alloc-all, free-all, counted}
+use Rattle.talemiku.proofs.Rules.{copied, part, big, sets, goes-on, leaves, counts, judges, takes, puts, calls}
+use Rattle.talemiku.proofs.Lent.{Lent, lent, slice, At, Closed, opens, whole-again, here-fits, next-fits, place-fits}
+use Rattle.talemiku.proofs.Callees as callee
+use Rattle.talemiku.proofs.Outcomes.{stops-count, stops-records, stops-settings, stops-results, accepts}
 use Rattle.rules.specs.Particle.{moved, closing}
 use Rattle.rules.specs.Calls.{closingResult}
-use Rattle.particles.specs.Pass.{resultOf}
-use Rattle.particles.proofs.Values.{val, valR, FitsR, typed, typedR}
-use Rattle.particles.proofs.Passes.{none, Passed, pass-on, pass-stop, pass-end, count-fine, settings-fine, mapTo, mapTo-length, mapTo-all, closing-each}
-use Rattle.particles.proofs.closing.apply_velocities.Key.{name as #apply-velocities}
-use Rattle.particles.proofs.closing.apply_velocities as apply
-use Rattle.particles.proofs.closing.apply_velocities.Statement as stated
-use Rattle.particles.proofs.closing.apply_velocities.Code as code
-use Rattle.particles.proofs.closing.apply_velocities.Code.Mir as m
+use Rattle.talemiku.specs.Pass.{resultOf}
+use Rattle.talemiku.proofs.Values.{val, valR, FitsR, typed, typedR}
+use Rattle.talemiku.proofs.Passes.{none, Passed, pass-on, pass-stop, pass-end, count-fine, settings-fine, mapTo, mapTo-length, mapTo-all, closing-each}
+use Rattle.talemiku.proofs.closing.talemiku_apply_velocities.Key.{name as #apply-velocities}
+use Rattle.talemiku.proofs.closing.talemiku_apply_velocities as apply
+use Rattle.talemiku.proofs.closing.talemiku_apply_velocities.Statement as stated
+use Rattle.talemiku.proofs.closing.talemiku_apply_velocities.Code as code
+use Rattle.talemiku.proofs.closing.talemiku_apply_velocities.Code.Mir as m
 
 abbrev stayed : Stays (apply.ended .signature .params) (apply.ended .kept)
 stayed = (stay-slice (0 ∷ []) tt (plain (λ _. T.the-row)), (stay-none (λ _. f64) yes, tt))
@@ -223,7 +223,7 @@ module _ {M : Type 1} (𝓤 : URA M) (H : Heap 𝓤) (𝓜 : Model 𝓤 H) (𝓖
             (look ! 23 refl) (λ has. init ! 24 refl (typed W p has)) (look ! 24 refl) (λ has. init ! 13 refl (typed W p has)) (λ p-has.
             calls ! fm T.the-type T′.the-laws (f p) (callee.moved-gives 𝓤 H 𝓜 𝓖 𝓡 code.env code.calls-force·particle·moved decay p p decay-fits p-has p-has)
             (and-then ! (copied ! (look ! 8 refl)) (and-then ! (copied ! (look ! 13 refl)) (and-then ! (copied ! (look ! 13 refl)) (no-more !)))) (λ has. store ! 24 refl (typed W (f p) has)) (λ q-has.
-            calls ! fm R.the-type R′.the-laws (refusalOf (resultOf (f p))) (callee.result-check-gives 𝓤 H 𝓜 𝓖 𝓡 code.env code.calls-particles·check·result-check (f p) q-has)
+            calls ! fm R.the-type R′.the-laws (refusalOf (resultOf (f p))) (callee.result-check-gives 𝓤 H 𝓜 𝓖 𝓡 code.env code.calls-talemiku·check·result-check (f p) q-has)
             (and-then ! (copied ! (look ! 24 refl)) (no-more !)) (λ has. store ! 10 refl (typedR W (refusalOf (resultOf (f p))) has)) (λ r-has.
             elem-back ! T.the-row fullShare xs i none (val p ∷ []) (l .b) (l .o) small $ forget ! 11 refl $ forget ! 20 refl $ forget ! 21 refl $ forget ! 22 refl $
             judges ! (resultOf (f p)) (result-fine _ _) (part ! refl (look-in ! 8 (sub ! 0 refl (whole !)))) (init ! 19 refl (tt, tt)) (look ! 19 refl)
@@ -313,8 +313,8 @@ module _ {M : Type 1} (𝓤 : URA M) (H : Heap 𝓤) (𝓜 : Model 𝓤 H) (𝓖
       walk-meets 𝓤 H A apply.ended stayed W (goes-slice 𝓤 H A W 1 0 tt (plain (λ _. T.the-row)), (goes-none 𝓤 H A W 1 (λ _. f64) yes (λ κs x f. refl), tt)) clauses runs-as
       (WpFn-mono 𝓤 H (W .laws) 𝓣 code.function) walks
 
-pub apply-velocities-spec : {M : Type 1} → stated.statement M
+pub talemiku-apply-velocities-spec : {M : Type 1} → stated.statement M
 unfolding code.routine tablesOf
-apply-velocities-spec 𝓤 H 𝓜 𝓖 𝓡 =
+talemiku-apply-velocities-spec 𝓤 H 𝓜 𝓖 𝓡 =
     entered 𝓤 H (tripleOf 𝓤 H (𝓖 .A) apply.signature (apply.spec 𝓤 H (𝓖 .A) (𝓜 .mem) (𝓡 .run))) (tables 𝓤 H 𝓜 𝓡 code.env .C) (tables 𝓤 H 𝓜 𝓡 code.env .Λ) #apply-velocities code.function (code.unfolded 𝓤 H 𝓜 𝓡)
     (meets 𝓤 H 𝓜 𝓖 𝓡)

@@ -19,8 +19,8 @@ use Rattle.rules.specs.Refusal.{countCheck, settingsCheck, resultCheck}
 use Rattle.rules.specs.Sheet.{particle, placesOf, speedsOf}
 use Rattle.rules.specs.Particle.{offset, shifted, centered, moved, closing}
 use Rattle.force.proofs.Scans.{real-require, real-from, passes}
-use Rattle.particles.specs.declared.centring.Pair.{Pair}
-use Rattle.particles.specs.Pass.{resultOf, pair, addedTo, offsetsOf}
+use Rattle.talemiku.specs.declared.centring.Pair.{Pair}
+use Rattle.talemiku.specs.Pass.{resultOf, pair, addedTo, offsetsOf}
 
 -- what stands past a list's end: no pass looks there
 abbrev pub none : Particle

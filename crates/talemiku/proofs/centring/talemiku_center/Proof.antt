@@ -53,26 +53,26 @@ use Rattle.rules.proofs.Refusal as R
 use Rattle.rules.proofs.Refusal.Laws as R′
 use Rattle.sheet.proofs.Checked.{record-fine}
 use Rattle.force.proofs.Called.{result-fine}
-use Rattle.particles.specs.Answered.{Answered}
-use Rattle.particles.proofs.Frame.{Blocks, env, alloc-all, free-all, counted}
-use Rattle.particles.proofs.Rules.{copied, part, big, sets, goes-on, leaves, counts, judges, takes, puts, calls}
-use Rattle.particles.proofs.Lent.{Lent, lent, slice, At, Closed, opens, whole-again, here-fits, next-fits, place-fits}
-use Rattle.particles.proofs.Callees as callee
-use Rattle.particles.proofs.Outcomes.{stops-count, stops-records, stops-settings, stops-results, accepts}
+use Rattle.talemiku.specs.Answered.{Answered}
+use Rattle.talemiku.proofs.Frame.{Blocks, env, alloc-all, free-all, counted}
+use Rattle.talemiku.proofs.Rules.{copied, part, big, sets, goes-on, leaves, counts, judges, takes, puts, calls}
+use Rattle.talemiku.proofs.Lent.{Lent, lent, slice, At, Closed, opens, whole-again, here-fits, next-fits, place-fits}
+use Rattle.talemiku.proofs.Callees as callee
+use Rattle.talemiku.proofs.Outcomes.{stops-count, stops-records, stops-settings, stops-results, accepts}
 use Rattle.rules.specs.Number.{0·}
 use Rattle.rules.specs.Particle.{shifted, centered}
 use Rattle.rules.specs.Calls.{centerResult}
-use Rattle.particles.specs.declared.centring.Pair.{Pair}
-use Rattle.particles.specs.Pass.{resultOf, pair}
-use Rattle.particles.proofs.Values.{val, valR, valP, FitsR, FitsP, typed, typedR, typedP}
-use Rattle.particles.proofs.Passes.{none, Passed, pass-on, pass-stop, pass-end, count-fine, count-within, settings-fine, mapTo, mapTo-length, mapTo-all, sumTo, shift, centered-each}
-use Rattle.particles.proofs.centring.Pair as P
-use Rattle.particles.proofs.centring.Pair.Laws as P′
-use Rattle.particles.proofs.centring.center.Key.{name as #center}
-use Rattle.particles.proofs.centring.center as center
-use Rattle.particles.proofs.centring.center.Statement as stated
-use Rattle.particles.proofs.centring.center.Code as code
-use Rattle.particles.proofs.centring.center.Code.Mir as m
+use Rattle.talemiku.specs.declared.centring.Pair.{Pair}
+use Rattle.talemiku.specs.Pass.{resultOf, pair}
+use Rattle.talemiku.proofs.Values.{val, valR, valP, FitsR, FitsP, typed, typedR, typedP}
+use Rattle.talemiku.proofs.Passes.{none, Passed, pass-on, pass-stop, pass-end, count-fine, count-within, settings-fine, mapTo, mapTo-length, mapTo-all, sumTo, shift, centered-each}
+use Rattle.talemiku.proofs.centring.Pair as P
+use Rattle.talemiku.proofs.centring.Pair.Laws as P′
+use Rattle.talemiku.proofs.centring.talemiku_center.Key.{name as #center}
+use Rattle.talemiku.proofs.centring.talemiku_center as center
+use Rattle.talemiku.proofs.centring.talemiku_center.Statement as stated
+use Rattle.talemiku.proofs.centring.talemiku_center.Code as code
+use Rattle.talemiku.proofs.centring.talemiku_center.Code.Mir as m
 
 abbrev stayed : Stays (center.ended .signature .params) (center.ended .kept)
 stayed = (stay-slice (0 ∷ []) tt (plain (λ _. T.the-row)), (stay-none (λ _. f64) yes, (stay-none (λ _. f64) yes, (stay-none (λ _. f64) yes, tt))))
@@ -246,7 +246,7 @@ module _ {M : Type 1} (𝓤 : URA M) (H : Heap 𝓤) (𝓜 : Model 𝓤 H) (𝓖
             (look ! 27 refl) (λ has. init ! 28 refl (typed W p has)) (look ! 28 refl) (λ has. init ! 17 refl (typed W p has)) (λ p-has.
             calls ! fm T.the-type T′.the-laws (f p) (callee.shifted-gives 𝓤 H 𝓜 𝓖 𝓡 code.env code.calls-force·center·shifted (off .x) (off .y) p (fits-x off off-fits) (fits-y off off-fits) p-has)
             (and-then ! (part ! refl (look-in ! 16 (sub ! 0 refl (whole !)))) (and-then ! (part ! refl (look-in ! 16 (sub ! 1 refl (whole !)))) (and-then ! (copied ! (look ! 17 refl)) (no-more !)))) (λ has. store ! 28 refl (typed W (f p) has)) (λ q-has.
-            calls ! fm R.the-type R′.the-laws (refusalOf (resultOf (f p))) (callee.result-check-gives 𝓤 H 𝓜 𝓖 𝓡 code.env code.calls-particles·check·result-check (f p) q-has)
+            calls ! fm R.the-type R′.the-laws (refusalOf (resultOf (f p))) (callee.result-check-gives 𝓤 H 𝓜 𝓖 𝓡 code.env code.calls-talemiku·check·result-check (f p) q-has)
             (and-then ! (copied ! (look ! 28 refl)) (no-more !)) (λ has. store ! 12 refl (typedR W (refusalOf (resultOf (f p))) has)) (λ r-has.
             elem-back ! T.the-row fullShare xs i none (val p ∷ []) (l .b) (l .o) small $ forget ! 15 refl $ forget ! 24 refl $ forget ! 25 refl $ forget ! 26 refl $
             judges ! (resultOf (f p)) (result-fine _ _) (part ! refl (look-in ! 10 (sub ! 0 refl (whole !)))) (init ! 23 refl (tt, tt)) (look ! 23 refl)
@@ -289,7 +289,7 @@ module _ {M : Type 1} (𝓤 : URA M) (H : Heap 𝓤) (𝓜 : Model 𝓤 H) (𝓖
             judges ! (recordCheck i p) (record-fine i p) (part ! refl (look-in ! 10 (sub ! 0 refl (whole !)))) (init ! 18 refl (tt, tt)) (look ! 18 refl)
             (λ bad. forget ! 13 refl $ forget ! 18 refl $ halts₁ _ refl (refusalOf (recordCheck i p)) i (stops-records (x ∷ y ∷ strength ∷ []) (centered x y strength) xs f (centered-each x y strength xs) count _ (pass-stop recordCheck xs i small (φ .0) _ bad)) r-has)
             (λ good. forget ! 18 refl $ rewrite ! 10 answer good refl $
-            calls ! fm P.the-type P′.the-laws (sumTo (suc i) xs) (callee.added-gives 𝓤 H 𝓜 𝓖 𝓡 code.env code.calls-particles·centring·added (sumTo i xs) p (φ .1) p-has)
+            calls ! fm P.the-type P′.the-laws (sumTo (suc i) xs) (callee.added-gives 𝓤 H 𝓜 𝓖 𝓡 code.env code.calls-talemiku·centring·added (sumTo i xs) p (φ .1) p-has)
             (and-then ! (copied ! (look ! 11 refl)) (and-then ! (copied ! (look ! 13 refl)) (no-more !))) (λ has. store ! 11 refl (typedP W (sumTo (suc i) xs) has)) (λ s-has. forget ! 13 refl $
             counts ! (next-fits l i small) (look ! 12 refl) (store ! 12 refl (tt, record { fits = lt-of-le-of-lt small (l .fits .0) })) $ by ! (k (pass-on recordCheck xs i small (φ .0) good, s-has))))))
           where
@@ -301,12 +301,12 @@ module _ {M : Type 1} (𝓤 : URA M) (H : Heap 𝓤) (𝓜 : Model 𝓤 H) (𝓖
         ends₁ φ X =
             qed W (At₁ n) ∵ exec ! (𝓣 .C) (𝓣 .Λ) En m.turn-1 (anyQ (afterTurn 𝓤 H X (then m.t-8))) $
             leaves ! (look ! 12 refl) (look ! 9 refl) (init ! 18 refl (tt, tt)) (look ! 18 refl) $ exec ! (𝓣 .C) (𝓣 .Λ) En m.t-8 (atRet En Post) $ forget ! 18 refl $
-            calls ! fm R.the-type R′.the-laws (refusalOf (settingsCheck (x ∷ y ∷ strength ∷ []))) (callee.settings-check-gives 𝓤 H 𝓜 𝓖 𝓡 code.env code.calls-particles·check·settings-check x y strength x-fits y-fits strength-fits)
+            calls ! fm R.the-type R′.the-laws (refusalOf (settingsCheck (x ∷ y ∷ strength ∷ []))) (callee.settings-check-gives 𝓤 H 𝓜 𝓖 𝓡 code.env code.calls-talemiku·check·settings-check x y strength x-fits y-fits strength-fits)
             (and-then ! (copied ! (look ! 6 refl)) (and-then ! (copied ! (look ! 7 refl)) (and-then ! (copied ! (look ! 8 refl)) (no-more !)))) (λ has. store ! 10 refl (typedR W (refusalOf (settingsCheck (x ∷ y ∷ strength ∷ []))) has)) (λ r-has.
             judges ! (settingsCheck (x ∷ y ∷ strength ∷ [])) (settings-fine (x ∷ y ∷ strength ∷ [])) (part ! refl (look-in ! 10 (sub ! 0 refl (whole !)))) (init ! 17 refl (tt, tt)) (look ! 17 refl)
             (λ bad. forget ! 17 refl $ halts₁ _ refl (refusalOf (settingsCheck (x ∷ y ∷ strength ∷ []))) n (stops-settings (x ∷ y ∷ strength ∷ []) (centered x y strength) xs f (centered-each x y strength xs) count (pass-end recordCheck xs (φ .0)) _ bad) r-has)
             (λ good. forget ! 17 refl $ rewrite ! 10 answer good refl $
-            calls ! fm P.the-type P′.the-laws off (callee.offsets-gives 𝓤 H 𝓜 𝓖 𝓡 code.env code.calls-particles·centring·offsets (sumTo n xs) n x y strength (φ .1) (l .fits .0) x-fits y-fits strength-fits (count-within mostParticles n count))
+            calls ! fm P.the-type P′.the-laws off (callee.offsets-gives 𝓤 H 𝓜 𝓖 𝓡 code.env code.calls-talemiku·centring·offsets (sumTo n xs) n x y strength (φ .1) (l .fits .0) x-fits y-fits strength-fits (count-within mostParticles n count))
             (and-then ! (copied ! (look ! 11 refl)) (and-then ! (copied ! (look ! 9 refl)) (and-then ! (copied ! (look ! 6 refl)) (and-then ! (copied ! (look ! 7 refl)) (and-then ! (copied ! (look ! 8 refl)) (no-more !)))))) (λ has. init ! 14 refl (typedP W off has)) (λ off-fits. forget ! 11 refl $ sets ! (of-opd ! (lit ! tt)) (store ! 12 refl (tt, record { fits = lit< tt })) $
             by ! (second count (pass-end recordCheck xs (φ .0)) good off-fits (subst (λ (c : Check). FitsR (refusalOf c)) good r-has)))))
 
@@ -341,8 +341,8 @@ module _ {M : Type 1} (𝓤 : URA M) (H : Heap 𝓤) (𝓜 : Model 𝓤 H) (𝓖
       walk-meets 𝓤 H A center.ended stayed W (goes-slice 𝓤 H A W 1 0 tt (plain (λ _. T.the-row)), (goes-none 𝓤 H A W 1 (λ _. f64) yes (λ κs x f. refl), (goes-none 𝓤 H A W 1 (λ _. f64) yes (λ κs x f. refl), (goes-none 𝓤 H A W 1 (λ _. f64) yes (λ κs x f. refl), tt)))) clauses runs-as
       (WpFn-mono 𝓤 H (W .laws) 𝓣 code.function) walks
 
-pub center-spec : {M : Type 1} → stated.statement M
+pub talemiku-center-spec : {M : Type 1} → stated.statement M
 unfolding code.routine tablesOf
-center-spec 𝓤 H 𝓜 𝓖 𝓡 =
+talemiku-center-spec 𝓤 H 𝓜 𝓖 𝓡 =
     entered 𝓤 H (tripleOf 𝓤 H (𝓖 .A) center.signature (center.spec 𝓤 H (𝓖 .A) (𝓜 .mem) (𝓡 .run))) (tables 𝓤 H 𝓜 𝓡 code.env .C) (tables 𝓤 H 𝓜 𝓡 code.env .Λ) #center code.function (code.unfolded 𝓤 H 𝓜 𝓡)
     (meets 𝓤 H 𝓜 𝓖 𝓡)

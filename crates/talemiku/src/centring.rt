@@ -9,8 +9,8 @@ use sheet::record_check;
 ghost use mathlib.Core.Path.{_≡_};
 ghost use Prim.Native.Nat.{_≤_};
 ghost use Rattle.rules.specs.Calls.{centerResult};
-ghost use Rattle.particles.specs.Answered.{Answered};
-ghost use Rattle.particles.specs.Pass.{addedTo, offsetsOf};
+ghost use Rattle.talemiku.specs.Answered.{Answered};
+ghost use Rattle.talemiku.specs.Pass.{addedTo, offsetsOf};
 
 // A number for each axis: sums of places, and how far to move back.
 pub struct Pair {
@@ -41,7 +41,13 @@ pub fn offsets(sums: Pair, n: usize, x: f64, y: f64, strength: f64) -> Pair
 }
 
 // Every result is tested before the first is written, so that a refusal changes nothing.
-pub fn center(particles: &mut [Particle], x: f64, y: f64, strength: f64) -> Refusal
+#[no_mangle]
+pub extern "C" fn talemiku_center(
+    particles: &mut [Particle],
+    x: f64,
+    y: f64,
+    strength: f64,
+) -> Refusal
     ensures { λ r. ⌜ Answered (centerResult x y strength (now (particles .entry))) (now (particles .entry)) r (now (particles .exit)) ⌝ }
 {
     let n = particles.len();

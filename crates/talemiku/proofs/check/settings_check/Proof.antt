@@ -1,7 +1,7 @@
 use mathlib.Core.Logic.{⊎-elim}
 use borrow.Author.Needs.{needs}
-use Rattle.particles.proofs.check.settings_check.Statement.{statement}
-use Rattle.particles.proofs.check.settings_check.Tie as tie
+use Rattle.talemiku.proofs.check.settings_check.Statement.{statement}
+use Rattle.talemiku.proofs.check.settings_check.Tie as tie
 
 returns : tie.Need-returns
 returns c =

@@ -20,8 +20,8 @@ use Rattle.force.specs.Columns.{particlesFrom}
 use Rattle.force.proofs.Called.{result-fine}
 use Rattle.force.proofs.Closing.{particles-back}
 use Rattle.force.proofs.Centring.{centered-speeds}
-use Rattle.particles.specs.Answered.{Answered}
-use Rattle.particles.proofs.Passes.{count-fine, settings-fine, closing-each, centered-each}
+use Rattle.talemiku.specs.Answered.{Answered}
+use Rattle.talemiku.proofs.Passes.{count-fine, settings-fine, closing-each, centered-each}
 
 -- ---- number 0 is an outcome that is done
 

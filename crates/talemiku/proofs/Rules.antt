@@ -40,8 +40,8 @@ use Rattle.rules.specs.Outcome.{refused, Check, fine, refusalOf}
 use Rattle.rules.proofs.Particle as T
 use Rattle.rules.proofs.Particle.Laws as T′
 use Rattle.force.proofs.Scans.{stops}
-use Rattle.particles.proofs.Values.{val}
-use Rattle.particles.proofs.Passes.{none}
+use Rattle.talemiku.proofs.Values.{val}
+use Rattle.talemiku.proofs.Passes.{none}
 
 -- ---- the test of a refusal's number
 

@@ -9,9 +9,9 @@ use Rattle.rules.specs.Outcome.{Outcome, done, refused, refusal, fine, _>>=_, c
 use Rattle.rules.specs.Refusal.{mostParticles, countCheck, settingsCheck}
 use Rattle.rules.specs.Sheet.{recordCheck, recordsCheck}
 use Rattle.rules.specs.Calls.{listResult}
-use Rattle.particles.specs.Answered.{Answered}
-use Rattle.particles.specs.Pass.{resultOf}
-use Rattle.particles.proofs.Passes.{results}
+use Rattle.talemiku.specs.Answered.{Answered}
+use Rattle.talemiku.specs.Pass.{resultOf}
+use Rattle.talemiku.proofs.Passes.{results}
 
 refused-says : (o : Outcome (List Particle)) (ps : List Particle) (r : Refusal) → o ≡ refused r → Answered o ps r ps
 refused-says o ps r e = record { answer = rw e; particles = rw e }
