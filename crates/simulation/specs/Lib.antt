@@ -1,1 +1,3 @@
 pub mod Stage
+pub mod Tick
+pub mod Step

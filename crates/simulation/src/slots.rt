@@ -5,7 +5,6 @@ use checks::entry::links_needed;
 use checks::entry::numbers_needed;
 use force::Ran;
 use rules::Refusal;
-ghost use mathlib.Core.Path.{_≡_};
 ghost use Prim.Native.Nat.{_+_, _/_, _<_, _^_};
 ghost use lib.ListN.{length};
 ghost use Rattle.rules.specs.Outcome.{foldStages};

@@ -36,7 +36,7 @@ fn standard() -> Tuning
 }
 
 // What a force answered, and after it 9.
-fn settled(places: &[f64], speeds: &[f64], ran: Ran) -> Ran
+pub fn settled(places: &[f64], speeds: &[f64], ran: Ran) -> Ran
     ensures { λ r. ⌜ r ≡ settledRan (now (places .entry)) (now (speeds .entry)) ran ⌝ }
 {
     let refusal = ran.refusal;
@@ -51,8 +51,8 @@ fn settled(places: &[f64], speeds: &[f64], ran: Ran) -> Ran
     }
 }
 
-// An empty slot leaves everything as it is.
-fn untouched(used: usize, visits: u64) -> Ran
+// Where no force runs everything is as it was.
+pub fn untouched(used: usize, visits: u64) -> Ran
     ensures { λ r. ⌜ r ≡ idle used visits ⌝ }
 {
     Ran {

@@ -1,8 +1,8 @@
 use mathlib.Core.Path.{_≡_, refl, sym, ap, _∙_}
-use Prim.Native.Nat.{ℕ, _+_, _-_, _*_, _/_, _≤_, _^_}
+use Prim.Native.Nat.{_+_, _-_, _*_, _/_, _≤_, _^_}
 use native.Mathlib.Omega.{arith}
 use borrow.Author.Needs.{needs}
-use lib.ListN.{length, drop, length-drop}
+use lib.ListN.{length, drop}
 use Rattle.rules.specs.Outcome.{foldStages, zeroesWork}
 use Rattle.rules.specs.Tick.{numbersNeeded, linksNeeded, forceOf, forceStage}
 use Rattle.force.specs.Draws.{From}

@@ -1,4 +1,3 @@
-use mathlib.Core.Path.{ap, _∙_}
 use borrow.Author.Needs.{needs}
 use Rattle.force.proofs.Called.{standing-refused, standing-fine}
 use Rattle.simulation.proofs.stage.settled.Statement.{statement}

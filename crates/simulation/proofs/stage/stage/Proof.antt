@@ -1,9 +1,8 @@
-use mathlib.Core.Path.{_≡_, refl, sym, ap, subst⁻¹, _∙_}
-use Prim.Native.Nat.{ℕ, _*_, _/_}
+use mathlib.Core.Path.{_≡_, sym}
+use Prim.Native.Nat.{_/_}
 use native.Mathlib.Omega.{arith}
 use borrow.Author.Needs.{needs}
 use lib.ListN.{length}
-use Rattle.simulation.specs.Stage.{Columns, Chains, SlotFits, stateOf}
 use Rattle.simulation.proofs.Slot.{many-body-of, collide-of, center-of, none-of, strengths-long, radii-long, few-iterations}
 use Rattle.simulation.proofs.Staged.{idle-stages}
 use Rattle.simulation.proofs.stage.stage.Statement.{statement}
