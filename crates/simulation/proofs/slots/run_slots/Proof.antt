@@ -42,14 +42,14 @@ slot : (c : tie.After-entry-at Inv-loop μ-loop) → let l = c .before .before .
 slot c =
     let l = c .before .before .loop in
     let a = c .before .before .before .before .before .before .before .before .before .before .before .before .args in
-    left-slot (length (a .flags .now)) (a .forces .now) (a .numbers .now) (a .links .now) (l .i) (l .a) (l .b) (l .inv .0) (c .before .loop-test .taken) (c .entry-at .result) (c .entry-at .ensures)
+    left-slot (length (a .flags .now)) (a .forces .now) (a .numbers .now) (a .links .now) (l .i) (l .a) (l .b) (l .inv .0) (omega (arith, c .before .loop-test .taken)) (c .entry-at .result) (c .entry-at .ensures)
 
 next : (c : tie.After-entry-at Inv-loop μ-loop) → let l = c .before .before .loop in let a = c .before .before .before .before .before .before .before .before .before .before .before .before .args in
     Left (length (a .flags .now)) (a .forces .now) (a .numbers .now) (a .links .now) (l .i + 1) (l .a + numbersNeeded (length (a .flags .now)) (c .entry-at .result)) (l .b + linksNeeded (c .entry-at .result) * 2)
 next c =
     let l = c .before .before .loop in
     let a = c .before .before .before .before .before .before .before .before .before .before .before .before .args in
-    left-next (length (a .flags .now)) (a .forces .now) (a .numbers .now) (a .links .now) (l .i) (l .a) (l .b) (l .inv .0) (c .before .loop-test .taken) (c .entry-at .result) (c .entry-at .ensures)
+    left-next (length (a .flags .now)) (a .forces .now) (a .numbers .now) (a .links .now) (l .i) (l .a) (l .b) (l .inv .0) (omega (arith, c .before .loop-test .taken)) (c .entry-at .result) (c .entry-at .ensures)
 
 stage-requires : tie.Need-stage-requires Inv-loop μ-loop
 stage-requires c κs =
@@ -81,7 +81,7 @@ returns c =
       is =
           stage-stop (g .stage .last .1 .1 .1 .0) (g .stage .last .1 .1 .1 .1 .0) (a .flags .now) (a .alpha) (a .draws .now) (g .stage .result) (length (a .work .now) / 8) _ _ _
           (forcesLeft n (a .forces .now) (a .numbers .now) (a .links .now) (l .i) (l .a) (l .b))
-          (left-forces n (a .forces .now) (a .numbers .now) (a .links .now) (l .i) (l .a) (l .b) (l .inv .0) (e .before .loop-test .taken) (e .entry-at .result) (e .entry-at .ensures))
+          (left-forces n (a .forces .now) (a .numbers .now) (a .links .now) (l .i) (l .a) (l .b) (l .inv .0) (omega (arith, e .before .loop-test .taken)) (e .entry-at .result) (e .entry-at .ensures))
           (staged g) (c .if1 .taken)
           ∙ sym (l .inv .10);
       draws = omega (arith, r .draws, l .inv .8);
@@ -119,7 +119,7 @@ loop-again c =
           (l .inv .10
           ∙ stage-on (g .stage .last .1 .1 .1 .0) (g .stage .last .1 .1 .1 .1 .0) (a .flags .now) (a .alpha) (a .draws .now) (g .stage .result) (length (a .work .now) / 8) _ _ _
           (forcesLeft n (a .forces .now) (a .numbers .now) (a .links .now) (l .i) (l .a) (l .b))
-          (left-forces n (a .forces .now) (a .numbers .now) (a .links .now) (l .i) (l .a) (l .b) (l .inv .0) (e .before .loop-test .taken) (e .entry-at .result) (e .entry-at .ensures))
+          (left-forces n (a .forces .now) (a .numbers .now) (a .links .now) (l .i) (l .a) (l .b) (l .inv .0) (omega (arith, e .before .loop-test .taken)) (e .entry-at .result) (e .entry-at .ensures))
           (staged g) z),
     )
 
