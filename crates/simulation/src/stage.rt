@@ -65,7 +65,7 @@ pub fn untouched(used: usize, visits: u64) -> Ran
     }
 }
 
-// ManyBody, of a strength for each particle. Like the stages after it it looks at no flag.
+// ManyBody, of a strength for each particle. No force looks at a flag, so any flags serve.
 fn many_body_stage(
     strengths: &[f64],
     places: &[f64],
