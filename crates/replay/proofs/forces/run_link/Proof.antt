@@ -1,0 +1,34 @@
+use borrow.Author.Needs.{needs}
+use native.Mathlib.Omega.{arith}
+use Rattle.replay.proofs.forces.run_link.Statement.{statement}
+use Rattle.replay.proofs.forces.run_link.Tie as tie
+
+-- the lists as they were read
+abbrev as-read : tie.After-ended-right → tie.After-distances
+as-read c = c .before .before .before .before .before .before .before .before .before .before .before .before .before .before .before .before .before .before .before .before
+
+pub run-link-spec : {M : Type 1} → statement M
+run-link-spec =
+    tie.close
+    (tie.spec
+    (λ c κs. search needs)
+    (λ c κs. search needs)
+    (λ c κs. search needs)
+    (λ c κs. search needs)
+    (λ c κs. search needs)
+    (λ c κs. search needs)
+    (λ c κs. search needs)
+    (λ c κs. search needs)
+    (λ c κs. search needs)
+    (λ c κs. search needs)
+    (λ c κs. search needs)
+    (λ c κs. search needs)
+    (λ c κs. search needs)
+    (λ c. omega (arith, as-read c .before .before .before .before .before .before .before .before .before .before .before .before))
+    (λ c. omega (arith, as-read c .before .before .before .before .before .before .before .before))
+    (λ c. omega (arith, as-read c))
+    (λ c. omega (arith, as-read c))
+    (λ c. omega (arith, as-read c))
+    (λ c. omega (arith, as-read c))
+    (λ c. search needs)
+    (λ c. search needs))

@@ -1,0 +1,24 @@
+use borrow.Author.Needs.{needs}
+use native.Mathlib.Omega.{arith}
+use Rattle.replay.proofs.trees.run_tree.Statement.{statement}
+use Rattle.replay.proofs.trees.run_tree.Tie as tie
+
+-- the lists as they were read
+abbrev as-read : tie.After-ended-right → tie.After-work
+as-read c = c .before .before .before .before .before .before .before .before .before .before .before .before .before .before .before .before
+
+pub run-tree-spec : {M : Type 1} → statement M
+run-tree-spec =
+    tie.close
+    (tie.spec
+    (λ c κs. search needs)
+    (λ c κs. search needs)
+    (λ c κs. search needs)
+    (λ c κs. search needs)
+    (λ c κs. search needs)
+    (λ c κs. search needs)
+    (λ c. omega (arith, as-read c))
+    (λ c. search needs)
+    (λ c. search needs)
+    (λ c. search needs)
+    (λ c. search needs))

@@ -1,0 +1,20 @@
+// Cases of floor and root. Parts: 1 the answer, 2 the number's bits.
+use crate::lists::same_words;
+use crate::sample::argument;
+use number::bits_of;
+use number::float_of;
+
+// The sample has the floor as the bits of the f64 with that value.
+pub fn floor_is_right(case: &[u8]) -> bool {
+    let x = float_of(argument(case, 0));
+    let a = talemiku::talemiku_floor(x);
+    let r = a.refusal;
+    let floor = std::num::nearest_i64_to_f64(a.value);
+    let answer = [r.number, r.place, bits_of(floor)];
+    same_words(case, 1, &answer)
+}
+
+pub fn root_is_right(case: &[u8]) -> bool {
+    let answer = [talemiku::talemiku_root(argument(case, 0))];
+    same_words(case, 1, &answer)
+}
