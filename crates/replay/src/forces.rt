@@ -1,5 +1,5 @@
-// Cases of a force alone. Parts: 1 the answer, 2 the arguments by value, 3 the places, 4 the draws, 5 the buffer and 6 the buffer after, 7 and 8 the work slots; then
-// the force's own lists.
+// Cases of a force alone. Parts: 1 the answer; 2 where the velocities begin, alpha, iterations; 3 the places; 4 the draws; 5 the buffer and 6 the buffer after;
+// 7 and 8 the work slots; 9 the links; 10 the strengths; 11 the distances.
 use crate::lists::read_bytes;
 use crate::lists::read_halves;
 use crate::lists::read_numbers;
@@ -17,8 +17,34 @@ fn ended_right(case: &[u8], a: Counts, buffer: &[u8], work: &[u64]) -> bool {
     same_words(case, 1, &answer) && same_bytes(case, 6, buffer) && same_words(case, 8, work)
 }
 
-// Arguments: where the velocities begin, alpha, iterations. Lists: 9 links, 10 strengths, 11 distances.
-fn run_link(
+fn call(
+    case: &[u8],
+    places: &[f64],
+    draws: &[f64],
+    buffer: &mut [u8],
+    work: &mut [u64],
+    links: &[u32],
+    strengths: &[f64],
+    distances: &[f64],
+) -> Counts {
+    let start = argument(case, 0) as usize;
+    let alpha = float_of(argument(case, 1));
+    let iterations = argument(case, 2) as usize;
+    talemiku::talemiku_link(
+        places,
+        buffer,
+        start,
+        links,
+        strengths,
+        distances,
+        iterations,
+        alpha,
+        draws,
+        work,
+    )
+}
+
+fn run(
     case: &[u8],
     places: &mut [f64],
     draws: &mut [f64],
@@ -35,26 +61,21 @@ fn run_link(
     read_halves(case, 9, links);
     read_numbers(case, 10, strengths);
     read_numbers(case, 11, distances);
-    let start = argument(case, 0) as usize;
-    let alpha = float_of(argument(case, 1));
-    let iterations = argument(case, 2) as usize;
-    let a = talemiku::talemiku_link(
+    let a = call(
+        case,
         places,
+        draws,
         buffer,
-        start,
+        work,
         links,
         strengths,
         distances,
-        iterations,
-        alpha,
-        draws,
-        work,
     );
     ended_right(case, a, buffer, work)
 }
 
 // Room for 4,097 particles and 8,193 links, one too many of each.
-pub fn link_is_right(case: &[u8]) -> bool {
+pub fn force_is_right(case: &[u8]) -> bool {
     let mut places = [0.0f64; 8194];
     let mut draws = [0.0f64; 64];
     let mut buffer = [0u8; 65536];
@@ -62,21 +83,21 @@ pub fn link_is_right(case: &[u8]) -> bool {
     let mut links = [0u32; 16386];
     let mut strengths = [0.0f64; 8193];
     let mut distances = [0.0f64; 8193];
-    let n = lent(case, 3, 8194);
-    let drawn = lent(case, 4, 64);
-    let bytes = lent(case, 5, 65536);
-    let words = lent(case, 7, 648);
-    let ends = lent(case, 9, 16386);
-    let strong = lent(case, 10, 8193);
-    let far = lent(case, 11, 8193);
-    run_link(
+    let places_lent = lent(case, 3, 8194);
+    let draws_lent = lent(case, 4, 64);
+    let buffer_lent = lent(case, 5, 65536);
+    let work_lent = lent(case, 7, 648);
+    let links_lent = lent(case, 9, 16386);
+    let strengths_lent = lent(case, 10, 8193);
+    let distances_lent = lent(case, 11, 8193);
+    run(
         case,
-        &mut places[..n],
-        &mut draws[..drawn],
-        &mut buffer[..bytes],
-        &mut work[..words],
-        &mut links[..ends],
-        &mut strengths[..strong],
-        &mut distances[..far],
+        &mut places[..places_lent],
+        &mut draws[..draws_lent],
+        &mut buffer[..buffer_lent],
+        &mut work[..work_lent],
+        &mut links[..links_lent],
+        &mut strengths[..strengths_lent],
+        &mut distances[..distances_lent],
     )
 }

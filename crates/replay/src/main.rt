@@ -2,7 +2,7 @@
 // says. Writes, kind by kind, how many of how many are right. beside/pack makes the sample and says how it is laid out.
 ghost use Prim.Native.Nat.{_≤_};
 ghost use lib.ListN.{length};
-use crate::forces::link_is_right;
+use crate::forces::force_is_right;
 use crate::numbers::floor_is_right;
 use crate::numbers::root_is_right;
 use crate::sample::word_of;
@@ -39,7 +39,7 @@ fn is_right(kind: u64, case: &[u8]) -> bool {
         0 => floor_is_right(case),
         1 => root_is_right(case),
         2 => tree_is_right(case),
-        3 => link_is_right(case),
+        3 => force_is_right(case),
         _ => false,
     }
 }

@@ -1,4 +1,4 @@
-// Cases of the tree. Parts: 1 the answer, 2 the sheet, 3 the rows and 4 the rows after, 5 and 6 the chains, 7 and 8 the work slots.
+// Cases of the tree. Parts: 1 the answer; 2 the sheet; 3 the rows and 4 the rows after; 5 and 6 the chains; 7 and 8 the work slots.
 use crate::lists::read_bytes;
 use crate::lists::read_halves;
 use crate::lists::read_words;
@@ -26,7 +26,7 @@ fn ended_right(case: &[u8], a: TreeAnswer, rows: &[u32], chains: &[u32], work: &
         && same_words(case, 8, work)
 }
 
-fn run_tree(
+fn run(
     case: &[u8],
     sheet: &mut [u8],
     rows: &mut [u32],
@@ -41,21 +41,21 @@ fn run_tree(
     ended_right(case, a, rows, chains, work)
 }
 
-// Room for 4,097 particles, one too many, and for 80 slots with some words left over.
+// Room for 4,097 particles, one too many, and for 81 slots.
 pub fn tree_is_right(case: &[u8]) -> bool {
     let mut sheet = [0u8; 163880];
     let mut rows = [0u32; 324];
     let mut chains = [0u32; 4097];
     let mut work = [0u64; 648];
-    let bytes = lent(case, 2, 163880);
-    let numbers = lent(case, 3, 324);
-    let particles = lent(case, 5, 4097);
-    let words = lent(case, 7, 648);
-    run_tree(
+    let sheet_lent = lent(case, 2, 163880);
+    let rows_lent = lent(case, 3, 324);
+    let chains_lent = lent(case, 5, 4097);
+    let work_lent = lent(case, 7, 648);
+    run(
         case,
-        &mut sheet[..bytes],
-        &mut rows[..numbers],
-        &mut chains[..particles],
-        &mut work[..words],
+        &mut sheet[..sheet_lent],
+        &mut rows[..rows_lent],
+        &mut chains[..chains_lent],
+        &mut work[..work_lent],
     )
 }

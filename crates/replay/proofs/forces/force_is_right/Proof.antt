@@ -1,11 +1,11 @@
 use borrow.Author.Needs.{needs}
 use mathlib.Core.Path.{sym}
 use Rattle.link.proofs.Tallies.{room}
-use Rattle.replay.proofs.forces.link_is_right.Statement.{statement}
-use Rattle.replay.proofs.forces.link_is_right.Tie as tie
+use Rattle.replay.proofs.forces.force_is_right.Statement.{statement}
+use Rattle.replay.proofs.forces.force_is_right.Tie as tie
 
-pub link-is-right-spec : {M : Type 1} → statement M
-link-is-right-spec =
+pub force-is-right-spec : {M : Type 1} → statement M
+force-is-right-spec =
     tie.close
     (tie.spec
     (λ c κs. search needs)

@@ -1,14 +1,14 @@
 use borrow.Author.Needs.{needs}
 use native.Mathlib.Omega.{arith}
-use Rattle.replay.proofs.trees.run_tree.Statement.{statement}
-use Rattle.replay.proofs.trees.run_tree.Tie as tie
+use Rattle.replay.proofs.trees.run.Statement.{statement}
+use Rattle.replay.proofs.trees.run.Tie as tie
 
 -- the lists as they were read
 abbrev as-read : tie.After-ended-right → tie.After-work
 as-read c = c .before .before .before .before .before .before .before .before .before .before .before .before .before .before .before .before
 
-pub run-tree-spec : {M : Type 1} → statement M
-run-tree-spec =
+pub run-spec : {M : Type 1} → statement M
+run-spec =
     tie.close
     (tie.spec
     (λ c κs. search needs)
