@@ -1,5 +1,5 @@
-// Cases of a force alone. Parts: 1 the answer; 2 where the velocities begin, alpha, iterations; 3 the places; 4 the draws; 5 the buffer and 6 the buffer after;
-// 7 and 8 the work slots; 9 the links; 10 the strengths; 11 the distances.
+// Cases of a force alone. Parts: 1 the answer; 2 where the velocities begin, alpha (Collide: its strength), iterations; 3 the places; 4 the draws; 5 the buffer and 6 the buffer after;
+// 7 and 8 the work slots; 9 the links; 10 the strengths (Collide: the radii); 11 the distances.
 use crate::lists::read_bytes;
 use crate::lists::read_halves;
 use crate::lists::read_numbers;
@@ -17,8 +17,10 @@ fn ended_right(case: &[u8], a: Counts, buffer: &[u8], work: &[u64]) -> bool {
     same_words(case, 1, &answer) && same_bytes(case, 6, buffer) && same_words(case, 8, work)
 }
 
+// By the kind's number.
 fn call(
     case: &[u8],
+    kind: u64,
     places: &[f64],
     draws: &[f64],
     buffer: &mut [u8],
@@ -28,24 +30,38 @@ fn call(
     distances: &[f64],
 ) -> Counts {
     let start = argument(case, 0) as usize;
-    let alpha = float_of(argument(case, 1));
+    let setting = float_of(argument(case, 1));
     let iterations = argument(case, 2) as usize;
-    talemiku::talemiku_link(
-        places,
-        buffer,
-        start,
-        links,
-        strengths,
-        distances,
-        iterations,
-        alpha,
-        draws,
-        work,
-    )
+    match kind {
+        3 => talemiku::talemiku_link(
+            places,
+            buffer,
+            start,
+            links,
+            strengths,
+            distances,
+            iterations,
+            setting,
+            draws,
+            work,
+        ),
+        4 => talemiku::talemiku_many_body(places, buffer, start, strengths, setting, draws, work),
+        _ => talemiku::talemiku_collide(
+            places,
+            buffer,
+            start,
+            strengths,
+            setting,
+            iterations,
+            draws,
+            work,
+        ),
+    }
 }
 
 fn run(
     case: &[u8],
+    kind: u64,
     places: &mut [f64],
     draws: &mut [f64],
     buffer: &mut [u8],
@@ -63,6 +79,7 @@ fn run(
     read_numbers(case, 11, distances);
     let a = call(
         case,
+        kind,
         places,
         draws,
         buffer,
@@ -75,7 +92,7 @@ fn run(
 }
 
 // Room for 4,097 particles and 8,193 links, one too many of each.
-pub fn force_is_right(case: &[u8]) -> bool {
+pub fn force_is_right(case: &[u8], kind: u64) -> bool {
     let mut places = [0.0f64; 8194];
     let mut draws = [0.0f64; 64];
     let mut buffer = [0u8; 65536];
@@ -92,6 +109,7 @@ pub fn force_is_right(case: &[u8]) -> bool {
     let distances_lent = lent(case, 11, 8193);
     run(
         case,
+        kind,
         &mut places[..places_lent],
         &mut draws[..draws_lent],
         &mut buffer[..buffer_lent],

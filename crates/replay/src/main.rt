@@ -14,7 +14,7 @@ mod numbers;
 mod sample;
 mod trees;
 
-const KINDS: usize = 4;
+const KINDS: usize = 6;
 
 // Reads a case, and answers how long it is: 0 at the end, and for a case that is cut off or too long.
 fn read_case(space: &mut [u8]) -> usize
@@ -39,7 +39,7 @@ fn is_right(kind: u64, case: &[u8]) -> bool {
         0 => floor_is_right(case),
         1 => root_is_right(case),
         2 => tree_is_right(case),
-        3 => force_is_right(case),
+        3 | 4 | 5 => force_is_right(case, kind),
         _ => false,
     }
 }
@@ -89,6 +89,8 @@ fn report_all(right: &[u64; KINDS], all: &[u64; KINDS]) {
     report(b"roots ", right[1], all[1]);
     report(b"trees ", right[2], all[2]);
     report(b"Link ", right[3], all[3]);
+    report(b"ManyBody ", right[4], all[4]);
+    report(b"Collide ", right[5], all[5]);
 }
 
 // A case in the sample has fewer than 4,096 bytes.
