@@ -26,7 +26,7 @@ ghost use Rattle.rules.specs.Calls.{inputLengths, manyBodyResult};
 ghost use Rattle.force.specs.Calls.{lent, lentCheck, numbersCheck, Answered};
 
 // Theta 0.9, least distance 1, greatest infinite, each squared.
-fn standard() -> Tuning
+pub fn standard() -> Tuning
     ensures { λ r. ⌜ r ≡ Rule.standard ⌝ }
 {
     let infinite = float_of(0x7ff0_0000_0000_0000);

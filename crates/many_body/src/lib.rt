@@ -4,3 +4,4 @@ mod charge;
 pub mod many_body;
 
 pub use call::many_body_call;
+pub use call::standard;

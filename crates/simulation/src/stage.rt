@@ -6,9 +6,9 @@ use force::check::result_check;
 use force::index;
 use link::link::link;
 use many_body::many_body::many_body;
+use many_body::standard;
 use rules::ForceEntry;
 use rules::Refusal;
-use rules::Tuning;
 ghost use mathlib.Core.Path.{_≡_};
 ghost use mathlib.Core.List.{List};
 ghost use Prim.Native.Nat.{ℕ, _+_, _*_, _/_, _%_, _<_, _≤_, _^_};
@@ -16,24 +16,10 @@ ghost use lib.ListN.{length};
 ghost use lib.Ieee.{Float};
 ghost use Rattle.rules.specs.Force as Force;
 ghost use Rattle.rules.specs.Force.{endsOf};
-ghost use Rattle.rules.specs.ManyBody as ManyBody;
 ghost use Rattle.rules.specs.Tick as Rule;
 ghost use Rattle.rules.specs.Tick.{forceOf, pushStage, forceStage};
 ghost use Rattle.link.specs.Links.{EndsLent, ListsLent};
 ghost use Rattle.simulation.specs.Stage.{Columns, Chains, SlotFits, stateOf, idle, settledRan, Stages};
-
-// theta 0.9, least distance 1, greatest infinite, each squared.
-fn standard() -> Tuning
-    ensures { λ r. ⌜ r ≡ ManyBody.standard ⌝ }
-{
-    let theta = 0.9;
-    let least = 1.0;
-    Tuning {
-        theta2: theta * theta,
-        least2: least * least,
-        greatest2: 1.0 / 0.0,
-    }
-}
 
 // What a force answered, and after it 9.
 pub fn settled(places: &[f64], speeds: &[f64], ran: Ran) -> Ran
