@@ -162,16 +162,16 @@ keeps-slots l ticks settings r e = ⊎-elim (early-keeps r) (ten-keeps r) (early
 -- ---- what it lets pass
 
 pub sizes-passed : (sheet forces : List ℕ) (ticks : ℕ) → sizesCheck sheet forces ticks ≡ fine
-    → (lengthCheck sheet ≡ fine) × (countOf sheet ≤ 4096) × (checkEach (λ _ e. entryCounts e) (entriesOf forces) ≡ fine)
+    → (lengthCheck sheet ≡ fine) × (countOf sheet ≤ 4096) × (checkEach (λ _ e. entryCounts e) (entriesOf forces) ≡ fine) × (ticks ≤ 4096)
 sizes-passed sheet forces ticks h =
     let few = countCheck mostParticles (countOf sheet) in
     let a = then-both (lengthCheck sheet then few then countCheck mostTicks ticks) (checkEach (λ _ e. entryCounts e) (entriesOf forces)) h in
     let b = then-both (lengthCheck sheet then few) (countCheck mostTicks ticks) (a .0) in
     let c = then-both (lengthCheck sheet) few (b .0) in
-    (c .0, count-small 4096 (countOf sheet) (c .1), a .1)
+    (c .0, count-small 4096 (countOf sheet) (c .1), a .1, count-small 4096 ticks (b .1))
 
 pub passed : (l : SheetInput) (ticks : ℕ) (settings : List Float) → sheetCheck l ticks settings ≡ fine
-    → Fits (count l) (entries l) (l .numbers) (l .links) × (lengthCheck (l .sheet) ≡ fine) × (recordsCheck (particlesOf (l .sheet)) ≡ fine)
+    → Fits (count l) (entries l) (l .numbers) (l .links) × (lengthCheck (l .sheet) ≡ fine) × (recordsCheck (particlesOf (l .sheet)) ≡ fine) × (ticks ≤ 4096)
 passed l ticks settings h =
     let s = sizes l ticks in
     let a = then-both (rest l s) (settingsCheck settings) (sym (check-is l ticks settings) ∙ h) in
@@ -181,7 +181,7 @@ passed l ticks settings h =
     let e = then-both (s then lengths l) (ends l) (d .0) in
     let f = then-both s (lengths l) (e .0) in
     let g = sizes-passed (l .sheet) (l .forces) ticks (f .0) in
-    (record { few = g .1; counts = g .2; lengths = require-true (listLengths l) 2 0 (f .1); ends = e .1 }, g .0, d .1)
+    (record { few = g .1; counts = g .2; lengths = require-true (listLengths l) 2 0 (f .1); ends = e .1 }, g .0, d .1, g .3)
 
 -- ---- how the code answers it: q was answered for what comes before 2, b for 2, and r for what comes after
 

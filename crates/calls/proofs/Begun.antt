@@ -1,0 +1,72 @@
+-- What a tick and a step begin with: the checks are past, and the sheet is read into columns.
+use mathlib.Core.Path.{_≡_, sym, ap, subst, subst⁻¹, _∙_}
+use mathlib.Core.Bool.{Bool, true}
+use mathlib.Core.List.{List, []}
+use Prim.Native.Nat.{ℕ, _*_, _%_, _≤_, zero-le}
+use native.Mathlib.Omega.{arith}
+use borrow.Author.Tests.{eqb-true}
+use lib.Dec.{eqb}
+use lib.ListN.{length, replicate}
+use lib.Ieee.{Float}
+use Rattle.rules.specs.declared.Refusal.{Refusal}
+use Rattle.rules.specs.Plain.{all, zeros}
+use Rattle.rules.specs.Outcome.{Check, done, refused, fine, refusalOf}
+use Rattle.rules.specs.Number.{within, floatOf}
+use Rattle.rules.specs.Sheet.{recordSize, lengthCheck, countOf, particlesOf, placesOf}
+use Rattle.rules.specs.Tick.{SheetInput, State, state, entries, count, forces, forcesFrom, sheetCheck}
+use Rattle.sheet.proofs.Checked.{records-sound}
+use Rattle.force.proofs.Called.{require-true}
+use Rattle.checks.specs.Fits.{Fits}
+use Rattle.checks.proofs.Early.{prior-passes}
+use Rattle.checks.proofs.Whole.{prior-check, passed}
+use Rattle.simulation.specs.Stage.{Columns, Chains, stateOf}
+use Rattle.simulation.proofs.Flags.{columns-of}
+use Rattle.calls.specs.Columns.{Lists, Read, Writable}
+
+-- ---- the checks
+
+-- where a number is answered, the check is that refusal
+pub stopped : (c : Check) (q : Refusal) → q ≡ refusalOf c → (q .number ≡ 0 → ⊥) → c ≡ refused q
+stopped (done t) q e h = absurd (h (ap (λ (r : Refusal). r .number) e))
+stopped (refused r) q e h = ap refused (sym e)
+
+-- where number 0 is answered, nothing is refused
+pub past : (l : SheetInput) (ticks : ℕ) (settings : List Float) (q : Refusal) → q ≡ refusalOf (sheetCheck l ticks settings) → q .number ≡ 0 → sheetCheck l ticks settings ≡ fine
+past l ticks settings q e z = prior-passes (sheetCheck l ticks settings) q (prior-check l ticks settings) e z
+
+whole-records : (s : List ℕ) → lengthCheck s ≡ fine → length s ≡ countOf s * 40
+unfolding lengthCheck
+whole-records s h = omega (arith, eqb-true (length s % recordSize) 0 (require-true (eqb (length s % recordSize) 0) 10 0 h))
+
+-- what is known then
+pub record Checked (l : SheetInput) (ticks : ℕ) : Type 0 where
+  pub fits : Fits (count l) (entries l) (l .numbers) (l .links)
+  pub whole : length (l .sheet) ≡ countOf (l .sheet) * 40
+  pub ranged : all within (placesOf (particlesOf (l .sheet))) ≡ true
+  pub few : ticks ≤ 4096
+
+pub checked : (l : SheetInput) (ticks : ℕ) (settings : List Float) → sheetCheck l ticks settings ≡ fine → Checked l ticks
+checked l ticks settings h =
+    let p = passed l ticks settings h in
+    record { fits = p .0; whole = whole-records (l .sheet) (p .1); ranged = records-sound (particlesOf (l .sheet)) (p .2) .places; few = p .3 }
+
+-- ---- the columns
+
+module _ (l : SheetInput) (places speeds : List Float) (flags : List ℕ) (r : Read (l .sheet) places speeds flags) where
+  -- they stand for the sheet's particles
+  pub begun-is : (a : Float) → a ≡ floatOf (l .alpha) → stateOf places speeds flags a (l .draws) 0 0 ≡ state (particlesOf (l .sheet)) (floatOf (l .alpha)) (l .draws) 0
+  begun-is a e = rw (columns-of (particlesOf (l .sheet)) places speeds flags (sym (r .at)) (sym (r .fast)) (sym (r .held)), e)
+
+  module _ (ticks : ℕ) (k : Checked l ticks) (n : length flags ≡ count l) where
+    pub fits-columns : Fits (length flags) (entries l) (l .numbers) (l .links)
+    fits-columns = subst⁻¹ (λ (m : ℕ). Fits m (entries l) (l .numbers) (l .links)) n (k .fits)
+
+    pub columns : length places ≡ count l * 2 → length speeds ≡ count l * 2 → Columns places speeds (l .draws) (length flags) 0
+    columns hp hv =
+        record {
+          few = fits-columns .few;
+          places = hp ∙ ap (λ (m : ℕ). m * 2) (sym n);
+          speeds = hv ∙ ap (λ (m : ℕ). m * 2) (sym n);
+          ranged = rw (r .at) (k .ranged);
+          drawn = zero-le;
+        }

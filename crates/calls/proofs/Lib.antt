@@ -1,0 +1,4 @@
+mod ByColumns
+mod Begun
+mod TickCalled
+mod StepCalled
