@@ -17,8 +17,9 @@ use Rattle.rules.specs.Tick.{SheetInput, State, state, entries, count, forces, 
 use Rattle.sheet.proofs.Checked.{records-sound}
 use Rattle.force.proofs.Called.{require-true}
 use Rattle.checks.specs.Fits.{Fits}
+use Rattle.checks.specs.Input.{lentSheet}
 use Rattle.checks.proofs.Early.{prior-passes}
-use Rattle.checks.proofs.Whole.{prior-check, passed}
+use Rattle.checks.proofs.Whole.{check-same, prior-check, passed}
 use Rattle.simulation.specs.Stage.{Columns, Chains, stateOf}
 use Rattle.simulation.proofs.Flags.{columns-of}
 use Rattle.calls.specs.Columns.{Lists, Read, Writable}
@@ -29,6 +30,12 @@ use Rattle.calls.specs.Columns.{Lists, Read, Writable}
 pub stopped : (c : Check) (q : Refusal) → q ≡ refusalOf c → (q .number ≡ 0 → ⊥) → c ≡ refused q
 stopped (done t) q e h = absurd (h (ap (λ (r : Refusal). r .number) e))
 stopped (refused r) q e h = ap refused (sym e)
+
+-- alpha and the work slots are not looked at
+pub answered : (l : SheetInput) (ticks : ℕ) (settings : List Float) (q : Refusal)
+    → q ≡ refusalOf (sheetCheck (lentSheet (l .sheet) 0 (l .forces) (l .numbers) (l .links) (l .draws) []) ticks settings) → q ≡ refusalOf (sheetCheck l ticks settings)
+answered l ticks settings q e =
+    e ∙ ap (λ (c : Check). refusalOf c) (check-same (l .sheet) (l .alpha) (l .forces) (l .numbers) (l .links) (l .draws) (l .work) ticks settings)
 
 -- where number 0 is answered, nothing is refused
 pub past : (l : SheetInput) (ticks : ℕ) (settings : List Float) (q : Refusal) → q ≡ refusalOf (sheetCheck l ticks settings) → q .number ≡ 0 → sheetCheck l ticks settings ≡ fine
@@ -52,21 +59,34 @@ checked l ticks settings h =
 
 -- ---- the columns
 
+-- lists as long as these
+pub lists-kept : {n : ℕ} {places speeds places' speeds' home was : List Float} {flags flags' next tail : List ℕ} → Lists n places speeds flags home was next tail
+    → length places' ≡ length places → length speeds' ≡ length speeds → length flags' ≡ length flags → Lists n places' speeds' flags' home was next tail
+lists-kept k p v f = record { at = p ∙ k .at; fast = v ∙ k .fast; held = f ∙ k .held; begun = k .begun; began = k .began; links = k .links; tails = k .tails }
+
+-- the sheet was read into columns
 module _ (l : SheetInput) (places speeds : List Float) (flags : List ℕ) (r : Read (l .sheet) places speeds flags) where
-  -- they stand for the sheet's particles
+  -- they stand for its particles
   pub begun-is : (a : Float) → a ≡ floatOf (l .alpha) → stateOf places speeds flags a (l .draws) 0 0 ≡ state (particlesOf (l .sheet)) (floatOf (l .alpha)) (l .draws) 0
   begun-is a e = rw (columns-of (particlesOf (l .sheet)) places speeds flags (sym (r .at)) (sym (r .fast)) (sym (r .held)), e)
 
-  module _ (ticks : ℕ) (k : Checked l ticks) (n : length flags ≡ count l) where
-    pub fits-columns : Fits (length flags) (entries l) (l .numbers) (l .links)
-    fits-columns = subst⁻¹ (λ (m : ℕ). Fits m (entries l) (l .numbers) (l .links)) n (k .fits)
+  module _ (ticks : ℕ) (k : Checked l ticks) {home was : List Float} {next tail : List ℕ} (n : Lists (count l) places speeds flags home was next tail) where
+    -- a pair for each flag
+    pub pairs : (m : ℕ) → m ≡ count l * 2 → m ≡ length flags * 2
+    pairs m h = h ∙ ap (λ (m : ℕ). m * 2) (sym (n .held))
 
-    pub columns : length places ≡ count l * 2 → length speeds ≡ count l * 2 → Columns places speeds (l .draws) (length flags) 0
-    columns hp hv =
+    pub fits-columns : Fits (length flags) (entries l) (l .numbers) (l .links)
+    fits-columns = subst⁻¹ (λ (m : ℕ). Fits m (entries l) (l .numbers) (l .links)) (n .held) (k .fits)
+
+    pub columns : Columns places speeds (l .draws) (length flags) 0
+    columns =
         record {
           few = fits-columns .few;
-          places = hp ∙ ap (λ (m : ℕ). m * 2) (sym n);
-          speeds = hv ∙ ap (λ (m : ℕ). m * 2) (sym n);
+          places = pairs (length places) (n .at);
+          speeds = pairs (length speeds) (n .fast);
           ranged = rw (r .at) (k .ranged);
           drawn = zero-le;
         }
+
+    pub chains : Chains (length flags) next tail
+    chains = record { links = n .links ∙ sym (n .held); tails = n .tails ∙ sym (n .held) }

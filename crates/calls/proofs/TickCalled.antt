@@ -4,6 +4,7 @@ use mathlib.Core.Bool.{Bool, true, false, cond}
 use mathlib.Core.List.{List}
 use Prim.Native.Nat.{ℕ, _-_, _≤_}
 use native.Mathlib.Omega.{arith}
+use borrow.Author.Tests.{eq-eqb, ne-eqb}
 use lib.Dec.{eqb}
 use lib.ListN.{length, drop, replicate, length-drop}
 use lib.Ieee.{Float}
@@ -11,18 +12,19 @@ use Rattle.rules.specs.declared.Refusal.{Refusal}
 use Rattle.rules.specs.declared.Counts.{Counts}
 use Rattle.rules.specs.declared.Settings.{Settings}
 use Rattle.rules.specs.Outcome.{Outcome, Check, done, refused, fine, _>>=_, refusalOf, zeroesWork}
-use Rattle.rules.specs.Number.{floatOf}
+use Rattle.rules.specs.Plain.{zeros}
+use Rattle.rules.specs.Number.{floatOf, bitsOf}
 use Rattle.rules.specs.Sheet.{particlesOf}
 use Rattle.rules.specs.Calls.{slotsOf}
 use Rattle.rules.specs.Tick.{SheetInput, State, Force, count, entries, forces, forcesFrom, sheetCheck, tick, begun, tickSettings, tickResult, tickAnswer, sheetAfterTick, alphaAfterTick, workAfterTick}
 use Rattle.sheet.specs.Columns.{flagsOf}
-use Rattle.force.specs.Calls.{noCounts}
+use Rattle.force.specs.Calls.{noCounts, countsAfter}
 use Rattle.force.specs.Columns.{particlesFrom}
 use Rattle.checks.proofs.Whole.{keeps-slots}
 use Rattle.simulation.specs.declared.tick.Ticked.{Ticked}
 use Rattle.simulation.specs.Stage.{stateOf}
 use Rattle.simulation.specs.Tick.{tickedOf, Ticks}
-use Rattle.calls.specs.Columns.{Read}
+use Rattle.calls.specs.Columns.{Read, written}
 use Rattle.calls.specs.Tick.{standing, TickSettled, TickEnds}
 use Rattle.calls.proofs.Begun.{begun-is}
 
@@ -48,6 +50,19 @@ stands-late t h = go (eqb (t .refusal .number) 0) h
     go : (b : Bool) → zeroesWork (t .refusal) ≡ true → zeroesWork (refusalOf (cond b fine (refused (t .refusal)))) ≡ true
     go true h = refl
     go false h = h
+
+-- ---- how a tick t is settled
+
+module _ (t : Ticked) (places speeds : List Float) (sheet : List ℕ) (alpha : ℕ) (work work' : List ℕ) where
+  pub settled-refused : (r : Counts) → (t .refusal .number ≡ 0 → ⊥) → r ≡ noCounts (t .refusal) → work' ≡ zeros work
+      → TickSettled (standing t) t places speeds sheet alpha work r sheet alpha work'
+  unfolding standing
+  settled-refused r h er ew = let e = ne-eqb (t .refusal .number) 0 h in record { answer = er ∙ rw e; bytes = rw e; heat = rw e; slots = ew }
+
+  pub settled-done : (sheet' : List ℕ) (alpha' : ℕ) → t .refusal .number ≡ 0 → sheet' ≡ written sheet places speeds → alpha' ≡ bitsOf (t .alpha) → work' ≡ zeros work
+      → TickSettled (standing t) t places speeds sheet alpha work (countsAfter fine (t .visits) (t .used)) sheet' alpha' work'
+  unfolding standing
+  settled-done sheet' alpha' h es ea ew = let e = eq-eqb (t .refusal .number) 0 h in record { answer = rw e; bytes = es ∙ rw e; heat = ea ∙ rw e; slots = ew }
 
 module _ (l : SheetInput) (s : Settings) where
   -- ---- refused before it begins: nothing changes
