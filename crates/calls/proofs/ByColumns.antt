@@ -53,8 +53,8 @@ pub columns-written : (sheet : List ℕ) (places speeds : List Float) (mid end :
 columns-written sheet places speeds mid end b h em ee =
     ee
     ∙ rw em (
-      rw (places-back places speeds flags (h .at ∙ twice), speeds-back places speeds flags (h .fast ∙ twice)) at
-      (sheet-of-columns qs sheet b (omega (arith, h .whole, particles-count places speeds flags, flags-count sheet)) (sym (flags-back places speeds flags)))
+    rw (places-back places speeds flags (h .at ∙ twice), speeds-back places speeds flags (h .fast ∙ twice)) at
+    (sheet-of-columns qs sheet b (omega (arith, h .whole, particles-count places speeds flags, flags-count sheet)) (sym (flags-back places speeds flags)))
     )
   where
     flags : List ℕ

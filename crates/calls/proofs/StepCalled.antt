@@ -34,8 +34,8 @@ module _ (l : SheetInput) (s : Settings) (least : Float) (budget : ℕ) where
   step-stopped q r e er = record { answer = er ∙ rw e; sheet = rw e; alpha = rw e; work = rw (e, keeps-slots l budget (tickSettings l s ++ (least ∷ [])) q e) }
 
   module _ (c : sheetCheck l budget (tickSettings l s ++ (least ∷ [])) ≡ fine) (places speeds at vs : List Float) (flags : List ℕ) (a : Float) (t : Stepped)
-    (r : Read (l .sheet) places speeds flags) (n : length flags ≡ count l) (ea : a ≡ floatOf (l .alpha))
-    (k : Steps at vs flags (l .draws) budget t (ticksFrom s least (forcesFrom (length flags) (entries l) (l .numbers) (l .links)) (slotsOf (l .work)) budget 0 (stateOf places speeds flags a (l .draws) 0 0))) where
+      (r : Read (l .sheet) places speeds flags) (n : length flags ≡ count l) (ea : a ≡ floatOf (l .alpha))
+      (k : Steps at vs flags (l .draws) budget t (ticksFrom s least (forcesFrom (length flags) (entries l) (l .numbers) (l .links)) (slotsOf (l .work)) budget 0 (stateOf places speeds flags a (l .draws) 0 0))) where
     result-is : stepResult l s least budget ≡ done (ranFor (t .ticks) (t .refusal) (stateOf at vs flags (t .alpha) (l .draws) (t .used) (t .visits)))
     unfolding stepResult
     result-is =

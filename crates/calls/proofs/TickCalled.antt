@@ -93,8 +93,8 @@ module _ (l : SheetInput) (s : Settings) where
       record { answer = h .answer ∙ rw e; sheet = h .bytes ∙ rw e; alpha = h .heat ∙ rw e; work = h .slots ∙ rw (e, z, ew) }
 
   module _ (c : sheetCheck l 0 (tickSettings l s) ≡ fine) (places speeds at vs : List Float) (flags : List ℕ) (a : Float) (t : Ticked)
-    (r : Read (l .sheet) places speeds flags) (n : length flags ≡ count l) (ea : a ≡ floatOf (l .alpha))
-    (k : Ticks places speeds at vs flags a (l .draws) 0 0 t (tick s (forcesFrom (length flags) (entries l) (l .numbers) (l .links)) (slotsOf (l .work)) (stateOf places speeds flags a (l .draws) 0 0))) where
+      (r : Read (l .sheet) places speeds flags) (n : length flags ≡ count l) (ea : a ≡ floatOf (l .alpha))
+      (k : Ticks places speeds at vs flags a (l .draws) 0 0 t (tick s (forcesFrom (length flags) (entries l) (l .numbers) (l .links)) (slotsOf (l .work)) (stateOf places speeds flags a (l .draws) 0 0))) where
     result-is : tickResult l s ≡ standing t >>= λ _. done (stateOf at vs flags (t .alpha) (l .draws) (t .used) (t .visits))
     unfolding tickResult
     result-is =

@@ -7,12 +7,18 @@ pub use centring::talemiku_center;
 pub use closing::talemiku_apply_velocities;
 use rules::Counts;
 use rules::FloorAnswer;
+use rules::Settings;
+use rules::StepAnswer;
 use rules::TreeAnswer;
 ghost use mathlib.Core.Path.{_≡_};
 ghost use Rattle.rules.specs.Floor.{floorAnswer};
 ghost use Rattle.rules.specs.Root.{rootBits};
 ghost use Rattle.rules.specs.Refusal.{mostParticles};
 ghost use Rattle.rules.specs.Calls.{treeResult, manyBodyResult, collideResult, linkResult};
+ghost use Rattle.rules.specs.Tick.{settings};
+ghost use Rattle.checks.specs.Input.{lentSheet};
+ghost use Rattle.calls.specs.Tick.{TickEnds};
+ghost use Rattle.calls.specs.Step.{StepEnds};
 ghost use Rattle.tree.specs.Tree as Tree;
 ghost use Rattle.force.specs.Calls.{lent, Answered};
 
@@ -117,6 +123,69 @@ pub extern "C" fn talemiku_link(
         iterations,
         alpha,
         draws,
+        work,
+    )
+}
+
+// One tick of a sheet. Alpha is lent as the word of its bits; `forces` are eight entries of seven words, whose numbers and link ends lie one after another.
+#[no_mangle]
+pub extern "C" fn talemiku_tick(
+    sheet: &mut [u8],
+    alpha: &mut u64,
+    forces: &[u64; 56],
+    numbers: &[f64],
+    links: &[u32],
+    draws: &[f64],
+    target: f64,
+    cooling: f64,
+    decay: f64,
+    work: &mut [u64],
+) -> Counts
+    ensures { λ r. ⌜ (let l = lentSheet (now (sheet .entry)) (now (alpha .entry)) (now (forces .entry)) (now (numbers .entry)) (now (links .entry)) (now (draws .entry)) (now (work .entry)) in
+        TickEnds l (settings target cooling decay) r (now (sheet .exit)) (now (alpha .exit)) (now (work .exit))) ⌝ }
+{
+    let s = Settings {
+        target,
+        cooling,
+        decay,
+    };
+    calls::tick::tick(sheet, alpha, forces, numbers, links, draws, s, work)
+}
+
+// Ticks of a sheet while alpha is over `least`, at most `budget`.
+#[no_mangle]
+pub extern "C" fn talemiku_step(
+    sheet: &mut [u8],
+    alpha: &mut u64,
+    forces: &[u64; 56],
+    numbers: &[f64],
+    links: &[u32],
+    draws: &[f64],
+    target: f64,
+    cooling: f64,
+    decay: f64,
+    least: f64,
+    budget: u64,
+    work: &mut [u64],
+) -> StepAnswer
+    ensures { λ r. ⌜ (let l = lentSheet (now (sheet .entry)) (now (alpha .entry)) (now (forces .entry)) (now (numbers .entry)) (now (links .entry)) (now (draws .entry)) (now (work .entry)) in
+        StepEnds l (settings target cooling decay) least budget r (now (sheet .exit)) (now (alpha .exit)) (now (work .exit))) ⌝ }
+{
+    let s = Settings {
+        target,
+        cooling,
+        decay,
+    };
+    calls::step::step(
+        sheet,
+        alpha,
+        forces,
+        numbers,
+        links,
+        draws,
+        s,
+        least,
+        budget,
         work,
     )
 }
