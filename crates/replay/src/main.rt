@@ -6,15 +6,17 @@ use crate::forces::force_is_right;
 use crate::numbers::floor_is_right;
 use crate::numbers::root_is_right;
 use crate::sample::word_of;
+use crate::ticks::sheet_is_right;
 use crate::trees::tree_is_right;
 
 mod forces;
 mod lists;
 mod numbers;
 mod sample;
+mod ticks;
 mod trees;
 
-const KINDS: usize = 6;
+const KINDS: usize = 8;
 
 // Reads a case, and answers how long it is: 0 at the end, and for a case that is cut off or too long.
 fn read_case(space: &mut [u8]) -> usize
@@ -40,6 +42,8 @@ fn is_right(kind: u64, case: &[u8]) -> bool {
         1 => root_is_right(case),
         2 => tree_is_right(case),
         3 | 4 | 5 => force_is_right(case, kind),
+        6 => sheet_is_right(case, false),
+        7 => sheet_is_right(case, true),
         _ => false,
     }
 }
@@ -91,6 +95,8 @@ fn report_all(right: &[u64; KINDS], all: &[u64; KINDS]) {
     report(b"Link ", right[3], all[3]);
     report(b"ManyBody ", right[4], all[4]);
     report(b"Collide ", right[5], all[5]);
+    report(b"ticks ", right[6], all[6]);
+    report(b"steps ", right[7], all[7]);
 }
 
 // A case in the sample has fewer than 4,096 bytes.
