@@ -1,20 +1,21 @@
 -- What a tick and a step begin with: the checks are past, and the sheet is read into columns.
-use mathlib.Core.Path.{_≡_, sym, ap, subst, subst⁻¹, _∙_}
-use mathlib.Core.Bool.{Bool, true}
+use mathlib.Core.Path.{_≡_, sym, ap, subst⁻¹, _∙_}
+use mathlib.Core.Bool.{true}
 use mathlib.Core.List.{List, []}
-use Prim.Native.Nat.{ℕ, _*_, _%_, _≤_, zero-le}
+use Prim.Native.Nat.{ℕ, _-_, _*_, _%_, _≤_, zero-le}
 use native.Mathlib.Omega.{arith}
 use borrow.Author.Tests.{eqb-true}
 use lib.Dec.{eqb}
-use lib.ListN.{length, replicate}
+use lib.ListN.{length, drop, length-drop}
 use lib.Ieee.{Float}
 use Rattle.rules.specs.declared.Refusal.{Refusal}
-use Rattle.rules.specs.Plain.{all, zeros}
-use Rattle.rules.specs.Outcome.{Check, done, refused, fine, refusalOf}
+use Rattle.rules.specs.Plain.{all}
+use Rattle.rules.specs.Outcome.{Check, refused, fine, refusalOf}
 use Rattle.rules.specs.Number.{within, floatOf}
 use Rattle.rules.specs.Sheet.{recordSize, lengthCheck, countOf, particlesOf, placesOf}
-use Rattle.rules.specs.Tick.{SheetInput, State, state, entries, count, forces, forcesFrom, sheetCheck}
+use Rattle.rules.specs.Tick.{SheetInput, state, entries, count, sheetCheck}
 use Rattle.sheet.proofs.Checked.{records-sound}
+use Rattle.force.proofs.Scans.{stops}
 use Rattle.force.proofs.Called.{require-true}
 use Rattle.checks.specs.Fits.{Fits}
 use Rattle.checks.specs.Input.{lentSheet}
@@ -22,14 +23,9 @@ use Rattle.checks.proofs.Early.{prior-passes}
 use Rattle.checks.proofs.Whole.{check-same, prior-check, passed}
 use Rattle.simulation.specs.Stage.{Columns, Chains, stateOf}
 use Rattle.simulation.proofs.Flags.{columns-of}
-use Rattle.calls.specs.Columns.{Lists, Read, Writable}
+use Rattle.calls.specs.Columns.{Lists, Read}
 
 -- ---- the checks
-
--- where a number is answered, the check is that refusal
-pub stopped : (c : Check) (q : Refusal) → q ≡ refusalOf c → (q .number ≡ 0 → ⊥) → c ≡ refused q
-stopped (done t) q e h = absurd (h (ap (λ (r : Refusal). r .number) e))
-stopped (refused r) q e h = ap refused (sym e)
 
 -- alpha and the work slots are not looked at
 pub answered : (l : SheetInput) (ticks : ℕ) (settings : List Float) (q : Refusal)
@@ -37,15 +33,20 @@ pub answered : (l : SheetInput) (ticks : ℕ) (settings : List Float) (q : Refus
 answered l ticks settings q e =
     e ∙ ap (λ (c : Check). refusalOf c) (check-same (l .sheet) (l .alpha) (l .forces) (l .numbers) (l .links) (l .draws) (l .work) ticks settings)
 
--- where number 0 is answered, nothing is refused
-pub past : (l : SheetInput) (ticks : ℕ) (settings : List Float) (q : Refusal) → q ≡ refusalOf (sheetCheck l ticks settings) → q .number ≡ 0 → sheetCheck l ticks settings ≡ fine
-past l ticks settings q e z = prior-passes (sheetCheck l ticks settings) q (prior-check l ticks settings) e z
+-- q was answered
+module _ (l : SheetInput) (ticks : ℕ) (settings : List Float) (q : Refusal) (e : q ≡ refusalOf (sheetCheck l ticks settings)) where
+  pub stopped : (q .number ≡ 0 → ⊥) → sheetCheck l ticks settings ≡ refused q
+  stopped h = stops (sheetCheck l ticks settings) (λ z. h (ap (λ (r : Refusal). r .number) e ∙ z)) ∙ ap refused (sym e)
 
+  pub past : q .number ≡ 0 → sheetCheck l ticks settings ≡ fine
+  past z = prior-passes (sheetCheck l ticks settings) q (prior-check l ticks settings) e z
+
+-- whole records
 whole-records : (s : List ℕ) → lengthCheck s ≡ fine → length s ≡ countOf s * 40
 unfolding lengthCheck
 whole-records s h = omega (arith, eqb-true (length s % recordSize) 0 (require-true (eqb (length s % recordSize) 0) 10 0 h))
 
--- what is known then
+-- what is known where nothing is refused
 pub record Checked (l : SheetInput) (ticks : ℕ) : Type 0 where
   pub fits : Fits (count l) (entries l) (l .numbers) (l .links)
   pub whole : length (l .sheet) ≡ countOf (l .sheet) * 40
@@ -90,3 +91,9 @@ module _ (l : SheetInput) (places speeds : List Float) (flags : List ℕ) (r : R
 
     pub chains : Chains (length flags) next tail
     chains = record { links = n .links ∙ sym (n .held); tails = n .tails ∙ sym (n .held) }
+
+-- ---- the draws
+
+-- as many are used as are no longer left
+pub spent : (ds : List Float) (used : ℕ) → used ≤ length ds → length ds - length (drop used ds) ≡ used
+spent ds used h = simp length-drop (omega arith)

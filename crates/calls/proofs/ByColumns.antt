@@ -7,7 +7,7 @@ use lib.ListN.{length, length-map}
 use lib.Ieee.{Float}
 use Rattle.rules.specs.declared.Particle.{Particle}
 use Rattle.rules.specs.Plain.{upTo}
-use Rattle.rules.specs.Sheet.{countOf, particlesOf, recordsFrom, placesOf, speedsOf, pairsFrom}
+use Rattle.rules.specs.Sheet.{countOf, particlesOf, recordsFrom, pairsFrom}
 use Rattle.rules.proofs.CellCount.{length-upTo}
 use Rattle.sheet.specs.Columns.{flagsOf, putPairs}
 use Rattle.sheet.proofs.Bytes.{Bytes}

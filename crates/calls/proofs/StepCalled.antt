@@ -2,24 +2,23 @@
 use mathlib.Core.Path.{_≡_, refl, sym, ap, _∙_}
 use mathlib.Core.Bool.{true}
 use mathlib.Core.List.{List, [], _∷_, _++_}
-use Prim.Native.Nat.{ℕ, _-_}
-use native.Mathlib.Omega.{arith}
-use lib.ListN.{length, drop, length-drop}
+use Prim.Native.Nat.{ℕ}
+use lib.ListN.{length}
 use lib.Ieee.{Float}
 use Rattle.rules.specs.declared.Refusal.{Refusal}
 use Rattle.rules.specs.declared.Settings.{Settings}
 use Rattle.rules.specs.declared.StepAnswer.{StepAnswer}
-use Rattle.rules.specs.Outcome.{Outcome, Check, done, refused, refusal, fine, _>>=_, zeroesWork}
+use Rattle.rules.specs.Outcome.{Check, done, refused, refusal, fine, _>>=_, zeroesWork}
 use Rattle.rules.specs.Number.{floatOf}
 use Rattle.rules.specs.Calls.{slotsOf}
-use Rattle.rules.specs.Tick.{SheetInput, Run, ranFor, count, entries, forces, forcesFrom, sheetCheck, begun, tickSettings, ticksFrom, stepResult, stepAnswer, sheetAfterStep, alphaAfterStep, workAfterStep}
+use Rattle.rules.specs.Tick.{SheetInput, ranFor, count, entries, forces, forcesFrom, sheetCheck, begun, tickSettings, ticksFrom, stepResult, stepAnswer, sheetAfterStep, alphaAfterStep, workAfterStep}
 use Rattle.checks.proofs.Whole.{keeps-slots}
 use Rattle.simulation.specs.declared.step.Stepped.{Stepped}
 use Rattle.simulation.specs.Stage.{stateOf}
 use Rattle.simulation.specs.Step.{Steps}
 use Rattle.calls.specs.Columns.{Read}
 use Rattle.calls.specs.Step.{noTicks, StepSettled, StepEnds}
-use Rattle.calls.proofs.Begun.{begun-is}
+use Rattle.calls.proofs.Begun.{begun-is, spent}
 
 -- an accepted step leaves the work slots zero
 none-zeroes : zeroesWork (refusal 0 0) ≡ true
@@ -45,16 +44,13 @@ module _ (l : SheetInput) (s : Settings) (least : Float) (budget : ℕ) where
         ∙ ap (ticksFrom s least (forces l) (slotsOf (l .work)) budget 0) (begun-is l places speeds flags r a ea))
         ∙ sym (k .is))
 
-    spent : length (l .draws) - length (drop (t .used) (l .draws)) ≡ t .used
-    spent = simp length-drop (omega (arith, k .drawn))
-
     -- the ticks ran, and what they left was written
     pub step-ran : (work : List ℕ) (q : StepAnswer) (sheet' : List ℕ) (alpha' : ℕ) (work' : List ℕ) → length work ≡ length (l .work)
         → StepSettled t least at vs (l .sheet) work q sheet' alpha' work' → StepEnds l s least budget q sheet' alpha' work'
     unfolding stepAnswer sheetAfterStep alphaAfterStep workAfterStep
     step-ran work q sheet' alpha' work' ew h =
         record {
-          answer = h .answer ∙ rw (result-is, spent);
+          answer = h .answer ∙ rw (result-is, spent (l .draws) (t .used) (k .drawn));
           sheet = h .bytes ∙ rw (result-is, r .held);
           alpha = h .heat ∙ rw result-is;
           work = h .slots ∙ rw (result-is, none-zeroes, ew);

@@ -2,31 +2,29 @@
 use mathlib.Core.Path.{_≡_, refl, sym, ap, _∙_}
 use mathlib.Core.Bool.{Bool, true, false, cond}
 use mathlib.Core.List.{List}
-use Prim.Native.Nat.{ℕ, _-_, _≤_}
-use native.Mathlib.Omega.{arith}
+use Prim.Native.Nat.{ℕ, _≤_}
 use borrow.Author.Tests.{eq-eqb, ne-eqb}
 use lib.Dec.{eqb}
-use lib.ListN.{length, drop, replicate, length-drop}
+use lib.ListN.{length}
 use lib.Ieee.{Float}
 use Rattle.rules.specs.declared.Refusal.{Refusal}
 use Rattle.rules.specs.declared.Counts.{Counts}
 use Rattle.rules.specs.declared.Settings.{Settings}
-use Rattle.rules.specs.Outcome.{Outcome, Check, done, refused, fine, _>>=_, refusalOf, zeroesWork}
+use Rattle.rules.specs.Outcome.{Check, done, refused, fine, _>>=_, refusalOf, zeroesWork}
 use Rattle.rules.specs.Plain.{zeros}
 use Rattle.rules.specs.Number.{floatOf, bitsOf}
 use Rattle.rules.specs.Sheet.{particlesOf}
 use Rattle.rules.specs.Calls.{slotsOf}
-use Rattle.rules.specs.Tick.{SheetInput, State, Force, count, entries, forces, forcesFrom, sheetCheck, tick, begun, tickSettings, tickResult, tickAnswer, sheetAfterTick, alphaAfterTick, workAfterTick}
+use Rattle.rules.specs.Tick.{SheetInput, State, count, entries, forces, forcesFrom, sheetCheck, tick, begun, tickSettings, tickResult, tickAnswer, sheetAfterTick, alphaAfterTick, workAfterTick}
 use Rattle.sheet.specs.Columns.{flagsOf}
 use Rattle.force.specs.Calls.{noCounts, countsAfter}
-use Rattle.force.specs.Columns.{particlesFrom}
 use Rattle.checks.proofs.Whole.{keeps-slots}
 use Rattle.simulation.specs.declared.tick.Ticked.{Ticked}
 use Rattle.simulation.specs.Stage.{stateOf}
 use Rattle.simulation.specs.Tick.{tickedOf, Ticks}
 use Rattle.calls.specs.Columns.{Read, written}
 use Rattle.calls.specs.Tick.{standing, TickSettled, TickEnds}
-use Rattle.calls.proofs.Begun.{begun-is}
+use Rattle.calls.proofs.Begun.{begun-is, spent}
 
 -- ---- what stands
 
@@ -81,14 +79,11 @@ module _ (l : SheetInput) (s : Settings) where
   unfolding tickAnswer sheetAfterTick alphaAfterTick workAfterTick
   settled-ends (done u) t at vs flags work r sheet' alpha' work' e z ef hu ew h =
       record {
-        answer = h .answer ∙ rw (e, spent);
+        answer = h .answer ∙ rw (e, spent (l .draws) (t .used) hu);
         sheet = h .bytes ∙ rw (e, ef);
         alpha = h .heat ∙ rw e;
         work = h .slots ∙ rw (e, z, ew);
       }
-    where
-      spent : length (l .draws) - length (drop (t .used) (l .draws)) ≡ t .used
-      spent = simp length-drop (omega arith)
   settled-ends (refused q) t at vs flags work r sheet' alpha' work' e z ef hu ew h =
       record { answer = h .answer ∙ rw e; sheet = h .bytes ∙ rw e; alpha = h .heat ∙ rw e; work = h .slots ∙ rw (e, z, ew) }
 

@@ -30,7 +30,7 @@ returns : tie.Need-returns
 returns c =
     let d = c .before .before in
     let s = start d in
-    step-stopped (input s) (s .args .s) (s .args .least) (s .args .budget) (d .step-check .result) (c .refused-step .result) (stopped (sheetCheck (input s) (s .args .budget) (tickSettings (input s) (s .args .s) ++ (s .args .least ∷ []))) (d .step-check .result) (answer d) (c .before .if1 .taken)) (c .refused-step .ensures)
+    step-stopped (input s) (s .args .s) (s .args .least) (s .args .budget) (d .step-check .result) (c .refused-step .result) (stopped (input s) (s .args .budget) (tickSettings (input s) (s .args .s) ++ (s .args .least ∷ [])) (d .step-check .result) (answer d) (c .before .if1 .taken)) (c .refused-step .ensures)
 
 with-lists-requires : tie.Need-with-lists-requires
 with-lists-requires c κs =

@@ -30,7 +30,7 @@ returns : tie.Need-returns
 returns c =
     let d = c .before .before in
     let s = start d in
-    tick-stopped (input s) (s .args .s) (d .tick-check .result) (c .refused .result) (stopped (sheetCheck (input s) 0 (tickSettings (input s) (s .args .s))) (d .tick-check .result) (answer d) (c .before .if1 .taken)) (c .refused .ensures)
+    tick-stopped (input s) (s .args .s) (d .tick-check .result) (c .refused .result) (stopped (input s) 0 (tickSettings (input s) (s .args .s)) (d .tick-check .result) (answer d) (c .before .if1 .taken)) (c .refused .ensures)
 
 with-lists-requires : tie.Need-with-lists-requires
 with-lists-requires c κs =
