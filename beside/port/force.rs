@@ -5,10 +5,17 @@ use crate::fence::Fenced;
 use crate::lent::{expect, lengths_rule, refused, require, same, zeroes_work, Layout, Line, WORK};
 use talemiku::raw::{self, Counts};
 
-/// What a force is lent. Of `lists`, Link has two (strengths, distances) and the others one.
+#[derive(Clone, Copy, PartialEq)]
+enum Kind {
+    ManyBody,
+    Collide,
+    Link,
+}
+
+/// What a force is lent. Of `lists`, Link has two (strengths, distances) and the others one; `setting` is Collide's strength, and alpha of the others.
 #[derive(Clone)]
 struct Call {
-    letter: char,
+    kind: Kind,
     places: Vec<f64>,
     buffer: Vec<u8>,
     start: usize,
@@ -40,16 +47,17 @@ impl Call {
         }
         let rest = layout.below(40);
         buffer.extend(layout.bytes(rest));
-        let (letter, links, lists, setting, iterations) = match force {
-            Force::ManyBody { strengths } => ('M', Vec::new(), [&strengths[..], &[]], alpha, 0),
-            Force::Collide { strength, iterations, radii } => ('C', Vec::new(), [&radii[..], &[]], *strength, *iterations),
+        let (kind, links, lists, setting, iterations) = match force {
+            Force::ManyBody { strengths } => (Kind::ManyBody, Vec::new(), [&strengths[..], &[]], alpha, 0),
+            Force::Collide { strength, iterations, radii } => (Kind::Collide, Vec::new(), [&radii[..], &[]], *strength, *iterations),
             Force::Link { iterations, links, strengths, distances } => {
-                ('L', links.iter().flat_map(|&(s, t)| [s as u32, t as u32]).collect(), [&strengths[..], &distances[..]], alpha, *iterations)
+                let ends = links.iter().flat_map(|&(s, t)| [s as u32, t as u32]).collect();
+                (Kind::Link, ends, [&strengths[..], &distances[..]], alpha, *iterations)
             }
-            _ => return Err("not such a force".to_string()),
+            _ => return Err("not one of the three forces".to_string()),
         };
         Ok(Call {
-            letter,
+            kind,
             places,
             buffer,
             start,
@@ -62,18 +70,15 @@ impl Call {
         })
     }
 
-    fn enter(&self, buffer: &mut [u8], work: &mut [u64]) -> Result<Counts, String> {
+    fn enter(&self, buffer: &mut [u8], work: &mut [u64]) -> Counts {
         let [first, second] = &self.lists;
-        Ok(match self.letter {
-            #[cfg(feature = "many_body")]
-            'M' => raw::many_body(&self.places, buffer, self.start, first, self.setting, &self.draws, work),
-            #[cfg(feature = "collide")]
-            'C' => raw::collide(&self.places, buffer, self.start, first, self.setting, self.iterations, &self.draws, work),
-            'L' => {
+        match self.kind {
+            Kind::ManyBody => raw::many_body(&self.places, buffer, self.start, first, self.setting, &self.draws, work),
+            Kind::Collide => raw::collide(&self.places, buffer, self.start, first, self.setting, self.iterations, &self.draws, work),
+            Kind::Link => {
                 raw::link(&self.places, buffer, self.start, &self.links, first, second, self.iterations, self.setting, &self.draws, work)
             }
-            _ => return Err("no such entry".to_string()),
-        })
+        }
     }
 
     /// Where the velocities end.
@@ -86,7 +91,7 @@ impl Call {
         let lent = self.clone();
         let mut buffer = Fenced::new(&self.buffer, 0xfe);
         let mut work = Fenced::new(&self.work, WORK);
-        let counts = lent.enter(buffer.part(), work.part())?;
+        let counts = lent.enter(buffer.part(), work.part());
         let number = counts.refusal.number;
         let buffer = buffer.now().ok_or("written beside the buffer")?.to_vec();
         let work = work.now().ok_or("written beside the work slots")?;
@@ -114,7 +119,7 @@ impl Call {
         all[1].start = usize::MAX - self.iterations % 40;
         all[2].start = self.buffer.len() + 1;
         all[3].start = self.buffer.len() - (self.end() - self.start) + 1;
-        if self.letter == 'L' {
+        if self.kind == Kind::Link {
             all[4].links.push(0);
         } else {
             all[4].lists[0].push(0.5);

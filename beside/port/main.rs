@@ -12,7 +12,6 @@ mod force;
 mod grid;
 mod large;
 mod lent;
-#[cfg(feature = "particles")]
 mod particles;
 #[cfg(feature = "tick")]
 mod sheet;
@@ -28,14 +27,10 @@ const KINDS: &[&str] = &[
     "floor",
     "root",
     "tree",
-    #[cfg(feature = "many_body")]
     "M",
-    #[cfg(feature = "collide")]
     "C",
     "L",
-    #[cfg(feature = "particles")]
     "E",
-    #[cfg(feature = "particles")]
     "move",
     #[cfg(feature = "tick")]
     "tick",
@@ -59,11 +54,8 @@ fn answer(line: &str) -> Line {
         Case::Floor(x) => floor(x),
         Case::Root(x) => Ok(format!("ok {:016x}", raw::root(x.to_bits()))),
         Case::Tree { slots, particles } => tree::answer(slots, &particles, &mut layout),
-        #[cfg(feature = "particles")]
         Case::Force { force: Force::Center { x, y, strength }, particles, .. } => particles::center(&particles, x, y, strength),
-        #[cfg(feature = "particles")]
         Case::Move { decay, particles } => particles::apply_velocities(&particles, decay),
-        Case::Force { force, .. } if matches!(force, Force::Center { .. }) => Err("no such entry".to_string()),
         Case::Force { slots, force, alpha, particles, draws } => force::answer(slots, &force, alpha, &particles, &draws, &mut layout),
         #[cfg(feature = "tick")]
         Case::Tick(tick) => sheet::tick(&tick, &mut layout),

@@ -64,7 +64,6 @@ pub fn velocities_of(bytes: &[u8]) -> Vec<f64> {
 /// assert_eq!(velocities_of(&buffer), [-5.0, -5.0, 5.0, 5.0]);
 /// # Ok::<(), talemiku::Refusal>(())
 /// ```
-#[cfg(feature = "many_body")]
 pub fn many_body(points: Points<'_>, strengths: &[f64], alpha: f64, lent: Lent<'_>) -> Result<Counts, Refusal> {
     let Points { places, buffer, start } = points;
     let Lent { draws, work } = lent;
@@ -82,7 +81,6 @@ pub fn many_body(points: Points<'_>, strengths: &[f64], alpha: f64, lent: Lent<'
 /// assert_eq!(velocities_of(&buffer), [-0.5, 0.0, 0.5, 0.0]);
 /// # Ok::<(), talemiku::Refusal>(())
 /// ```
-#[cfg(feature = "collide")]
 pub fn collide(points: Points<'_>, radii: &[f64], strength: f64, iterations: usize, lent: Lent<'_>) -> Result<Counts, Refusal> {
     let Points { places, buffer, start } = points;
     let Lent { draws, work } = lent;

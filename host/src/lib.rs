@@ -5,8 +5,8 @@
 //!
 //! - [`floor()`], [`root`]: numbers.
 //! - [`tree()`]: the quadtree of a sheet.
-//! - `many_body`, `collide`, [`link`]: one force on places and velocities.
-//! - `center`, `apply_velocities`: Center and the closing move on particles.
+//! - [`many_body`], [`collide`], [`link`]: one force on places and velocities.
+//! - [`center`], [`apply_velocities`]: Center and the closing move on particles.
 //! - `tick`, `step`: a whole sheet, with up to eight forces ([`Forces`]).
 //!
 //! Nothing is allocated by the archive: a tree's nodes live in lent work slots ([`SLOT_WORDS`]), jiggles come from a lent list of draws, and a call's own lists stand on the
@@ -16,7 +16,6 @@
 mod force;
 mod forces;
 mod number;
-#[cfg(feature = "particles")]
 mod particles;
 pub mod raw;
 mod refusal;
@@ -25,14 +24,9 @@ mod sheet;
 mod tick;
 mod tree;
 
-#[cfg(feature = "collide")]
-pub use force::collide;
-#[cfg(feature = "many_body")]
-pub use force::many_body;
-pub use force::{link, velocities_of, velocity_bytes, Counts, Lent, Links, Points};
+pub use force::{collide, link, many_body, velocities_of, velocity_bytes, Counts, Lent, Links, Points};
 pub use forces::{Force, Forces, FORCE_SLOTS};
 pub use number::{floor, root};
-#[cfg(feature = "particles")]
 pub use particles::{apply_velocities, center};
 pub use refusal::Refusal;
 pub use sheet::{particles_of, sheet_of, Particle, RECORD_BYTES};

@@ -1,7 +1,10 @@
 //! The entries of the archive with slices for pointers and lengths, and answers as they come. All unsafe code is here.
 //!
-//! Nothing checks these declarations against crates/talemiku/src/lib.rt and crates/rules/src/lib.rt, so read them side by side. A slice passes
-//! as a pointer and a length, in order; an array behind a reference as a pointer alone.
+//! Nothing checks these declarations against crates/talemiku/src and crates/rules/src/lib.rt, so read them side by side. A slice passes as a pointer and
+//! a length, in order; an array behind a reference as a pointer alone.
+//!
+//! Why each call is safe: a pointer and a length come from one slice, borrowed for the call, and `&mut` where the entry may write. The entries are proved to stay within
+//! these lengths and to end, whatever the contents; they keep no pointer and don't unwind.
 #![allow(unsafe_code)]
 // The entries have as many parameters as they need; what the crate offers above them groups these.
 #![allow(clippy::too_many_arguments)]
@@ -239,7 +242,6 @@ pub fn tree(records: &[u8], rows: &mut [u32], chains: &mut [u32], work: &mut [u6
 }
 
 /// ManyBody on plain lists.
-#[cfg(feature = "many_body")]
 pub fn many_body(
     places: &[f64],
     buffer: &mut [u8],
@@ -268,7 +270,6 @@ pub fn many_body(
 }
 
 /// Collide on plain lists.
-#[cfg(feature = "collide")]
 pub fn collide(
     places: &[f64],
     buffer: &mut [u8],
@@ -335,13 +336,11 @@ pub fn link(
 }
 
 /// Center on a list of particles.
-#[cfg(feature = "particles")]
 pub fn center(particles: &mut [Particle], x: f64, y: f64, strength: f64) -> Refusal {
     unsafe { entry::talemiku_center(particles.as_mut_ptr(), particles.len(), x, y, strength) }
 }
 
 /// The closing move on a list of particles.
-#[cfg(feature = "particles")]
 pub fn apply_velocities(particles: &mut [Particle], decay: f64) -> Refusal {
     unsafe { entry::talemiku_apply_velocities(particles.as_mut_ptr(), particles.len(), decay) }
 }
