@@ -1,4 +1,5 @@
 pub mod Agree
+pub mod Unique
 mod Callees
 mod Frame
 mod Lent

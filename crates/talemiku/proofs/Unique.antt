@@ -1,0 +1,56 @@
+-- What a call promises fixes its answer and every lent buffer: two results that keep the promise of an entry for the same input are equal.
+use mathlib.Core.Path.{_≡_, sym, _∙_}
+use mathlib.Core.List.{List}
+use Prim.Native.Nat.{ℕ}
+use lib.Ieee.{Float}
+use Rattle.rules.specs.declared.Extent.{Extent}
+use Rattle.rules.specs.declared.Particle.{Particle}
+use Rattle.rules.specs.declared.Refusal.{Refusal}
+use Rattle.rules.specs.declared.Settings.{Settings}
+use Rattle.rules.specs.declared.TreeAnswer.{TreeAnswer}
+use Rattle.rules.specs.declared.Counts.{Counts}
+use Rattle.rules.specs.declared.StepAnswer.{StepAnswer}
+use Rattle.rules.specs.Outcome.{Outcome}
+use Rattle.rules.specs.Tree.{Tree}
+use Rattle.rules.specs.Walk.{Counted}
+use Rattle.rules.specs.Flow.{Flow}
+use Rattle.rules.specs.Calls.{TreeInput, ForceInput}
+use Rattle.rules.specs.Tick.{SheetInput}
+use Rattle.tree.specs.Tree.{Ends}
+use Rattle.force.specs.Calls as Force
+use Rattle.calls.specs.Tick.{TickEnds}
+use Rattle.calls.specs.Step.{StepEnds}
+use Rattle.talemiku.specs.Answered.{Answered}
+
+-- The one step behind all of them: what is equal to the same is equal. Floor and root promise such an equation and nothing else.
+pub same : {A : Type 0} {a b c : A} → a ≡ c → b ≡ c → a ≡ b
+same p q = p ∙ sym q
+
+-- The tree call: its answer, both lists and the work slots.
+pub tree-unique : (l : TreeInput) (o : Outcome (Tree Extent)) (r r' : TreeAnswer) (rows chains work rows' chains' work' : List ℕ)
+    → Ends l o r rows chains work → Ends l o r' rows' chains' work' → (r ≡ r') × (rows ≡ rows') × (chains ≡ chains') × (work ≡ work')
+tree-unique l o r r' rows chains work rows' chains' work' e f =
+    (same (e .answer) (f .answer), same (e .listed) (f .listed), same (e .chained) (f .chained), same (e .worked) (f .worked))
+
+-- ManyBody, Collide and Link: the answer, the buffer and the work slots.
+pub force-unique : (l : ForceInput) (o : Outcome (Counted Flow)) (r r' : Counts) (buffer work buffer' work' : List ℕ)
+    → Force.Answered l o r buffer work → Force.Answered l o r' buffer' work' → (r ≡ r') × (buffer ≡ buffer') × (work ≡ work')
+force-unique l o r r' buffer work buffer' work' e f = (same (e .answer) (f .answer), same (e .bytes) (f .bytes), same (e .slots) (f .slots))
+
+-- Center and the closing move: the answer and the particles.
+pub list-unique : (o : Outcome (List Particle)) (ps : List Particle) (r r' : Refusal) (after after' : List Particle)
+    → Answered o ps r after → Answered o ps r' after' → (r ≡ r') × (after ≡ after')
+list-unique o ps r r' after after' e f = (same (e .answer) (f .answer), same (e .particles) (f .particles))
+
+-- A tick: the answer, the sheet, alpha and the work slots.
+pub tick-unique : (l : SheetInput) (s : Settings) (r r' : Counts) (sheet sheet' : List ℕ) (alpha alpha' : ℕ) (work work' : List ℕ)
+    → TickEnds l s r sheet alpha work → TickEnds l s r' sheet' alpha' work' → (r ≡ r') × (sheet ≡ sheet') × (alpha ≡ alpha') × (work ≡ work')
+tick-unique l s r r' sheet sheet' alpha alpha' work work' e f =
+    (same (e .answer) (f .answer), same (e .sheet) (f .sheet), same (e .alpha) (f .alpha), same (e .work) (f .work))
+
+-- A step: the same.
+pub step-unique : (l : SheetInput) (s : Settings) (least : Float) (budget : ℕ) (r r' : StepAnswer) (sheet sheet' : List ℕ) (alpha alpha' : ℕ) (work work' : List ℕ)
+    → StepEnds l s least budget r sheet alpha work → StepEnds l s least budget r' sheet' alpha' work'
+    → (r ≡ r') × (sheet ≡ sheet') × (alpha ≡ alpha') × (work ≡ work')
+step-unique l s least budget r r' sheet sheet' alpha alpha' work work' e f =
+    (same (e .answer) (f .answer), same (e .sheet) (f .sheet), same (e .alpha) (f .alpha), same (e .work) (f .work))
