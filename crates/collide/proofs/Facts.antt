@@ -17,7 +17,7 @@ use Rattle.rules.specs.Tree.{leaf, same, nodes, treeIn, treeOf, fitsCheck, tree
 use Rattle.rules.specs.Walk.{Counted, counted}
 use Rattle.rules.specs.Flow.{Flow}
 use Rattle.rules.specs.Collide.{leafRadius, nodeRadius, radiusTree, collideStep, collideOnce, runCollide}
-use Rattle.rules.proofs.CellCount.{length-upTo}
+use Rattle.rules.proofs.CellCount.{distinct, length-upTo}
 use Rattle.rules.proofs.CellRule.{grow-leaf}
 use Rattle.walk.proofs.WalkTheorems.{counts-few}
 use Rattle.force.proofs.Visits.{nodes-valued, accepted-nodes, stages-few}
@@ -108,18 +108,25 @@ module _ (at radii : List Float) (strength : Float) (slots : ℕ) where
       (stages-few (walkFor at radii strength) (nodes (radiusTree at radii))
       (λ i m m' e. counts-few (collideStep at radii strength i) (radiusTree at radii) m m' e) (upTo (length radii)) m m' e)
 
-  -- one iteration: at most 1 + 64 n nodes for each of n particles
-  once-few : (m m' : Counted Flow) → collideOnce at radii strength slots m ≡ done m' → m' .visits ≤ m .visits + length radii * (1 + 64 * length radii)
+  -- one iteration, where the tree has at most k nodes
+  once-few : (k : ℕ) → (treeCheck at (length radii) slots ≡ fine → nodes (treeOf at (length radii)) ≤ k) → (m m' : Counted Flow)
+      → collideOnce at radii strength slots m ≡ done m' → m' .visits ≤ m .visits + length radii * k
   unfolding collideOnce walkAll
-  once-few m m' e = go (treeCheck at (length radii) slots) refl e
+  once-few k h m m' e = go (treeCheck at (length radii) slots) refl e
     where
-      go : (c : Check) → treeCheck at (length radii) slots ≡ c → (c >>= λ _. walkAll at radii strength m) ≡ done m' → m' .visits ≤ m .visits + length radii * (1 + 64 * length radii)
-      go (done u) k f = omega (arith, walks-few m m' f, mul-le-mul-left (length radii) (accepted-nodes at (length radii) slots k .1))
-      go (refused r) k f = absurd (let z : _≡_ {A = ℕ} 0 1 = cc in omega arith)
+      go : (c : Check) → treeCheck at (length radii) slots ≡ c → (c >>= λ _. walkAll at radii strength m) ≡ done m' → m' .visits ≤ m .visits + length radii * k
+      go (done u) q f = omega (arith, walks-few m m' f, mul-le-mul-left (length radii) (h q))
+      go (refused r) q f = absurd (let z : _≡_ {A = ℕ} 0 1 = cc in omega arith)
 
-  -- A run hands out at most 1 + 64 n nodes for each iteration and each of n particles.
-  pub visits-particles : (iterations : ℕ) (m m' : Counted Flow) → runCollide at radii strength iterations slots m ≡ done m'
-      → m' .visits ≤ m .visits + iterations * (length radii * (1 + 64 * length radii))
-  unfolding runCollide
-  visits-particles iterations m m' e =
-      rw (← length-upTo iterations) (stages-few (λ m _. collideOnce at radii strength slots m) (length radii * (1 + 64 * length radii)) (λ i m m' e. once-few m m' e) (upTo iterations) m m' e)
+  module _ (iterations : ℕ) (m m' : Counted Flow) (e : runCollide at radii strength iterations slots m ≡ done m') where
+    all-few : (k : ℕ) → (treeCheck at (length radii) slots ≡ fine → nodes (treeOf at (length radii)) ≤ k) → m' .visits ≤ m .visits + iterations * (length radii * k)
+    unfolding runCollide
+    all-few k h = rw (← length-upTo iterations) (stages-few (λ m _. collideOnce at radii strength slots m) (length radii * k) (λ i m m' e. once-few k h m m' e) (upTo iterations) m m' e)
+
+    -- A run hands out at most 1 + 64 d nodes for each iteration and each particle, where there are d distinct points.
+    pub visits-distinct : m' .visits ≤ m .visits + iterations * (length radii * (1 + 64 * distinct at (upTo (length radii))))
+    visits-distinct = all-few (1 + 64 * distinct at (upTo (length radii))) (λ q. accepted-nodes at (length radii) slots q .0)
+
+    -- So at most 1 + 64 n, where there are n particles.
+    pub visits-particles : m' .visits ≤ m .visits + iterations * (length radii * (1 + 64 * length radii))
+    visits-particles = all-few (1 + 64 * length radii) (λ q. accepted-nodes at (length radii) slots q .1)
