@@ -13,7 +13,6 @@ mod grid;
 mod large;
 mod lent;
 mod particles;
-#[cfg(feature = "tick")]
 mod sheet;
 mod tree;
 
@@ -32,9 +31,7 @@ const KINDS: &[&str] = &[
     "L",
     "E",
     "move",
-    #[cfg(feature = "tick")]
     "tick",
-    #[cfg(feature = "tick")]
     "step",
 ];
 
@@ -57,9 +54,7 @@ fn answer(line: &str) -> Line {
         Case::Force { force: Force::Center { x, y, strength }, particles, .. } => particles::center(&particles, x, y, strength),
         Case::Move { decay, particles } => particles::apply_velocities(&particles, decay),
         Case::Force { slots, force, alpha, particles, draws } => force::answer(slots, &force, alpha, &particles, &draws, &mut layout),
-        #[cfg(feature = "tick")]
         Case::Tick(tick) => sheet::tick(&tick, &mut layout),
-        #[cfg(feature = "tick")]
         Case::Step { tick, min, budget } => sheet::step(&tick, min, budget, &mut layout),
         _ => Err("no such entry".to_string()),
     }

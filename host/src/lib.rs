@@ -7,7 +7,7 @@
 //! - [`tree()`]: the quadtree of a sheet.
 //! - [`many_body`], [`collide`], [`link`]: one force on places and velocities.
 //! - [`center`], [`apply_velocities`]: Center and the closing move on particles.
-//! - `tick`, `step`: a whole sheet, with up to eight forces ([`Forces`]).
+//! - [`tick()`], [`step`]: a whole sheet, with up to eight forces ([`Forces`]).
 //!
 //! Nothing is allocated by the archive: a tree's nodes live in lent work slots ([`SLOT_WORDS`]), jiggles come from a lent list of draws, and a call's own lists stand on the
 //! stack (some hundred KB). [`raw`] has the same calls with their answers as they come.
@@ -20,7 +20,6 @@ mod particles;
 pub mod raw;
 mod refusal;
 mod sheet;
-#[cfg(feature = "tick")]
 mod tick;
 mod tree;
 
@@ -30,6 +29,5 @@ pub use number::{floor, root};
 pub use particles::{apply_velocities, center};
 pub use refusal::Refusal;
 pub use sheet::{particles_of, sheet_of, Particle, RECORD_BYTES};
-#[cfg(feature = "tick")]
 pub use tick::{step, tick, Settings, Steps};
 pub use tree::{rows, tree, Extent, Row, Tree, ROW_NUMBERS, SLOT_WORDS};

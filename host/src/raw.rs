@@ -346,7 +346,6 @@ pub fn apply_velocities(particles: &mut [Particle], decay: f64) -> Refusal {
 }
 
 /// One tick of a sheet; alpha as its bits.
-#[cfg(feature = "tick")]
 pub fn tick(
     sheet: &mut [u8],
     alpha: &mut u64,
@@ -381,7 +380,6 @@ pub fn tick(
 }
 
 /// Ticks of a sheet within a budget; alpha as its bits.
-#[cfg(feature = "tick")]
 pub fn step(
     sheet: &mut [u8],
     alpha: &mut u64,
