@@ -20,7 +20,6 @@ use Rattle.rules.specs.Cover.{Covered, coverFirst, extentOf}
 use Rattle.rules.specs.Tree.{Tree, treeOf, treeCheck, nodes, rowsOf, flat, chainsOf}
 use Rattle.rules.specs.Walk.{Counted, counted}
 use Rattle.rules.specs.Flow.{Flow, flow}
-use Rattle.rules.specs.Link.{Ends}
 use Rattle.rules.specs.Force.{Push, manyBody, collide, link, endsOf, pushCounts, pushLengths, pushEnds, pushRanges, run}
 use Rattle.rules.specs.Particle.{centered, closing}
 
@@ -29,6 +28,7 @@ use Rattle.rules.specs.Particle.{centered, closing}
 abbrev pub slotWords : ℕ
 slotWords = 8
 
+-- words left over make no slot
 abbrev pub slotsOf : List ℕ → ℕ
 slotsOf work = length work / slotWords
 

@@ -1,8 +1,8 @@
 -- simulation.rs: tick and step. Definitions only.
-use mathlib.Core.Bool.{Bool, true, false, cond, _&&_}
+use mathlib.Core.Bool.{Bool, true, false, _&&_}
 use mathlib.Core.List.{List, [], _∷_, _++_, map}
 use Prim.Native.Nat.{ℕ, zero, suc, _+_, _-_, _*_}
-use lib.Dec.{leb, eqb}
+use lib.Dec.{eqb}
 use lib.ListN.{length, getD, take, drop}
 use lib.Ieee.{Float, lt, le}
 use Rattle.rules.specs.declared.Particle.{Particle}
@@ -59,7 +59,7 @@ entriesFrom w at (suc k) = entryAt w at ∷ entriesFrom w (at + entrySize) k
 abbrev pub entriesOf : List ℕ → List ForceEntry
 entriesOf w = entriesFrom w 0 forceSlots
 
--- one of these, by the kind: empty, ManyBody, Collide, Link, Center, and any other
+-- one of these, by the kind: 0 empty, 1 ManyBody, 2 Collide (a is its strength), 3 Link, 4 Center (a and b are its x and y, c its strength), any other unknown
 abbrev pub byKind : {A : Type 0} → ℕ → A → A → A → A → A → A → A
 byKind zero e m c l z u = e
 byKind (suc zero) e m c l z u = m
@@ -101,14 +101,14 @@ abbrev pub forcesFrom : ℕ → List ForceEntry → List Float → List ℕ → 
 forcesFrom n [] numbers links = []
 forcesFrom n (e ∷ es) numbers links = forceOf n e numbers links ∷ forcesFrom n es (drop (numbersNeeded n e) numbers) (drop (linksNeeded e * 2) links)
 
--- 3
+-- 3: an end of a link that is no particle
 abbrev pub forceEnds : ℕ → Force → Check
 forceEnds n empty = fine
 forceEnds n (push f) = pushEnds n f
 forceEnds n (center x y strength) = fine
 forceEnds n unknown = fine
 
--- 5
+-- 5: lists, then settings; an unknown kind is out of range too
 abbrev pub forceRanges : Force → Check
 forceRanges empty = fine
 forceRanges (push f) = pushRanges f
@@ -218,7 +218,7 @@ module _ (l : SheetInput) (s : Settings) where
   abbrev pub begun : State
   begun = state (particlesOf (l .sheet)) (floatOf (l .alpha)) (l .draws) 0
 
-  -- alpha is the first of the tick's settings
+  -- alpha is the first of the tick's settings; a tick has no number of ticks to test, so 0 stands there
   abbrev pub tickSettings : List Float
   tickSettings = floatOf (l .alpha) ∷ s .target ∷ s .cooling ∷ s .decay ∷ []
 
