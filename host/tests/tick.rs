@@ -149,3 +149,32 @@ fn a_step_ends_at_a_refused_tick() {
     assert_eq!(sheet(&twice, &[]).step(&forces(2, &charges), 1.0, 4097), Err(Refusal::TooMany));
     assert_eq!(sheet(&twice, &[2.0]).step(&forces(2, &charges), f64::NAN, 1), Err(Refusal::Number { place: 0 }));
 }
+
+#[test]
+fn a_step_in_portions_ends_as_one_step() {
+    // two are held at one x, so that draws are used all along
+    let mut places = still(&[[0.0, 0.0], [1.0, 0.0], [1.0, 0.5], [0.5, 2.0], [-1.0, 1.0]]);
+    places[1].flags = Particle::FIXED_X;
+    places[2].flags = Particle::FIXED_X;
+    let discs = Force::Collide { radii: &[1.0; 5], strength: 0.7, iterations: 2 };
+    let forces = forces(5, &[Force::ManyBody { strengths: &[-2.0; 5] }, discs, HOME]);
+    let settings = Settings { target: 0.0, cooling: 0.1, decay: 0.6 };
+    let draws: Vec<f64> = (0..200).map(|k| f64::from(k * 37 % 101 - 50) * 1e-3).collect();
+    let run = |portion: u64| {
+        let (mut sheet, mut alpha, mut work) = (sheet_of(&places), 1.0, [0; 400 * SLOT_WORDS]);
+        let (mut ticks, mut visits, mut used, mut finished) = (0, 0, 0, false);
+        while !finished && ticks < 100 {
+            let lent = Lent { draws: &draws[used..], work: &mut work };
+            let done = step(&mut sheet, &mut alpha, &forces, settings, 0.01, portion.min(100 - ticks), lent).expect("not refused");
+            assert_eq!(done.stop, None);
+            ticks += done.ticks;
+            visits += done.counts.visits;
+            used += done.counts.draws;
+            finished = done.finished;
+        }
+        (sheet, alpha.to_bits(), ticks, visits, used, finished)
+    };
+    let whole = run(100);
+    assert!(whole.5 && whole.2 > 14 && whole.4 > 20, "{whole:?}");
+    assert_eq!([1, 7, 14].map(run), [whole.clone(), whole.clone(), whole]);
+}
