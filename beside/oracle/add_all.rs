@@ -19,6 +19,33 @@ impl<Q: Default> Quadtree<Q, usize> {
     }
 }
 
+impl<Q: Default> Quadtree<Q, usize> {
+    /// The nodes as the tree call lists them: level, quadrant, kind (1 internal, 2 leaf) and chain length of each, and the numbers of the chains.
+    pub fn list_flat(&self, rows: &mut Vec<u32>, chains: &mut Vec<u32>) {
+        if let Some(root) = self.root() {
+            list_flat_from(root, 0, 0, rows, chains);
+        }
+    }
+}
+
+fn list_flat_from<Q>(node: &Node<Q, usize>, level: u32, quadrant: u32, rows: &mut Vec<u32>, chains: &mut Vec<u32>) {
+    match node {
+        Node::Leaf { data, .. } => {
+            let before = chains.len();
+            chains.extend(data.iter().map(|&i| i as u32));
+            rows.extend([level, quadrant, 2, (chains.len() - before) as u32]);
+        }
+        Node::Internal { children, .. } => {
+            rows.extend([level, quadrant, 1, 0]);
+            for (q, child) in children.iter().enumerate() {
+                if let Some(child) = child {
+                    list_flat_from(child, level + 1, q as u32, rows, chains);
+                }
+            }
+        }
+    }
+}
+
 fn list<Q>(node: &Node<Q, usize>, level: usize, quadrant: usize, rows: &mut Vec<Row>) {
     match node {
         Node::Leaf { data, .. } => rows.push(Row { level, quadrant, chain: data.iter().copied().collect() }),
