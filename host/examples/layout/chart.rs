@@ -5,6 +5,9 @@ use talemiku::{sheet_of, Particle, RECORD_BYTES};
 /// The radius of a user's labels, unless one is given.
 pub const RADIUS: f64 = 12.0;
 
+/// The greatest radius or other number that a force takes.
+pub const GREATEST: f64 = (1u64 << 40) as f64;
+
 /// How large the harbour's names are printed.
 const PRINT: f64 = 9.0;
 
@@ -41,7 +44,7 @@ impl Chart {
 /// The radius that a user's word means, or a sentence on why it means none.
 pub fn radius_of(word: &str) -> Result<f64, String> {
     match word.parse::<f64>() {
-        Ok(radius) if (0.0..=(1u64 << 40) as f64).contains(&radius) => Ok(radius),
+        Ok(radius) if (0.0..=GREATEST).contains(&radius) => Ok(radius),
         _ => Err(format!("the radius must be a number from 0 to 2^40, and `{word}` is none")),
     }
 }

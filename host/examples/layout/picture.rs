@@ -34,6 +34,7 @@ impl fmt::Display for Short {
 /// Draws a chart before and after, with so many overlapping pairs.
 pub fn draw(chart: &Chart, done: &Spread, pairs: [usize; 2]) -> Result<String, Refusal> {
     let sheets = [&chart.sheet, &done.sheet];
+    let when = ["before".to_string(), format!("after {} ticks", done.ticks)];
     let places = sheets.map(|sheet| particles_of(sheet));
     let view = View::of(places.iter().flat_map(|places| places.iter().zip(&chart.radii)));
     let (width, height) = (Short(2.0 * WIDTH + 3.0 * GAP), Short(view.height + 2.0 * BAND));
@@ -41,20 +42,22 @@ pub fn draw(chart: &Chart, done: &Spread, pairs: [usize; 2]) -> Result<String, R
     let mut svg =
         format!("<svg xmlns=\"http://www.w3.org/2000/svg\" {size} viewBox=\"0 0 {width} {height}\" font-family=\"sans-serif\">\n");
     svg += &format!("<style>{STYLE}</style>\n<rect class=\"paper\" {size}/>\n");
-    for (pane, when) in ["before".to_string(), format!("after {} ticks", done.ticks)].iter().enumerate() {
-        let left = GAP + pane as f64 * (WIDTH + GAP);
-        let title = format!("{when}: {}", counted(pairs[pane]));
-        svg += &format!("<text class=\"title\" x=\"{}\" y=\"{}\">{title}</text>\n", Short(left + WIDTH / 2.0), Short(BAND * 0.66));
-        svg += &format!("<svg x=\"{}\" y=\"{BAND}\" width=\"{WIDTH}\" height=\"{}\">\n", Short(left), Short(view.height));
-        svg += "<rect class=\"pane\" width=\"100%\" height=\"100%\"/>\n";
-        svg += &cells_path(&cells(sheets[pane], places[pane].len())?, &view);
-        svg += &links(chart, &places[pane], &view);
-        svg += &labels(chart, &places[pane], &view);
-        svg += "</svg>\n";
+    for k in 0..2 {
+        let cells = cells(sheets[k], places[k].len())?;
+        let drawn = squares(&cells, &view) + &links(chart, &places[k], &view) + &labels(chart, &places[k], &view);
+        svg += &pane(GAP + k as f64 * (WIDTH + GAP), view.height, &format!("{}: {}", when[k], counted(pairs[k])), &drawn);
     }
-    svg += &key(view.height + 1.5 * BAND);
-    svg += "</svg>\n";
-    Ok(svg)
+    Ok(svg + &key(view.height + 1.5 * BAND) + "</svg>\n")
+}
+
+/// A pane with its title above it; what reaches beyond its edge isn't seen.
+fn pane(left: f64, height: f64, title: &str, drawn: &str) -> String {
+    let [left, middle, height, foot] = [left, left + WIDTH / 2.0, height, BAND * 0.66].map(Short);
+    format!(
+        "<text class=\"title\" x=\"{middle}\" y=\"{foot}\">{title}</text>\n\
+        <svg x=\"{left}\" y=\"{BAND}\" width=\"{WIDTH}\" height=\"{height}\">\n\
+        <rect class=\"pane\" width=\"100%\" height=\"100%\"/>\n{drawn}</svg>\n"
+    )
 }
 
 fn counted(pairs: usize) -> String {
@@ -66,7 +69,7 @@ fn counted(pairs: usize) -> String {
 }
 
 /// All cells as one path.
-fn cells_path(cells: &[Extent], view: &View) -> String {
+fn squares(cells: &[Extent], view: &View) -> String {
     let square = |cell: &Extent| {
         let side = view.length(cell.x1 - cell.x0);
         let (x, y) = (view.x(cell.x0), view.y(cell.y0));

@@ -1,5 +1,5 @@
 //! Spreads the labels of a chart by `step`, in portions, so that a long run can say how far it is.
-use crate::chart::Chart;
+use crate::chart::{Chart, GREATEST};
 use talemiku::{particles_of, step, Force, Forces, Lent, Links, Refusal, Settings, SLOT_WORDS};
 
 /// How many ticks it takes alpha to come down from 1 to `LEAST`.
@@ -13,11 +13,12 @@ const PORTION: u64 = 5;
 /// More labels are refused, so more isn't lent.
 const MOST: usize = 4096;
 
-/// How far Collide keeps labels apart: their radii and a little more.
+/// How far apart labels are kept, and linked ones drawn together, for radii that add up to 1.
 const ROOM: f64 = 1.06;
+const REACH: f64 = 1.22;
 
-/// The greatest number that a force takes.
-const GREATEST: f64 = (1u64 << 40) as f64;
+/// How strongly a label of radius 1 pushes all others away: just so that labels in one place part.
+const PUSH: f64 = 0.025;
 
 /// A chart after its ticks.
 pub struct Spread {
@@ -35,8 +36,9 @@ pub fn slots(labels: usize) -> usize {
 
 /// Spreads the labels, telling `progress` the ticks done after each portion.
 ///
-/// What a tick hands on to the next is the sheet, alpha and the draws not yet used. Each portion takes all three where the last one left them, so the
-/// result is that of a single step; host/tests/tick.rs holds the two to each other. A tick that is refused, the first or a later one, refuses the chart.
+/// What a tick hands on to the next is the sheet, alpha and the draws not yet used. Each portion takes all three where the last one left them, and the checks
+/// before it let pass whatever a tick leaves. So the result is that of a single step; host/tests/tick.rs holds the two to each other.
+/// A tick that is refused, be it the first or a later one, refuses the chart.
 pub fn spread(chart: &Chart, mut progress: impl FnMut(u64)) -> Result<Spread, Refusal> {
     let labels = chart.radii.len();
     let draws = draws(64 * (1 + labels.min(MOST)));
@@ -61,17 +63,17 @@ pub fn spread(chart: &Chart, mut progress: impl FnMut(u64)) -> Result<Spread, Re
 
 /// What moves the labels, by slot: all push each other away a little, linked ones come together, discs are parted, and the middle stays where it was.
 fn forces(chart: &Chart) -> Forces {
-    let labels = chart.radii.len();
-    let room: Vec<f64> = chart.radii.iter().map(|radius| (radius * ROOM).min(GREATEST)).collect();
-    let charges: Vec<f64> = chart.radii.iter().map(|radius| -(radius / 40.0)).collect();
-    let distances: Vec<f64> = chart.links.chunks_exact(2).map(|ends| 1.15 * (room[ends[0] as usize] + room[ends[1] as usize])).collect();
+    let charges: Vec<f64> = chart.radii.iter().map(|radius| -PUSH * radius).collect();
+    let room: Vec<f64> = chart.radii.iter().map(|radius| (ROOM * radius).min(GREATEST)).collect();
+    let reach = |ends: &[u32]| REACH * (chart.radii[ends[0] as usize] + chart.radii[ends[1] as usize]);
+    let distances: Vec<f64> = chart.links.chunks_exact(2).map(reach).collect();
     let (x, y) = middle(&chart.sheet);
     let mut slots = [None; 8];
     slots[0] = Some(Force::ManyBody { strengths: &charges });
     slots[1] = Some(Force::Link(Links { ends: &chart.links, strengths: &[], distances: &distances, iterations: 1 }));
     slots[2] = Some(Force::Collide { radii: &room, strength: 0.9, iterations: 3 });
     slots[3] = Some(Force::Center { x, y, strength: 1.0 });
-    Forces::new(labels, &slots)
+    Forces::new(chart.radii.len(), &slots)
 }
 
 /// The middle of all places; of none, or of places that will be refused, no matter where.
