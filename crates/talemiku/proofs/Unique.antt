@@ -18,8 +18,8 @@ use Rattle.rules.specs.Calls.{TreeInput, ForceInput}
 use Rattle.rules.specs.Tick.{SheetInput}
 use Rattle.tree.specs.Tree.{Ends}
 use Rattle.force.specs.Calls as Force
-use Rattle.calls.specs.Tick.{TickEnds}
-use Rattle.calls.specs.Step.{StepEnds}
+use Rattle.tick_call.specs.Tick.{TickEnds}
+use Rattle.step_call.specs.Step.{StepEnds}
 use Rattle.talemiku.specs.Answered.{Answered}
 
 -- The one step behind all of them: what is equal to the same is equal. Floor and root promise such an equation and nothing else.

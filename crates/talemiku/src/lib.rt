@@ -17,8 +17,8 @@ ghost use Rattle.rules.specs.Refusal.{mostParticles};
 ghost use Rattle.rules.specs.Calls.{treeResult, manyBodyResult, collideResult, linkResult};
 ghost use Rattle.rules.specs.Tick.{settings};
 ghost use Rattle.checks.specs.Input.{lentSheet};
-ghost use Rattle.calls.specs.Tick.{TickEnds};
-ghost use Rattle.calls.specs.Step.{StepEnds};
+ghost use Rattle.tick_call.specs.Tick.{TickEnds};
+ghost use Rattle.step_call.specs.Step.{StepEnds};
 ghost use Rattle.tree.specs.Tree as Tree;
 ghost use Rattle.force.specs.Calls.{lent, Answered};
 
@@ -149,7 +149,7 @@ pub extern "C" fn talemiku_tick(
         cooling,
         decay,
     };
-    calls::tick::tick(sheet, alpha, forces, numbers, links, draws, s, work)
+    tick_call::tick(sheet, alpha, forces, numbers, links, draws, s, work)
 }
 
 // Ticks of a sheet while alpha is over `least`, at most `budget`.
@@ -176,7 +176,7 @@ pub extern "C" fn talemiku_step(
         cooling,
         decay,
     };
-    calls::step::step(
+    step_call::step(
         sheet,
         alpha,
         forces,

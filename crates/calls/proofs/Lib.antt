@@ -1,4 +1,0 @@
-mod ByColumns
-mod Begun
-mod TickCalled
-mod StepCalled

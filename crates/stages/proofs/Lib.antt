@@ -1,0 +1,5 @@
+pub mod Flags
+pub mod Staged
+mod Slot
+mod ByColumns
+pub mod Begun

@@ -1,0 +1,2 @@
+mod Stepping
+pub mod Accepted

@@ -1,0 +1,104 @@
+// Many ticks by columns, until alpha is low or the budget is spent.
+use rules::Refusal;
+use rules::Settings;
+use ticks::tick_on;
+ghost use mathlib.Core.Path.{_≡_};
+ghost use Prim.Native.Nat.{_*_, _/_, _≤_};
+ghost use lib.ListN.{length};
+ghost use Rattle.rules.specs.Tick.{entriesOf, forcesFrom, ticksFrom};
+ghost use Rattle.checks.specs.Fits.{Fits};
+ghost use Rattle.stages.specs.Stage.{Columns, Chains, stateOf};
+ghost use Rattle.steps.specs.Step.{unrefused, Steps};
+
+// How a step ended: the ticks done, the refusal of the tick that ended it or number 0, and what they left.
+pub struct Stepped {
+    pub ticks: u64,
+    pub refusal: Refusal,
+    pub alpha: f64,
+    pub used: usize,
+    pub visits: u64,
+}
+
+// Ended by no tick: alpha is low, or the budget is spent.
+fn ended(ticks: u64, alpha: f64, used: usize, visits: u64) -> Stepped
+    ensures { λ r. ⌜ r ≡ unrefused ticks alpha used visits ⌝ }
+{
+    Stepped {
+        ticks,
+        refusal: Refusal {
+            number: 0,
+            place: 0,
+        },
+        alpha,
+        used,
+        visits,
+    }
+}
+
+// No draw is used and no node handed out before it. A refused tick leaves what the ticks before it left.
+pub fn step_on(
+    forces: &[u64; 56],
+    numbers: &[f64],
+    links: &[u32],
+    places: &mut [f64],
+    speeds: &mut [f64],
+    flags: &[u64],
+    alpha: f64,
+    s: Settings,
+    least: f64,
+    budget: u64,
+    draws: &[f64],
+    home: &mut [f64],
+    was: &mut [f64],
+    next: &mut [u32],
+    tail: &mut [u32],
+    work: &mut [u64],
+) -> Stepped
+    requires { ⌜ Fits (length (now flags)) (entriesOf (now forces)) (now numbers) (now links) ⌝ }
+    requires { ⌜ Columns (now places) (now speeds) (now draws) (length (now flags)) 0 × Chains (length (now flags)) (now next) (now tail) × (budget ≤ 4096) × (length (now home) ≡ length (now flags) * 2) × (length (now was) ≡ length (now flags) * 2) ⌝ }
+    ensures { λ r. ⌜ Steps (now (places .exit)) (now (speeds .exit)) (now (flags .entry)) (now (draws .entry)) budget r (ticksFrom s least (forcesFrom (length (now (flags .entry))) (entriesOf (now (forces .entry))) (now (numbers .entry)) (now (links .entry))) (length (now (work .entry)) / 8) budget 0 (stateOf (now (places .entry)) (now (speeds .entry)) (now (flags .entry)) alpha (now (draws .entry)) 0 0)) ⌝ }
+{
+    let mut heat = alpha;
+    let mut spent: usize = 0;
+    let mut seen: u64 = 0;
+    let mut t: u64 = 0;
+    while t < budget {
+        if !(least < heat) {
+            return ended(t, heat, spent, seen);
+        }
+        let r = tick_on(
+            forces,
+            numbers,
+            links,
+            places,
+            speeds,
+            flags,
+            heat,
+            s,
+            draws,
+            spent,
+            seen,
+            home,
+            was,
+            next,
+            tail,
+            work,
+        );
+        let refusal = r.refusal;
+        let number = refusal.number;
+        if number != 0 {
+            return Stepped {
+                ticks: t,
+                refusal,
+                alpha: heat,
+                used: spent,
+                visits: seen,
+            };
+        }
+        heat = r.alpha;
+        spent = r.used;
+        seen = r.visits;
+        t = t + 1;
+    }
+    ended(t, heat, spent, seen)
+}

@@ -1,0 +1,161 @@
+// One tick, called on a sheet.
+use checks::tick_check;
+use force::call::refused;
+use number::bits_of;
+use number::float_of;
+use rules::Counts;
+use rules::Refusal;
+use rules::Settings;
+use stages::columns::read_columns;
+use stages::columns::write_columns;
+use ticks::Ticked;
+use ticks::tick_on;
+ghost use mathlib.Core.Path.{_≡_};
+ghost use Rattle.rules.specs.Outcome.{fine};
+ghost use Rattle.rules.specs.Sheet.{countOf};
+ghost use Rattle.rules.specs.Tick.{sheetCheck, tickSettings};
+ghost use Rattle.checks.specs.Input.{lentSheet};
+ghost use Rattle.stages.specs.Columns.{Lists, Writable};
+ghost use Rattle.tick_call.specs.Tick.{standing, TickSettled, TickEnds};
+
+// Sheet and alpha are written only where the tick is not refused. The work slots are zero in any case.
+fn settle(
+    sheet: &mut [u8],
+    alpha: &mut u64,
+    places: &[f64],
+    speeds: &[f64],
+    ticked: Ticked,
+    work: &mut [u64],
+) -> Counts
+    requires { ⌜ Writable (now sheet) (now places) (now speeds) ⌝ }
+    ensures { λ r. ⌜ TickSettled (standing ticked) ticked (now (places .entry)) (now (speeds .entry)) (now (sheet .entry)) (now (alpha .entry)) (now (work .entry)) r (now (sheet .exit)) (now (alpha .exit)) (now (work .exit)) ⌝ }
+{
+    quadtree::store::clear(work);
+    let refusal = ticked.refusal;
+    let number = refusal.number;
+    if number != 0 {
+        return refused(refusal);
+    }
+    write_columns(sheet, places, speeds);
+    *alpha = bits_of(ticked.alpha);
+    Counts {
+        refusal: Refusal {
+            number: 0,
+            place: 0,
+        },
+        visits: ticked.visits,
+        draws: ticked.used as u64,
+    }
+}
+
+// With lists for the particles by columns and for the trees. Every check is past.
+fn on_columns(
+    sheet: &mut [u8],
+    alpha: &mut u64,
+    forces: &[u64; 56],
+    numbers: &[f64],
+    links: &[u32],
+    draws: &[f64],
+    s: Settings,
+    places: &mut [f64],
+    speeds: &mut [f64],
+    flags: &mut [u64],
+    home: &mut [f64],
+    was: &mut [f64],
+    next: &mut [u32],
+    tail: &mut [u32],
+    work: &mut [u64],
+) -> Counts
+    requires { ⌜ (let l = lentSheet (now sheet) (now alpha) (now forces) (now numbers) (now links) (now draws) (now work) in
+        sheetCheck l 0 (tickSettings l s) ≡ fine) ⌝ }
+    requires { ⌜ Lists (countOf (now sheet)) (now places) (now speeds) (now flags) (now home) (now was) (now next) (now tail) ⌝ }
+    ensures { λ r. ⌜ (let l = lentSheet (now (sheet .entry)) (now (alpha .entry)) (now (forces .entry)) (now (numbers .entry)) (now (links .entry)) (now (draws .entry)) (now (work .entry)) in
+        TickEnds l s r (now (sheet .exit)) (now (alpha .exit)) (now (work .exit))) ⌝ }
+{
+    read_columns(sheet, places, speeds, flags);
+    let ticked = tick_on(
+        forces,
+        numbers,
+        links,
+        places,
+        speeds,
+        flags,
+        float_of(*alpha),
+        s,
+        draws,
+        0,
+        0,
+        home,
+        was,
+        next,
+        tail,
+        work,
+    );
+    settle(sheet, alpha, places, speeds, ticked, work)
+}
+
+// The same with lists of its own.
+fn with_lists(
+    sheet: &mut [u8],
+    alpha: &mut u64,
+    forces: &[u64; 56],
+    numbers: &[f64],
+    links: &[u32],
+    draws: &[f64],
+    s: Settings,
+    work: &mut [u64],
+) -> Counts
+    requires { ⌜ (let l = lentSheet (now sheet) (now alpha) (now forces) (now numbers) (now links) (now draws) (now work) in
+        sheetCheck l 0 (tickSettings l s) ≡ fine) ⌝ }
+    ensures { λ r. ⌜ (let l = lentSheet (now (sheet .entry)) (now (alpha .entry)) (now (forces .entry)) (now (numbers .entry)) (now (links .entry)) (now (draws .entry)) (now (work .entry)) in
+        TickEnds l s r (now (sheet .exit)) (now (alpha .exit)) (now (work .exit))) ⌝ }
+{
+    let n = sheet.len() / 40;
+    let pairs = n * 2;
+    let mut places = [0.0f64; 8192];
+    let mut speeds = [0.0f64; 8192];
+    let mut home = [0.0f64; 8192];
+    let mut was = [0.0f64; 8192];
+    let mut flags = [0u64; 4096];
+    let mut next = [0u32; 4096];
+    let mut tail = [0u32; 4096];
+    on_columns(
+        sheet,
+        alpha,
+        forces,
+        numbers,
+        links,
+        draws,
+        s,
+        &mut places[..pairs],
+        &mut speeds[..pairs],
+        &mut flags[..n],
+        &mut home[..pairs],
+        &mut was[..pairs],
+        &mut next[..n],
+        &mut tail[..n],
+        work,
+    )
+}
+
+// Any bytes, words and numbers may come in. `forces` are the eight force slots, whose numbers and links lie one after another.
+pub fn tick(
+    sheet: &mut [u8],
+    alpha: &mut u64,
+    forces: &[u64; 56],
+    numbers: &[f64],
+    links: &[u32],
+    draws: &[f64],
+    s: Settings,
+    work: &mut [u64],
+) -> Counts
+    ensures { λ r. ⌜ (let l = lentSheet (now (sheet .entry)) (now (alpha .entry)) (now (forces .entry)) (now (numbers .entry)) (now (links .entry)) (now (draws .entry)) (now (work .entry)) in
+        TickEnds l s r (now (sheet .exit)) (now (alpha .exit)) (now (work .exit))) ⌝ }
+{
+    let r = tick_check(sheet, forces, numbers, links, draws, float_of(*alpha), s);
+    let number = r.number;
+    if number != 0 {
+        return refused(r);
+    }
+    with_lists(sheet, alpha, forces, numbers, links, draws, s, work)
+}

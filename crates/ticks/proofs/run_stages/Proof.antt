@@ -1,0 +1,67 @@
+use mathlib.Core.Path.{sym, _∙_}
+use Prim.Native.Nat.{_/_}
+use borrow.Author.Needs.{needs}
+use borrow.Author.Tests.{not-true, not-false}
+use lib.ListN.{length}
+use Rattle.rules.specs.Tick.{entriesOf, forcesFrom}
+use Rattle.force.specs.Columns.{particlesFrom}
+use Rattle.ticks.proofs.Ticking.{hot-stages, stopped-stages, moved-stages}
+use Rattle.ticks.proofs.run_stages.Statement.{statement}
+use Rattle.ticks.proofs.run_stages.Tie as tie
+
+returns : tie.Need-returns
+returns c was =
+    let s = c .before .before .before .before .before .before .before .before .before .before .before .before in
+    let a = s .args in
+    hot-stages (a .places .now) (a .speeds .now) (a .draws .now) (a .flags .now) (a .alpha) (a .decay) (particlesFrom (a .home .now) was (a .flags .now))
+    (forcesFrom (length (a .flags .now)) (entriesOf (a .forces .now)) (a .numbers .now) (a .links .now)) (length (a .work .now) / 8) (a .used) (a .visits) _ _ (s .pre .1 .0)
+    (sym (c .before .within .ensures) ∙ not-true _ (c .if1 .taken))
+
+returns-2 : tie.Need-returns-2
+returns-2 c was =
+    let m = c .before .before .before .before .before .before .before .before .before .before .before .before in
+    let e = m .before .before .before .before .before .before in
+    let s = e .before .before .before .before .before .before .before .before .before .before .before .before in
+    let a = s .args in
+    stopped-stages (a .places .now) (a .speeds .now) (a .draws .now) (a .flags .now) (a .alpha) (a .decay) (particlesFrom (a .home .now) was (a .flags .now))
+    (forcesFrom (length (a .flags .now)) (entriesOf (a .forces .now)) (a .numbers .now) (a .links .now)) (length (a .work .now) / 8) (a .used) (a .visits)
+    (sym (e .before .within .ensures) ∙ not-false _ (e .if1 .left)) (m .run-slots .last .1 .1 .1 .0) (m .run-slots .last .1 .1 .1 .1 .0) _ (m .run-slots .result) (m .run-slots .ensures) (c .if2 .taken)
+
+close-requires : tie.Need-close-requires
+close-requires c κs =
+    let m = c .before .before .before .before .before .before .before .before .before .before .before .before .before .before in
+    let p = m .before .before .before .before .before .before .before .before .before .before .before .before .before .before .before .before .before .before .pre in
+    (p .1 .3, m .run-slots .kept .1 .1 .1 .0 ∙ p .1 .0 .places, m .run-slots .kept .1 .1 .1 .1 .0 ∙ p .1 .0 .speeds)
+
+returns-3 : tie.Need-returns-3
+returns-3 c was =
+    let k = c .before .before .before .before in
+    let m = c .before .before .before .before .before .before .before .before .before .before .before .before .before .before .before .before .before .before .before in
+    let e = m .before .before .before .before .before .before in
+    let s = e .before .before .before .before .before .before .before .before .before .before .before .before in
+    let a = s .args in
+    moved-stages (a .places .now) (a .speeds .now) (a .draws .now) (a .flags .now) (a .alpha) (a .decay) (particlesFrom (a .home .now) was (a .flags .now))
+    (forcesFrom (length (a .flags .now)) (entriesOf (a .forces .now)) (a .numbers .now) (a .links .now)) (length (a .work .now) / 8) (a .used) (a .visits)
+    (sym (e .before .within .ensures) ∙ not-false _ (e .if1 .left)) (m .run-slots .last .1 .1 .1 .0) (m .run-slots .last .1 .1 .1 .1 .0) _ (m .run-slots .result) (m .run-slots .ensures)
+    (k .close .last .1 .0) (k .close .last .1 .1 .0) (k .close .result) (c .before .before .before .before .before .before .before .if2 .left) (k .close .ensures was (a .alpha) (a .draws .now) (m .run-slots .ensures .draws .reach))
+
+pub run-stages-spec : {M : Type 1} → statement M
+run-stages-spec =
+    tie.close
+    (tie.spec
+    (λ c κs. search needs)
+    returns
+    (λ c κs. (c .before .before .before .before .before .before .before .before .before .before .before .before .before .before .before .before .before .pre .0, (c .before .before .before .before .before .before .before .before .before .before .before .before .before .before .before .before .before .pre .1 .0, c .before .before .before .before .before .before .before .before .before .before .before .before .before .before .before .before .before .pre .1 .1, c .before .before .before .before .before .before .before .before .before .before .before .before .before .before .before .before .before .pre .1 .2)))
+    (λ c. search needs)
+    (λ c. search needs)
+    (λ c. search needs)
+    (λ c. search needs)
+    (λ c. search needs)
+    returns-2
+    close-requires
+    (λ c. search needs)
+    (λ c. search needs)
+    (λ c. search needs)
+    (λ c. search needs)
+    (λ c. search needs)
+    returns-3)
