@@ -11,7 +11,7 @@ use lib.Seq.{take-all, drop-drop}
 use lib.Ieee.{Float}
 use Rattle.rules.specs.declared.ForceEntry.{ForceEntry}
 use Rattle.rules.specs.Plain.{all, sum}
-use Rattle.rules.specs.Outcome.{done, refused, Check, fine, _>>=_, foldStages, checkFrom, checkEach}
+use Rattle.rules.specs.Outcome.{Check, fine, _>>=_, foldStages, checkFrom, checkEach}
 use Rattle.rules.specs.Tick.{State, Force, entryAt, entriesOf, entryCounts, strengthsRight, numbersNeeded, linksNeeded, forceOf, forcesFrom, forceEnds, forceStage}
 use Rattle.force.specs.declared.Ran.{Ran}
 use Rattle.force.proofs.Called.{then-both, and-both}

@@ -12,7 +12,7 @@ use Rattle.rules.specs.declared.ForceEntry.{ForceEntry}
 use Rattle.rules.specs.Outcome.{done, fine, requireAll}
 use Rattle.rules.specs.Refusal.{countCheck}
 use Rattle.rules.specs.Force.{manyBody, collide, link, endsFrom, endsOf, endsRange, noneOr}
-use Rattle.rules.specs.Tick.{State, Force, push, center, byKind, forceOf, forceStage}
+use Rattle.rules.specs.Tick.{State, Force, push, center, byKind, entryCounts, numbersNeeded, forceOf, forceStage}
 use Rattle.link.specs.Links.{EndsLent, ListsLent}
 use Rattle.link.proofs.LinkCalled.{ends-range}
 use Rattle.force.proofs.Called.{then-both, require-true}
@@ -54,15 +54,16 @@ module _ (n : ℕ) (e : ForceEntry) (xs : List Float) (ls : List ℕ) where
 
 -- ---- the lists of ManyBody and Collide
 
-module _ (n : ℕ) (e : ForceEntry) (xs : List Float) (ls : List ℕ) (h : SlotFits n e xs ls) where
+-- a number for each of n particles
+module _ (n : ℕ) (e : ForceEntry) (xs : List Float) (h : numbersNeeded n e ≤ length xs) where
   pub strengths-long : e .kind ≡ 1 → length (take n xs) ≡ n
-  strengths-long k = length-take-le n xs (rw k at (h .numbers))
+  strengths-long k = length-take-le n xs (rw k at h)
 
   pub radii-long : e .kind ≡ 2 → length (take n xs) ≡ n
-  radii-long k = length-take-le n xs (rw k at (h .numbers))
+  radii-long k = length-take-le n xs (rw k at h)
 
-  pub few-iterations : e .kind ≡ 2 → e .iterations ≤ 64
-  few-iterations k = leb-true (e .iterations) 64 (require-true _ 1 0 (rw k at (h .counts)))
+pub few-iterations : (e : ForceEntry) → entryCounts e ≡ fine → e .kind ≡ 2 → e .iterations ≤ 64
+few-iterations e h k = leb-true (e .iterations) 64 (require-true _ 1 0 (rw k at h))
 
 -- ---- Link's lists
 

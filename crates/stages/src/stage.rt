@@ -17,7 +17,8 @@ ghost use lib.Ieee.{Float};
 ghost use Rattle.rules.specs.Force as Force;
 ghost use Rattle.rules.specs.Force.{endsOf};
 ghost use Rattle.rules.specs.Tick as Rule;
-ghost use Rattle.rules.specs.Tick.{forceOf, pushStage, forceStage};
+ghost use Rattle.rules.specs.Outcome.{fine};
+ghost use Rattle.rules.specs.Tick.{entryCounts, numbersNeeded, forceOf, pushStage, forceStage};
 ghost use Rattle.link.specs.Links.{EndsLent, ListsLent};
 ghost use Rattle.stages.specs.Stage.{Columns, Chains, SlotFits, stateOf, idle, settledRan, Stages};
 
@@ -198,14 +199,13 @@ fn center_stage(
     settled(places, speeds, untouched(used, visits))
 }
 
-// The force of a slot, whose lists are the first of what is left. An unknown kind was refused before.
-pub fn stage(
+// A slot of ManyBody or Collide, with a number for each of n particles; in an empty slot nothing runs. An unknown kind was refused before.
+fn tree_slot(
     e: ForceEntry,
+    n: usize,
     numbers: &[f64],
-    links: &[u32],
-    places: &mut [f64],
+    places: &[f64],
     speeds: &mut [f64],
-    flags: &[u64],
     alpha: f64,
     draws: &[f64],
     used: usize,
@@ -214,10 +214,10 @@ pub fn stage(
     tail: &mut [u32],
     work: &mut [u64],
 ) -> Ran
-    requires { ⌜ Columns (now places) (now speeds) (now draws) (length (now flags)) used × Chains (length (now flags)) (now next) (now tail) × SlotFits (length (now flags)) e (now numbers) (now links) × (visits < 2 ^ 63) ⌝ }
-    ensures { λ r. ⌜ Stages (now (places .exit)) (now (speeds .exit)) (now (flags .entry)) alpha (now (draws .entry)) used (visits + 2 ^ 37) r (forceStage (length (now (work .entry)) / 8) (stateOf (now (places .entry)) (now (speeds .entry)) (now (flags .entry)) alpha (now (draws .entry)) used visits) (forceOf (length (now (flags .entry))) e (now (numbers .entry)) (now (links .entry)))) ⌝ }
+    requires { ⌜ Columns (now places) (now speeds) (now draws) n used × Chains n (now next) (now tail) × (visits < 2 ^ 63) ⌝ }
+    requires { ⌜ (entryCounts e ≡ fine) × (numbersNeeded n e ≤ length (now numbers)) × (e .kind ≡ 3 → ⊥) × (e .kind ≡ 4 → ⊥) ⌝ }
+    ensures { λ r. ⌜ ((flags links : List ℕ) → length flags ≡ n → Stages (now (places .entry)) (now (speeds .exit)) flags alpha (now (draws .entry)) used (visits + 2 ^ 37) r (forceStage (length (now (work .entry)) / 8) (stateOf (now (places .entry)) (now (speeds .entry)) flags alpha (now (draws .entry)) used visits) (forceOf n e (now (numbers .entry)) links))) ⌝ }
 {
-    let n = flags.len();
     let kind = e.kind;
     if kind == 1 {
         let strengths = &numbers[..n];
@@ -250,6 +250,29 @@ pub fn stage(
             work,
         );
     }
+    untouched(used, visits)
+}
+
+// The force of a slot, whose lists are the first of what is left.
+pub fn stage(
+    e: ForceEntry,
+    numbers: &[f64],
+    links: &[u32],
+    places: &mut [f64],
+    speeds: &mut [f64],
+    flags: &[u64],
+    alpha: f64,
+    draws: &[f64],
+    used: usize,
+    visits: u64,
+    next: &mut [u32],
+    tail: &mut [u32],
+    work: &mut [u64],
+) -> Ran
+    requires { ⌜ Columns (now places) (now speeds) (now draws) (length (now flags)) used × Chains (length (now flags)) (now next) (now tail) × SlotFits (length (now flags)) e (now numbers) (now links) × (visits < 2 ^ 63) ⌝ }
+    ensures { λ r. ⌜ Stages (now (places .exit)) (now (speeds .exit)) (now (flags .entry)) alpha (now (draws .entry)) used (visits + 2 ^ 37) r (forceStage (length (now (work .entry)) / 8) (stateOf (now (places .entry)) (now (speeds .entry)) (now (flags .entry)) alpha (now (draws .entry)) used visits) (forceOf (length (now (flags .entry))) e (now (numbers .entry)) (now (links .entry)))) ⌝ }
+{
+    let kind = e.kind;
     if kind == 3 {
         return link_slot(
             e,
@@ -266,5 +289,18 @@ pub fn stage(
     if kind == 4 {
         return center_stage(e.a, e.b, e.c, places, speeds, used, visits);
     }
-    untouched(used, visits)
+    tree_slot(
+        e,
+        flags.len(),
+        numbers,
+        places,
+        speeds,
+        alpha,
+        draws,
+        used,
+        visits,
+        next,
+        tail,
+        work,
+    )
 }

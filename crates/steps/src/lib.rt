@@ -62,10 +62,7 @@ pub fn step_on(
     let mut spent: usize = 0;
     let mut seen: u64 = 0;
     let mut t: u64 = 0;
-    while t < budget {
-        if !(least < heat) {
-            return ended(t, heat, spent, seen);
-        }
+    while t < budget && least < heat {
         let r = tick_on(
             forces,
             numbers,

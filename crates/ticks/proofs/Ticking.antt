@@ -1,13 +1,13 @@
 -- One tick: the stages that follow alpha's step, and how the whole is answered.
 use mathlib.Core.Path.{_≡_, refl, sym, _∙_}
-use mathlib.Core.Bool.{true, false}
+use mathlib.Core.Bool.{Bool, true, false}
 use mathlib.Core.List.{List}
 use Prim.Native.Nat.{ℕ, _+_, _^_}
 use native.Mathlib.Omega.{arith}
-use borrow.Author.Tests.{eq-eqb, ne-eqb}
+use borrow.Author.Tests.{eqb-true, eqb-false, eq-eqb, ne-eqb}
+use lib.Dec.{eqb}
 use lib.Ieee.{Float}
 use Rattle.rules.specs.declared.Particle.{Particle}
-use Rattle.rules.specs.declared.Refusal.{Refusal}
 use Rattle.rules.specs.declared.Settings.{Settings}
 use Rattle.rules.specs.Outcome.{Outcome, done, refused, refusal, Check, _>>=_, foldStages, zeroesWork}
 use Rattle.rules.specs.Number.{within}
@@ -17,25 +17,21 @@ use Rattle.rules.specs.Tick.{State, state, Force, nextAlpha, alphaStage, settle
 use Rattle.force.specs.declared.Ran.{Ran}
 use Rattle.force.specs.Columns.{particlesFrom}
 use Rattle.ticks.specs.declared.Ticked.{Ticked}
-use Rattle.stages.specs.Stage.{Columns, stateOf, stagedOf, Stages}
-use Rattle.ticks.specs.Tick.{stagesFrom, tickedOf, Ticks}
+use Rattle.force.proofs.Called.{standing-fine}
+use Rattle.stages.specs.Stage.{Columns, stateOf, idle, settledRan, stagedOf, Stages}
+use Rattle.ticks.specs.Tick.{closed, stagesFrom, tickedOf, EndsTick, Ticks}
 use Rattle.stages.proofs.Staged.{staged-refused, staged-done}
 
 -- ---- from alpha's test on
 
 module _ (decay : Float) (entry : List Particle) (fs : List Force) (slots : ℕ) (m : State) where
-  pub stages-hot : within (m .alpha) ≡ false → refused (refusal 9 0) ≡ stagesFrom decay entry fs slots m
+  stages-hot : within (m .alpha) ≡ false → refused (refusal 9 0) ≡ stagesFrom decay entry fs slots m
   unfolding stagesFrom
   stages-hot h = rw h
 
-  module _ (h : within (m .alpha) ≡ true) where
-    pub stages-stopped : (q : Refusal) → foldStages (forceStage slots) m fs ≡ refused q → refused q ≡ stagesFrom decay entry fs slots m
-    unfolding stagesFrom
-    stages-stopped q e = rw (h, e)
-
-    pub stages-closed : (n : State) → foldStages (forceStage slots) m fs ≡ done n → settled (closing decay entry (n .particles)) n ≡ stagesFrom decay entry fs slots m
-    unfolding stagesFrom
-    stages-closed n e = rw (h, e)
+  stages-cool : within (m .alpha) ≡ true → closed decay entry (foldStages (forceStage slots) m fs) ≡ stagesFrom decay entry fs slots m
+  unfolding stagesFrom
+  stages-cool h = rw h
 
 -- from the columns places and speeds, beside the particles at tick entry
 module _ (places speeds ds : List Float) (flags : List ℕ) (alpha decay : Float) (entry : List Particle) (fs : List Force) (slots used visits : ℕ) where
@@ -54,35 +50,38 @@ module _ (places speeds ds : List Float) (flags : List ℕ) (alpha decay : Float
         ranged = λ z. absurd (omega arith);
       }
 
-  -- the forces left these columns, and r was answered
-  module _ (w : within alpha ≡ true) (at vs : List Float) (most : ℕ) (r : Ran)
-      (h : Stages at vs flags alpha ds used most r (foldStages (forceStage slots) (stateOf places speeds flags alpha ds used visits) fs)) where
-    pub stopped-stages : (r .refusal .number ≡ 0 → ⊥) → Stages at vs flags alpha ds used most r (stagesFrom decay entry fs slots (stateOf places speeds flags alpha ds used visits))
-    stopped-stages n =
-        let e = staged-refused at vs flags alpha ds r n in
-        record {
-          is = e ∙ stages-stopped decay entry fs slots (stateOf places speeds flags alpha ds used visits) w (r .refusal) (sym (h .is) ∙ e);
-          draws = h .draws;
-          late = h .late;
-          few = h .few;
-          ranged = h .ranged;
-        }
+  -- the forces ran, and the closing move, which left these columns
+  pub cool-stages : within alpha ≡ true → (at vs : List Float) (most : ℕ) (r : Ran)
+      → Stages at vs flags alpha ds used most r (closed decay entry (foldStages (forceStage slots) (stateOf places speeds flags alpha ds used visits) fs))
+      → Stages at vs flags alpha ds used most r (stagesFrom decay entry fs slots (stateOf places speeds flags alpha ds used visits))
+  cool-stages w at vs most r k =
+      record { is = k .is ∙ stages-cool decay entry fs slots (stateOf places speeds flags alpha ds used visits) w; draws = k .draws; late = k .late; few = k .few; ranged = k .ranged }
 
-    -- and the closing move these
-    pub moved-stages : (at' vs' : List Float) (r' : Ran) → r .refusal .number ≡ 0
-        → Stages at' vs' flags alpha ds (r .used) (r .visits) r' (settled (closing decay entry (particlesFrom at vs flags)) (stateOf at vs flags alpha ds (r .used) (r .visits)))
-        → Stages at' vs' flags alpha ds used most r' (stagesFrom decay entry fs slots (stateOf places speeds flags alpha ds used visits))
-    moved-stages at' vs' r' z k =
-        record {
-          is =
-              k .is
-              ∙ stages-closed decay entry fs slots (stateOf places speeds flags alpha ds used visits) w (stateOf at vs flags alpha ds (r .used) (r .visits))
-              (sym (h .is) ∙ staged-done at vs flags alpha ds r z);
-          draws = omega (arith, h .draws, k .draws);
-          late = k .late;
-          few = λ z'. omega (arith, h .few z, k .few z');
-          ranged = k .ranged;
-        }
+-- ---- the closing move
+
+-- where forces refused nothing 9 is tested as after none
+pub settled-same : (places speeds : List Float) (ran : Ran) → ran .refusal .number ≡ 0 → settledRan places speeds ran ≡ settledRan places speeds (idle (ran .used) (ran .visits))
+settled-same places speeds ran z = rw (standing-fine ran z, standing-fine (idle (ran .used) (ran .visits)) refl)
+
+-- the forces came to o, left these columns, and `ran` was answered
+module _ (at vs ds : List Float) (flags : List ℕ) (alpha decay : Float) (entry : List Particle) (used most : ℕ) (ran : Ran) (o : Outcome State) (h : Stages at vs flags alpha ds used most ran o) where
+  pub stopped-stages : (ran .refusal .number ≡ 0 → ⊥) → Stages at vs flags alpha ds used most ran (closed decay entry o)
+  stopped-stages n =
+      let e = staged-refused at vs flags alpha ds ran n in
+      record { is = e ∙ rw (sym (h .is) ∙ e); draws = h .draws; late = h .late; few = h .few; ranged = h .ranged }
+
+  -- and the closing move these
+  pub moved-stages : (at' vs' : List Float) (r : Ran) → ran .refusal .number ≡ 0
+      → Stages at' vs' flags alpha ds (ran .used) (ran .visits) r (settled (closing decay entry (particlesFrom at vs flags)) (stateOf at vs flags alpha ds (ran .used) (ran .visits)))
+      → Stages at' vs' flags alpha ds used most r (closed decay entry o)
+  moved-stages at' vs' r z k =
+      record {
+        is = k .is ∙ rw (sym (h .is) ∙ staged-done at vs flags alpha ds ran z);
+        draws = omega (arith, h .draws, k .draws);
+        late = k .late;
+        few = λ z'. omega (arith, h .few z, k .few z');
+        ranged = k .ranged;
+      }
 
 -- a tick is alpha's step and these
 pub tick-is : (s : Settings) (fs : List Force) (slots : ℕ) (m : State)
@@ -125,7 +124,7 @@ module _ (places speeds ds home at vs : List Float) (flags : List ℕ) (alpha co
   ended = k .is ∙ rw (eh, ec) (tick-is s fs slots (stateOf places speeds flags alpha ds used visits))
 
   -- a refused tick puts the columns back
-  pub refused-ticks : (ran .refusal .number ≡ 0 → ⊥) → (places' speeds' : List Float) → places' ≡ places → speeds' ≡ speeds
+  refused-ticks : (ran .refusal .number ≡ 0 → ⊥) → (places' speeds' : List Float) → places' ≡ places → speeds' ≡ speeds
       → Ticks places speeds places' speeds' flags alpha ds used visits (record { refusal = ran .refusal; alpha = alpha; used = used; visits = visits }) o
   refused-ticks z places' speeds' ep ev =
       record {
@@ -137,7 +136,7 @@ module _ (places speeds ds home at vs : List Float) (flags : List ℕ) (alpha co
         ranged = rw ep (h .ranged);
       }
 
-  pub done-ticks : ran .refusal .number ≡ 0
+  done-ticks : ran .refusal .number ≡ 0
       → Ticks places speeds at vs flags alpha ds used visits (record { refusal = ran .refusal; alpha = cooled; used = ran .used; visits = ran .visits }) o
   done-ticks z =
       record {
@@ -149,3 +148,12 @@ module _ (places speeds ds home at vs : List Float) (flags : List ℕ) (alpha co
         few = k .few z;
         ranged = k .ranged z;
       }
+
+  -- either, as the tick's own end says
+  pub ended-ticks : (was : List Float) → was ≡ speeds → (r : Ticked) (places' speeds' : List Float) → EndsTick ran home was at vs alpha cooled used visits r places' speeds'
+      → Ticks places speeds places' speeds' flags alpha ds used visits r o
+  ended-ticks was ew r places' speeds' e = go (eqb (ran .refusal .number) 0) refl
+    where
+      go : (b : Bool) → eqb (ran .refusal .number) 0 ≡ b → Ticks places speeds places' speeds' flags alpha ds used visits r o
+      go true t = let z = eqb-true (ran .refusal .number) 0 t in let f = e .accepted z in rw (f .0, f .1, f .2) (done-ticks z)
+      go false t = let z = eqb-false (ran .refusal .number) 0 t in let f = e .putBack z in rw (f .0) (refused-ticks z places' speeds' (f .1 ∙ eh) (f .2 ∙ ew))

@@ -6,19 +6,18 @@ use rules::Refusal;
 use rules::Settings;
 use slots::run_slots;
 use stages::stage::settled;
-use stages::stage::untouched;
 ghost use mathlib.Core.Path.{_≡_};
 ghost use mathlib.Core.List.{List};
-ghost use Prim.Native.Nat.{_+_, _*_, _/_, _<_, _≤_, _^_};
+ghost use Prim.Native.Nat.{ℕ, _+_, _*_, _/_, _<_, _^_};
 ghost use lib.ListN.{length};
 ghost use lib.Ieee.{Float};
 ghost use Rattle.rules.specs.Tick as Rule;
 ghost use Rattle.rules.specs.Tick.{entriesOf, forcesFrom};
-ghost use Rattle.rules.specs.Particle.{closing};
+ghost use Rattle.rules.specs.Outcome.{Outcome};
 ghost use Rattle.force.specs.Columns.{particlesFrom};
 ghost use Rattle.checks.specs.Fits.{Fits};
 ghost use Rattle.stages.specs.Stage.{Columns, Chains, stateOf, Stages};
-ghost use Rattle.ticks.specs.Tick.{stagesFrom, Ticks};
+ghost use Rattle.ticks.specs.Tick.{closed, stagesFrom, EndsTick, Ticks};
 
 // How a tick ended: the refusal, or number 0; alpha, the draws used and the nodes handed out after it, as they were handed in where it was refused.
 pub struct Ticked {
@@ -46,21 +45,25 @@ fn next_alpha(s: Settings, alpha: f64) -> f64
     alpha + (s.target - alpha) * s.cooling
 }
 
-// The closing move, and 9 after it. `home` are the places at tick entry, to which a held axis returns.
+// The closing move after forces that ran, and 9 after it; none where they were refused. `home` are the places at tick entry, to which a held axis returns.
 fn close(
     home: &[f64],
     places: &mut [f64],
     speeds: &mut [f64],
     flags: &[u64],
     decay: f64,
-    used: usize,
-    visits: u64,
+    ran: Ran,
 ) -> Ran
     requires { ⌜ (length (now home) ≡ length (now flags) * 2) × (length (now places) ≡ length (now flags) * 2) × (length (now speeds) ≡ length (now flags) * 2) ⌝ }
-    ensures { λ r. ⌜ ((was : List Float) (alpha : Float) (ds : List Float) → used ≤ length ds → Stages (now (places .exit)) (now (speeds .exit)) (now (flags .entry)) alpha ds used visits r (Rule.settled (closing decay (particlesFrom (now (home .entry)) was (now (flags .entry))) (particlesFrom (now (places .entry)) (now (speeds .entry)) (now (flags .entry)))) (stateOf (now (places .entry)) (now (speeds .entry)) (now (flags .entry)) alpha ds used visits))) ⌝ }
+    ensures { λ r. ⌜ ((was : List Float) (alpha : Float) (ds : List Float) (used most : ℕ) (o : Outcome Rule.State) → Stages (now (places .entry)) (now (speeds .entry)) (now (flags .entry)) alpha ds used most ran o → Stages (now (places .exit)) (now (speeds .exit)) (now (flags .entry)) alpha ds used most r (closed decay (particlesFrom (now (home .entry)) was (now (flags .entry))) o)) ⌝ }
 {
+    let refusal = ran.refusal;
+    let number = refusal.number;
+    if number != 0 {
+        return ran;
+    }
     close_all(home, places, speeds, flags, decay);
-    settled(places, speeds, untouched(used, visits))
+    settled(places, speeds, ran)
 }
 
 // The stages from alpha's test on.
@@ -95,7 +98,7 @@ fn run_stages(
             visits,
         };
     }
-    let r = run_slots(
+    let ran = run_slots(
         forces,
         numbers,
         links,
@@ -110,15 +113,45 @@ fn run_stages(
         tail,
         work,
     );
-    let refusal = r.refusal;
-    let number = refusal.number;
-    if number != 0 {
-        return r;
-    }
-    close(home, places, speeds, flags, decay, r.used, r.visits)
+    close(home, places, speeds, flags, decay, ran)
 }
 
-// A refused tick puts places and velocities back. `home` and `was` are lists for them as they are at entry.
+// How the stages ended, as the tick's own end. A refused tick puts places and velocities back as they were at entry.
+fn end_tick(
+    ran: Ran,
+    home: &[f64],
+    was: &[f64],
+    places: &mut [f64],
+    speeds: &mut [f64],
+    alpha: f64,
+    cooled: f64,
+    used: usize,
+    visits: u64,
+) -> Ticked
+    requires { ⌜ (length (now places) ≡ length (now home)) × (length (now speeds) ≡ length (now was)) ⌝ }
+    ensures { λ r. ⌜ EndsTick ran (now (home .entry)) (now (was .entry)) (now (places .entry)) (now (speeds .entry)) alpha cooled used visits r (now (places .exit)) (now (speeds .exit)) ⌝ }
+{
+    let refusal = ran.refusal;
+    let number = refusal.number;
+    if number != 0 {
+        copy(home, places);
+        copy(was, speeds);
+        return Ticked {
+            refusal,
+            alpha,
+            used,
+            visits,
+        };
+    }
+    Ticked {
+        refusal,
+        alpha: cooled,
+        used: ran.used,
+        visits: ran.visits,
+    }
+}
+
+// `home` and `was` are lists for places and velocities as they are at entry.
 pub fn tick_on(
     forces: &[u64; 56],
     numbers: &[f64],
@@ -144,7 +177,7 @@ pub fn tick_on(
     copy(places, home);
     copy(speeds, was);
     let cooled = next_alpha(s, alpha);
-    let r = run_stages(
+    let ran = run_stages(
         forces,
         numbers,
         links,
@@ -161,22 +194,5 @@ pub fn tick_on(
         tail,
         work,
     );
-    let refusal = r.refusal;
-    let number = refusal.number;
-    if number != 0 {
-        copy(home, places);
-        copy(was, speeds);
-        return Ticked {
-            refusal,
-            alpha,
-            used,
-            visits,
-        };
-    }
-    Ticked {
-        refusal,
-        alpha: cooled,
-        used: r.used,
-        visits: r.visits,
-    }
+    end_tick(ran, home, was, places, speeds, alpha, cooled, used, visits)
 }

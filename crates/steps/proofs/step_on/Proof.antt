@@ -1,9 +1,9 @@
 use mathlib.Core.Path.{_≡_, refl, sym, ap, _∙_}
+use mathlib.Core.Logic.{⊎-elim}
 use mathlib.Core.List.{List}
 use Prim.Native.Nat.{ℕ, _-_, _*_, _/_, _≤_, _^_}
 use native.Mathlib.Omega.{arith}
 use borrow.Author.Needs.{needs}
-use borrow.Author.Tests.{not-true, not-false}
 use lib.ListN.{length}
 use Rattle.rules.specs.Tick.{Force, entriesOf, forcesFrom, tick}
 use Rattle.stages.specs.Stage.{Columns, Chains, stateOf}
@@ -39,17 +39,6 @@ fs s = forcesFrom (length (s .args .flags .now)) (entriesOf (s .args .forces .no
 loop-holds : tie.Need-loop-holds Inv-loop μ-loop
 loop-holds c = let p = c .before .before .before .before .before .before .before .before .before .before .before .pre in (p .1 .0, p .1 .1, refl, refl, refl, refl, refl, refl, refl, omega arith, omega arith, refl)
 
-returns : tie.Need-returns Inv-loop μ-loop
-returns c =
-    let i = c .before .before in
-    let l = i .before .loop in
-    let s = i .before .before .before .before .before .before .before .before .before .before .before .before .before in
-    let a = s .args in
-    let n = length (a .work .now) / 8 in
-    ended-steps (l .places) (l .speeds) (a .draws .now) (a .flags .now) (l .heat) _ (a .budget) (l .t) (l .spent) (l .seen) _ (l .inv .0) (l .inv .9) (l .inv .10) (c .ended .result) (c .ended .ensures)
-    (ticks-low (a .s) (a .least) (fs s) n (a .budget) (l .t) (stateOf (l .places) (l .speeds) (a .flags .now) (l .heat) (a .draws .now) (l .spent) (l .seen)) (i .loop-test .taken) (not-true _ (c .before .if1 .taken))
-    ∙ sym (l .inv .11) ∙ sym (ticks-first (a .s) (a .least) (fs s) n (a .budget) _))
-
 tick-on-requires : tie.Need-tick-on-requires Inv-loop μ-loop
 tick-on-requires c κs =
     let l = c .before .before .before .before .before .before .before .before .before .loop in
@@ -66,8 +55,8 @@ ticked c =
     let a = s .args in
     c .tick-on .ensures .is ∙ ap (λ (k : ℕ). tick (a .s) (fs s) (k / 8) (stateOf (l .places) (l .speeds) (a .flags .now) (l .heat) (a .draws .now) (l .spent) (l .seen))) (l .inv .8)
 
-returns-2 : tie.Need-returns-2 Inv-loop μ-loop
-returns-2 c =
+returns : tie.Need-returns Inv-loop μ-loop
+returns c =
     let g = c .before .before .before .before .before .before .before .before .before .before .before .before .before .before .before .before in
     let e = g .before .before .before .before .before .before .before .before in
     let l = g .before .before .before .before .before .before .before .before .before .before .loop in
@@ -77,7 +66,7 @@ returns-2 c =
     let r = g .tick-on .result in
     stopped-steps (l .places) (l .speeds) (a .draws .now) (a .flags .now) (l .heat) _ (a .budget) (l .t) (l .spent) (l .seen) _ (l .inv .0) (l .inv .9) (l .inv .10)
     (g .tick-on .last .1 .1 .1 .0) (g .tick-on .last .1 .1 .1 .1 .0) r _ (g .tick-on .ensures) (c .if2 .taken)
-    (ticks-stop (a .s) (a .least) (fs s) n (a .budget) (l .t) (stateOf (l .places) (l .speeds) (a .flags .now) (l .heat) (a .draws .now) (l .spent) (l .seen)) (e .before .loop-test .taken) (not-false _ (e .if1 .left)) (r .refusal)
+    (ticks-stop (a .s) (a .least) (fs s) n (a .budget) (l .t) (stateOf (l .places) (l .speeds) (a .flags .now) (l .heat) (a .draws .now) (l .spent) (l .seen)) (e .before .loop-test .taken) (e .if1 .taken) (r .refusal)
     (sym (ticked g) ∙ ticked-refused (g .tick-on .last .1 .1 .1 .0) (g .tick-on .last .1 .1 .1 .1 .0) (a .flags .now) (a .draws .now) r (c .if2 .taken))
     ∙ sym (l .inv .11) ∙ sym (ticks-first (a .s) (a .least) (fs s) n (a .budget) _))
 
@@ -110,19 +99,20 @@ loop-again c =
       omega arith,
       omega (arith, t .few, l .inv .10),
       l .inv .11
-          ∙ ticks-on (a .s) (a .least) (fs s) n (a .budget) (l .t) (stateOf (l .places) (l .speeds) (a .flags .now) (l .heat) (a .draws .now) (l .spent) (l .seen)) (e .before .loop-test .taken) (not-false _ (e .if1 .left))
+          ∙ ticks-on (a .s) (a .least) (fs s) n (a .budget) (l .t) (stateOf (l .places) (l .speeds) (a .flags .now) (l .heat) (a .draws .now) (l .spent) (l .seen)) (e .before .loop-test .taken) (e .if1 .taken)
           (stateOf (g .tick-on .last .1 .1 .1 .0) (g .tick-on .last .1 .1 .1 .1 .0) (a .flags .now) (r .alpha) (a .draws .now) (r .used) (r .visits))
           (sym (ticked g) ∙ ticked-done (g .tick-on .last .1 .1 .1 .0) (g .tick-on .last .1 .1 .1 .1 .0) (a .flags .now) (a .draws .now) r (c .if2 .left)),
     )
 
-returns-3 : tie.Need-returns-3 Inv-loop μ-loop
-returns-3 c =
+returns-2 : tie.Need-returns-2 Inv-loop μ-loop
+returns-2 c =
     let l = c .before .before .loop in
     let s = c .before .before .before .before .before .before .before .before .before .before .before .before .before .before in
     let a = s .args in
     let n = length (a .work .now) / 8 in
-    ended-steps (l .places) (l .speeds) (a .draws .now) (a .flags .now) (l .heat) _ (a .budget) (l .t) (l .spent) (l .seen) _ (l .inv .0) (l .inv .9) (l .inv .10) (c .ended2 .result) (c .ended2 .ensures)
-    (ticks-end (a .s) (a .least) (fs s) n (a .budget) (l .t) (stateOf (l .places) (l .speeds) (a .flags .now) (l .heat) (a .draws .now) (l .spent) (l .seen)) (omega arith)
+    let m = stateOf (l .places) (l .speeds) (a .flags .now) (l .heat) (a .draws .now) (l .spent) (l .seen) in
+    ended-steps (l .places) (l .speeds) (a .draws .now) (a .flags .now) (l .heat) _ (a .budget) (l .t) (l .spent) (l .seen) _ (l .inv .0) (l .inv .9) (l .inv .10) (c .ended .result) (c .ended .ensures)
+    (⊎-elim (λ w. ticks-low (a .s) (a .least) (fs s) n (a .budget) (l .t) m (w .0 .taken) (w .1 .left)) (λ w. ticks-end (a .s) (a .least) (fs s) n (a .budget) (l .t) m (w .left)) (c .before .loop-test .came)
     ∙ sym (l .inv .11) ∙ sym (ticks-first (a .s) (a .least) (fs s) n (a .budget) _))
 
 pub step-on-spec : {M : Type 1} → statement M
@@ -132,15 +122,6 @@ step-on-spec =
     Inv-loop
     μ-loop
     loop-holds
-    (λ c κs. search needs)
-    (λ c. c .before .before .before .loop .inv .2)
-    (λ c. c .before .before .before .loop .inv .3)
-    (λ c. c .before .before .before .loop .inv .4)
-    (λ c. c .before .before .before .loop .inv .5)
-    (λ c. c .before .before .before .loop .inv .6)
-    (λ c. c .before .before .before .loop .inv .7)
-    (λ c. c .before .before .before .loop .inv .8)
-    returns
     tick-on-requires
     (λ c. c .before .before .before .before .before .before .before .before .before .before .before .before .before .before .before .before .tick-on .kept .1 .1 .1 .0 ∙ c .before .before .before .before .before .before .before .before .before .before .before .before .before .before .before .before .before .before .before .before .before .before .before .before .before .before .loop .inv .2)
     (λ c. c .before .before .before .before .before .before .before .before .before .before .before .before .before .before .before .before .tick-on .kept .1 .1 .1 .1 .0 ∙ c .before .before .before .before .before .before .before .before .before .before .before .before .before .before .before .before .before .before .before .before .before .before .before .before .before .before .loop .inv .3)
@@ -149,7 +130,7 @@ step-on-spec =
     (λ c. c .before .before .before .before .before .before .before .before .before .before .before .before .before .before .before .before .tick-on .kept .1 .1 .1 .1 .1 .1 .1 .1 .1 .1 .1 .1 .1 .0 ∙ c .before .before .before .before .before .before .before .before .before .before .before .before .before .before .before .before .before .before .before .before .before .before .before .before .before .before .loop .inv .6)
     (λ c. c .before .before .before .before .before .before .before .before .before .before .before .before .before .before .before .before .tick-on .kept .1 .1 .1 .1 .1 .1 .1 .1 .1 .1 .1 .1 .1 .1 .0 ∙ c .before .before .before .before .before .before .before .before .before .before .before .before .before .before .before .before .before .before .before .before .before .before .before .before .before .before .loop .inv .7)
     (λ c. c .before .before .before .before .before .before .before .before .before .before .before .before .before .before .before .before .tick-on .kept .1 .1 .1 .1 .1 .1 .1 .1 .1 .1 .1 .1 .1 .1 .1 .0 ∙ c .before .before .before .before .before .before .before .before .before .before .before .before .before .before .before .before .before .before .before .before .before .before .before .before .before .before .loop .inv .8)
-    returns-2
+    returns
     (λ c. omega (arith, c .before .before .before .before .before .before .before .before .before .before .before .before .before .before .before .before .before .before .before .before .before .before .before .before .before .loop-test .taken, c .before .before .before .before .before .before .before .before .before .before .before .before .before .before .before .before .before .before .before .before .before .before .before .before .before .before .before .before .before .before .before .before .before .before .before .before .before .before .pre .1 .2))
     (λ c. omega arith)
     loop-again
@@ -161,4 +142,4 @@ step-on-spec =
     (λ c. c .before .before .loop .inv .6)
     (λ c. c .before .before .loop .inv .7)
     (λ c. c .before .before .loop .inv .8)
-    returns-3)
+    returns-2)

@@ -5,7 +5,7 @@ use borrow.Author.Tests.{not-true, not-false}
 use lib.ListN.{length}
 use Rattle.rules.specs.Tick.{entriesOf, forcesFrom}
 use Rattle.force.specs.Columns.{particlesFrom}
-use Rattle.ticks.proofs.Ticking.{hot-stages, stopped-stages, moved-stages}
+use Rattle.ticks.proofs.Ticking.{hot-stages, cool-stages}
 use Rattle.ticks.proofs.run_stages.Statement.{statement}
 use Rattle.ticks.proofs.run_stages.Tie as tie
 
@@ -17,33 +17,23 @@ returns c was =
     (forcesFrom (length (a .flags .now)) (entriesOf (a .forces .now)) (a .numbers .now) (a .links .now)) (length (a .work .now) / 8) (a .used) (a .visits) _ _ (s .pre .1 .0)
     (sym (c .before .within .ensures) ∙ not-true _ (c .if1 .taken))
 
-returns-2 : tie.Need-returns-2
-returns-2 c was =
-    let m = c .before .before .before .before .before .before .before .before .before .before .before .before in
-    let e = m .before .before .before .before .before .before in
-    let s = e .before .before .before .before .before .before .before .before .before .before .before .before in
-    let a = s .args in
-    stopped-stages (a .places .now) (a .speeds .now) (a .draws .now) (a .flags .now) (a .alpha) (a .decay) (particlesFrom (a .home .now) was (a .flags .now))
-    (forcesFrom (length (a .flags .now)) (entriesOf (a .forces .now)) (a .numbers .now) (a .links .now)) (length (a .work .now) / 8) (a .used) (a .visits)
-    (sym (e .before .within .ensures) ∙ not-false _ (e .if1 .left)) (m .run-slots .last .1 .1 .1 .0) (m .run-slots .last .1 .1 .1 .1 .0) _ (m .run-slots .result) (m .run-slots .ensures) (c .if2 .taken)
+run-slots-requires : tie.Need-run-slots-requires
+run-slots-requires c κs = let p = c .before .before .before .before .before .before .before .before .before .before .before .before .before .before .before .before .before .pre in (p .0, (p .1 .0, p .1 .1, p .1 .2))
 
 close-requires : tie.Need-close-requires
 close-requires c κs =
-    let m = c .before .before .before .before .before .before .before .before .before .before .before .before .before .before in
-    let p = m .before .before .before .before .before .before .before .before .before .before .before .before .before .before .before .before .before .before .pre in
+    let m = c .before .before .before .before .before .before .before .before .before .before .before .before in
+    let p = c .before .before .before .before .before .before .before .before .before .before .before .before .before .before .before .before .before .before .before .before .before .before .before .before .before .before .before .before .before .before .pre in
     (p .1 .3, m .run-slots .kept .1 .1 .1 .0 ∙ p .1 .0 .places, m .run-slots .kept .1 .1 .1 .1 .0 ∙ p .1 .0 .speeds)
 
-returns-3 : tie.Need-returns-3
-returns-3 c was =
+returns-2 : tie.Need-returns-2
+returns-2 c was =
     let k = c .before .before .before .before in
-    let m = c .before .before .before .before .before .before .before .before .before .before .before .before .before .before .before .before .before .before .before in
-    let e = m .before .before .before .before .before .before in
-    let s = e .before .before .before .before .before .before .before .before .before .before .before .before in
-    let a = s .args in
-    moved-stages (a .places .now) (a .speeds .now) (a .draws .now) (a .flags .now) (a .alpha) (a .decay) (particlesFrom (a .home .now) was (a .flags .now))
+    let a = c .before .before .before .before .before .before .before .before .before .before .before .before .before .before .before .before .before .before .before .before .before .before .before .before .before .before .before .before .before .before .before .before .before .before .before .args in
+    cool-stages (a .places .now) (a .speeds .now) (a .draws .now) (a .flags .now) (a .alpha) (a .decay) (particlesFrom (a .home .now) was (a .flags .now))
     (forcesFrom (length (a .flags .now)) (entriesOf (a .forces .now)) (a .numbers .now) (a .links .now)) (length (a .work .now) / 8) (a .used) (a .visits)
-    (sym (e .before .within .ensures) ∙ not-false _ (e .if1 .left)) (m .run-slots .last .1 .1 .1 .0) (m .run-slots .last .1 .1 .1 .1 .0) _ (m .run-slots .result) (m .run-slots .ensures)
-    (k .close .last .1 .0) (k .close .last .1 .1 .0) (k .close .result) (c .before .before .before .before .before .before .before .if2 .left) (k .close .ensures was (a .alpha) (a .draws .now) (m .run-slots .ensures .draws .reach))
+    (sym (c .before .before .before .before .before .before .before .before .before .before .before .before .before .before .before .before .before .before .before .before .before .before .before .before .within .ensures) ∙ not-false _ (c .before .before .before .before .before .before .before .before .before .before .before .before .before .before .before .before .before .before .before .before .before .before .before .if1 .left)) (k .close .last .1 .0) (k .close .last .1 .1 .0) _ (k .close .result)
+    (k .close .ensures was (a .alpha) (a .draws .now) (a .used) _ _ (c .before .before .before .before .before .before .before .before .before .before .before .before .before .before .before .before .before .run-slots .ensures))
 
 pub run-stages-spec : {M : Type 1} → statement M
 run-stages-spec =
@@ -51,17 +41,11 @@ run-stages-spec =
     (tie.spec
     (λ c κs. search needs)
     returns
-    (λ c κs. (c .before .before .before .before .before .before .before .before .before .before .before .before .before .before .before .before .before .pre .0, (c .before .before .before .before .before .before .before .before .before .before .before .before .before .before .before .before .before .pre .1 .0, c .before .before .before .before .before .before .before .before .before .before .before .before .before .before .before .before .before .pre .1 .1, c .before .before .before .before .before .before .before .before .before .before .before .before .before .before .before .before .before .pre .1 .2)))
-    (λ c. search needs)
-    (λ c. search needs)
-    (λ c. search needs)
-    (λ c. search needs)
-    (λ c. search needs)
-    returns-2
+    run-slots-requires
     close-requires
     (λ c. search needs)
     (λ c. search needs)
     (λ c. search needs)
     (λ c. search needs)
     (λ c. search needs)
-    returns-3)
+    returns-2)
