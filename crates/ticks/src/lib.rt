@@ -4,7 +4,7 @@ use force::particle::close_all;
 use number::within;
 use rules::Refusal;
 use rules::Settings;
-use slots::run_slots;
+use force_slots::run_slots;
 use stages::stage::settled;
 ghost use mathlib.Core.Path.{_≡_};
 ghost use mathlib.Core.List.{List};

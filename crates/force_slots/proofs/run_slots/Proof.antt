@@ -8,9 +8,9 @@ use Rattle.rules.specs.Tick.{numbersNeeded, linksNeeded, forceOf, forceStage}
 use Rattle.force.specs.Draws.{From}
 use Rattle.force.specs.Ran.{standing}
 use Rattle.stages.specs.Stage.{Columns, Chains, SlotFits, stateOf, stagedOf}
-use Rattle.slots.proofs.SlotsLeft.{Left, forcesLeft, left-first, left-none, left-slot, left-next, left-forces, rest-is, staged-rest, stage-stop, stage-on}
-use Rattle.slots.proofs.run_slots.Statement.{statement}
-use Rattle.slots.proofs.run_slots.Tie as tie
+use Rattle.force_slots.proofs.SlotsLeft.{Left, forcesLeft, left-first, left-none, left-slot, left-next, left-forces, rest-is, staged-rest, stage-stop, stage-on}
+use Rattle.force_slots.proofs.run_slots.Statement.{statement}
+use Rattle.force_slots.proofs.run_slots.Tie as tie
 
 abbrev Inv-loop : tie.InvT-loop
 Inv-loop forces numbers links places₀ speeds₀ flags alpha draws used visits next₀ tail₀ work₀ n spent₀ seen₀ a₀ b₀ i₀ places speeds next tail work spent seen a b i =
