@@ -3,5 +3,4 @@ pub mod CollideLaws
 pub mod CollideSteps
 pub mod CollideFolds
 pub mod CollideRun
-pub mod CollideCalled
 pub mod Facts

@@ -1,3 +1,3 @@
 pub mod Tallies
 pub mod Linked
-pub mod LinkCalled
+pub mod EndsRange

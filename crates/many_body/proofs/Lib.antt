@@ -3,6 +3,5 @@ pub mod ChargeLaws
 pub mod ManyBodyLaws
 pub mod ManyBodyWalk
 pub mod ManyBodyRun
-pub mod ManyBodyCalled
 pub mod OwnLeaf
 pub mod Facts

@@ -9,6 +9,7 @@ use force::index;
 use force::push_on;
 use force::shaken;
 use force::wide;
+use number::float_of;
 use number::root;
 use quadtree::Quadtree;
 use quadtree::build::Built;
@@ -34,6 +35,18 @@ ghost use Rattle.force.specs.Draws.{spentOf, From};
 ghost use Rattle.force.specs.Ran.{Runs};
 ghost use Rattle.many_body.specs.Charge.{chargeOf, readCharge, Chain, Charged};
 ghost use Rattle.many_body.specs.ManyBody.{aimed, aimOf, metOf, Bodies, pulledAll};
+
+// Theta 0.9, least distance 1, greatest infinite, each squared.
+pub fn standard() -> Tuning
+    ensures { λ r. ⌜ r ≡ Rule.standard ⌝ }
+{
+    let infinite = float_of(0x7ff0_0000_0000_0000);
+    Tuning {
+        theta2: 0.9 * 0.9,
+        least2: 1.0 * 1.0,
+        greatest2: infinite * infinite,
+    }
+}
 
 // A gap with neither difference zero and its length, or dry where a draw was needed and none was left.
 pub struct Aim {
