@@ -1,7 +1,7 @@
 -- The whole force: one tree serves all iterations, and the visits stay few. Assumes nothing.
 use mathlib.Core.Path.{_≡_, refl, sym, ap, _∙_, subst}
 use mathlib.Core.List.{List, [], _∷_}
-use Prim.Native.Nat.{ℕ, zero, suc, _+_, _*_, _/_, _≤_, _^_}
+use Prim.Native.Nat.{ℕ, zero, suc, _+_, _*_, _≤_, _^_}
 use native.Mathlib.Nat.{mul-le-mul}
 use native.Mathlib.Omega.{arith}
 use lib.ListN.{length}
@@ -16,14 +16,10 @@ use Rattle.rules.specs.Flow.{Flow}
 use Rattle.rules.specs.Collide.{radiusTree, collideOnce, runCollide}
 use Rattle.rules.proofs.CellRule.{tree-nodes}
 use Rattle.quadtree.specs.declared.Quadtree.{Quadtree}
-use Rattle.quadtree.specs.declared.build.Built.{Built}
-use Rattle.quadtree.specs.declared.build.Built.the-variants.{Refused}
-use Rattle.quadtree.specs.Slots.{Stands}
-use Rattle.quadtree.specs.Build.{particles, Builds}
 use Rattle.quadtree.proofs.AddHold.{cells-depth, cells-nodes}
 use Rattle.walk.proofs.WalkTurns.{nodes-seen}
 use Rattle.collide.specs.Radius.{Rounded}
-use Rattle.collide.specs.Collide.{Bounded, Stood, walkAll, walkTimes}
+use Rattle.collide.specs.Collide.{Bounded, walkAll, walkTimes}
 use Rattle.collide.proofs.CollideSteps.{look, seen-radii}
 
 -- ---- the tree is the same each time
@@ -59,22 +55,6 @@ pub run-refused : (at radii : List Float) (strength : Float) (iterations slots :
 unfolding runCollide
 run-refused at radii strength zero slots m n e = absurd (n refl)
 run-refused at radii strength (suc k) slots m n e = rw (once-refused at radii strength (suc k) slots m e)
-
--- ---- what building says
-
--- b is what building answered for a place for each radius, and m the slots, as many as `slots`
-module _ (at radii : List Float) (m next : List ℕ) (slots : ℕ) (b : Built) (p : length at ≡ length radii * 2) (k : length m / 8 ≡ slots) (h : Builds at m next b) where
-  count-is : particles at ≡ length radii
-  count-is = omega arith
-
-  pub told-refused : {r : Refusal} → b ≡ Refused r → treeCheck at (length radii) slots ≡ refused r
-  told-refused e = rw (← count-is, ← k) (subst (Builds at m next) e h)
-
-  pub told-fine : {q : Quadtree} → b ≡ Built.Tree q → treeCheck at (length radii) slots ≡ fine
-  told-fine e = rw (← count-is, ← k) (subst (Builds at m next) e h .0)
-
-  pub told-stood : {q : Quadtree} → b ≡ Built.Tree q → Stood at (length radii) m q
-  told-stood {q} e = record { next = next; stands = subst (λ (n : ℕ). Stands at n m next q) count-is (subst (Builds at m next) e h .1) }
 
 -- ---- how many nodes
 

@@ -1,7 +1,6 @@
--- What Collide is lent, and its stages. Definitions only.
-use mathlib.Core.Path.{_≡_}
+-- Collide's stages, and how much they may count. Definitions only.
 use mathlib.Core.List.{List}
-use Prim.Native.Nat.{ℕ, _*_, _≤_, _<_, _^_}
+use Prim.Native.Nat.{ℕ, _≤_, _<_, _^_}
 use lib.ListN.{length, drop}
 use lib.Ieee.{Float}
 use Rattle.rules.specs.Plain.{upTo}
@@ -12,12 +11,6 @@ use Rattle.rules.specs.Collide.{radiusTree, collideStep}
 use Rattle.force.specs.declared.Ran.{Ran}
 use Rattle.quadtree.specs.declared.Quadtree.{Quadtree}
 use Rattle.quadtree.specs.Slots.{Stands}
-
--- a place and a velocity for each radius, and no draw used past the last
-pub record Spread (at vs radii draws : List Float) (used : ℕ) : Type 0 where
-  pub places : length at ≡ length radii * 2
-  pub speeds : length vs ≡ length radii * 2
-  pub drawn : used ≤ length draws
 
 -- at most 4,096 particles and 64 iterations, and few nodes handed out so far
 pub record Bounded (n iterations visits : ℕ) : Type 0 where

@@ -1,167 +1,27 @@
 // collide.rs: particles whose circles overlap are pushed apart.
 use crate::radius::prepare;
-use crate::radius::radius_of;
+use contact::meet_first;
+use contact::skips;
 use force::Ran;
-use force::Spent;
-use force::index;
-use force::push_back;
-use force::push_on;
-use force::shaken;
-use number::root;
 use quadtree::Quadtree;
 use quadtree::build::Built;
 use quadtree::build::build;
 use quadtree::store;
-use rules::Extent;
 use rules::Refusal;
 use rules::Visit;
 use walk::visit;
 use walk::visit::Walk;
 ghost use mathlib.Core.Path.{_≡_};
-ghost use mathlib.Core.Bool.{cond};
-ghost use mathlib.Core.List.{[], _∷_};
-ghost use Prim.Native.Nat.{_+_, _-_, _*_, _/_, _≤_, _<_, _^_};
-ghost use lib.ListN.{length, getD, drop};
-ghost use lib.Ieee.{nan, eq};
-ghost use Rattle.rules.specs.Number.{_⊕_, _⊖_, _⊗_, 0·};
+ghost use Prim.Native.Nat.{_+_, _*_, _/_, _≤_, _<_, _^_};
+ghost use lib.ListN.{length};
 ghost use Rattle.rules.specs.Tree.{nodes};
-ghost use Rattle.rules.specs.Flow.{flow, gap};
 ghost use Rattle.rules.specs.Collide as Collide;
-ghost use Rattle.quadtree.specs.Slots.{word, value};
 ghost use Rattle.quadtree.specs.Build.{Lent};
-ghost use Rattle.force.specs.Draws.{spentOf, From};
 ghost use Rattle.force.specs.Ran.{Runs};
 ghost use Rattle.collide.specs.Radius.{Rounded};
-ghost use Rattle.collide.specs.Collide.{ended, Spread, Bounded, Stood, begun, walkFor, walkAll, walkTimes};
-
-// From lo to hi is beyond reach of the place p.
-fn beyond(lo: f64, hi: f64, p: f64, reach: f64) -> bool
-    ensures { λ r. ⌜ r ≡ Collide.beyond lo hi p reach ⌝ }
-{
-    lo > p + reach || hi < p - reach
-}
-
-// The cell is further away than the combined radii.
-fn away(at: &[f64], i: usize, c: Extent, reach: f64) -> bool
-    requires { ⌜ i * 2 + 1 < length (now at) ⌝ }
-    ensures { λ r. ⌜ r ≡ Collide.away (now (at .entry)) i c reach ⌝ }
-{
-    let k = i * 2;
-    if beyond(c.x0, c.x1, at[k], reach) {
-        return true;
-    }
-    beyond(c.y0, c.y1, at[k + 1], reach)
-}
-
-// The own side uses x, the other x + vx.
-fn between(at: &[f64], vs: &[f64], i: usize, j: usize) -> f64
-    requires { ⌜ (length (now vs) ≡ length (now at)) × (i < length (now at)) × (j < length (now at)) ⌝ }
-    ensures { λ r. ⌜ r ≡ getD (now (at .entry)) i nan ⊖ getD (now (at .entry)) j nan ⊖ getD (now (vs .entry)) j nan ⌝ }
-{
-    at[i] - at[j] - vs[j]
-}
-
-// l with the square of a draw added, where a difference was zero.
-fn longer(l: f64, was: f64, is: f64) -> f64
-    ensures { λ r. ⌜ r ≡ cond (eq was 0·) (l ⊕ is ⊗ is) l ⌝ }
-{
-    if was == 0.0 {
-        return l + is * is;
-    }
-    l
-}
-
-// Both are pushed apart over the gap x, y, each by the other's share.
-fn part(vs: &mut [f64], i: usize, j: usize, ri: f64, rj: f64, x: f64, y: f64, l: f64, strength: f64)
-    requires { ⌜ (i * 2 + 1 < length (now vs)) × (j * 2 + 1 < length (now vs)) ⌝ }
-    ensures { λ _. ⌜ now (vs .exit) ≡ Collide.parted strength i j ri rj (ri ⊕ rj) (gap x y) l (now (vs .entry)) ⌝ }
-{
-    let r = ri + rj;
-    let d = root(l);
-    let f = (r - d) / d * strength;
-    let x = x * f;
-    let y = y * f;
-    let rj2 = rj * rj;
-    let share = rj2 / (ri * ri + rj2);
-    let own = 1.0 - share;
-    push_on(vs, i, x * share, y * share);
-    push_back(vs, j, x * own, y * own);
-}
-
-// Particle i against particle j, the first of a leaf of radius rj.
-fn meet(
-    at: &[f64],
-    vs: &mut [f64],
-    radii: &[f64],
-    strength: f64,
-    i: usize,
-    j: usize,
-    rj: f64,
-    draws: &[f64],
-    used: usize,
-) -> Spent
-    requires { ⌜ Spread (now at) (now vs) (now radii) (now draws) used × (i < length (now radii)) × (j < length (now radii)) ⌝ }
-    ensures is { λ r. ⌜ spentOf (now (vs .exit)) (now (draws .entry)) r ≡ Collide.meet (now (at .entry)) (now (radii .entry)) strength i rj j (flow (now (vs .entry)) (drop used (now (draws .entry)))) ⌝ }
-    ensures from { λ r. ⌜ From (now (draws .entry)) used (r .used) ⌝ }
-{
-    let ri = radius_of(radii, i);
-    let r = ri + rj;
-    let x = between(at, vs, i * 2, j * 2);
-    let y = between(at, vs, i * 2 + 1, j * 2 + 1);
-    let l = x * x + y * y;
-    if l < r * r {
-        let g = shaken(draws, used, x, y);
-        let spent = g.used;
-        let dry = g.dry;
-        if dry {
-            return Spent {
-                used: spent,
-                dry: true,
-            };
-        }
-        let longer_x = longer(l, x, g.x);
-        let longer_y = longer(longer_x, y, g.y);
-        part(vs, i, j, ri, rj, g.x, g.y, longer_y, strength);
-        return Spent {
-            used: spent,
-            dry: false,
-        };
-    }
-    Spent { used, dry: false }
-}
-
-// A leaf: only its first particle acts, and only if its index is greater.
-fn meet_first(
-    at: &[f64],
-    vs: &mut [f64],
-    radii: &[f64],
-    strength: f64,
-    i: usize,
-    m: &[u64],
-    s: usize,
-    draws: &[f64],
-    used: usize,
-) -> Spent
-    requires { ⌜ Spread (now at) (now vs) (now radii) (now draws) used × (i < length (now radii)) × (s * 8 + 8 ≤ length (now m)) × (0 < word (now m) s 0) × (word (now m) s 0 ≤ length (now radii)) ⌝ }
-    ensures is { λ r. ⌜ spentOf (now (vs .exit)) (now (draws .entry)) r ≡ Collide.meetFirst (now (at .entry)) (now (radii .entry)) strength i (value (now (m .entry)) s 0) ((word (now (m .entry)) s 0 - 1) ∷ []) (flow (now (vs .entry)) (drop used (now (draws .entry)))) ⌝ }
-    ensures from { λ r. ⌜ From (now (draws .entry)) used (r .used) ⌝ }
-{
-    let j = index(store::tag(m, s) - 1);
-    if i < j {
-        let rj = store::node_value(m, s, 0);
-        return meet(at, vs, radii, strength, i, j, rj, draws, used);
-    }
-    Spent { used, dry: false }
-}
-
-// An internal node: whether what lies below it is left out.
-fn skips(at: &[f64], radii: &[f64], i: usize, m: &[u64], s: usize, c: Extent) -> bool
-    requires { ⌜ (length (now at) ≡ length (now radii) * 2) × (i < length (now radii)) × (s * 8 + 8 ≤ length (now m)) ⌝ }
-    ensures { λ r. ⌜ r ≡ Collide.away (now (at .entry)) i c (Collide.radiusOf (now (radii .entry)) i ⊕ value (now (m .entry)) s 0) ⌝ }
-{
-    let reach = radius_of(radii, i) + store::node_value(m, s, 0);
-    away(at, i, c, reach)
-}
+ghost use Rattle.walk.specs.Walk.{walkOf, Sized};
+ghost use Rattle.contact.specs.Contact.{Spread};
+ghost use Rattle.collide.specs.Collide.{ended, Bounded, Stood, begun, walkFor, walkAll, walkTimes};
 
 // Refused by this number, which names no place, or not at all with 0.
 fn ended(number: u64, used: usize, visits: u64) -> Ran
@@ -174,7 +34,7 @@ fn ended(number: u64, used: usize, visits: u64) -> Ran
     }
 }
 
-// The walk of particle i over the tree, parent first.
+// The walk of particle i over the tree, parent first, in lent arrays.
 fn walk_for(
     q: Quadtree,
     m: &[u64],
@@ -186,28 +46,32 @@ fn walk_for(
     draws: &[f64],
     used: usize,
     visits: u64,
+    slots: &mut [u32; 193],
+    ends: &mut [f64; 772],
 ) -> Ran
     requires { ⌜ Spread (now at) (now vs) (now radii) (now draws) used × Rounded (now at) (now radii) (now m) q × (i < length (now radii)) × (visits + nodes (Collide.radiusTree (now at) (now radii)) < 2 ^ 64) ⌝ }
+    requires { ⌜ Sized (walkOf (now slots) (now ends) 0) ⌝ }
     ensures is { λ r. ⌜ Runs (now (vs .exit)) (now (draws .entry)) used r (walkFor (now (at .entry)) (now (radii .entry)) strength (begun (now (vs .entry)) (now (draws .entry)) used visits) i) ⌝ }
     ensures few { λ r. ⌜ r .visits ≤ visits + nodes (Collide.radiusTree (now (at .entry)) (now (radii .entry))) ⌝ }
+    ensures sized { λ _. ⌜ Sized (walkOf (now (slots .exit)) (now (ends .exit)) 0) ⌝ }
 {
     let mut spent = used;
     let mut seen = visits;
     let extent = q.extent;
-    let mut w = Walk::begin(q.root, extent);
-    while 0 < w.height {
-        let h = w.height - 1;
-        let e = visit::waiting_at(&w.slots, &w.ends, h);
+    let mut height = visit::lay_root(slots, ends, q.root, extent);
+    while 0 < height {
+        let h = height - 1;
+        let e = visit::waiting_at(slots, ends, h);
         let s = e.slot;
         let c = e.extent;
-        w.height = h;
+        height = h;
         seen += 1;
         if store::tag(m, s) == 0 {
             let below = Visit::stop_if(skips(at, radii, i, m, s, c));
             if let Visit::Continue = below {
                 let children = store::children(m, s);
-                visit::push_cells(&mut w.ends, h, children, c);
-                w.height = visit::push_slots(&mut w.slots, h, children);
+                visit::push_cells(ends, h, children, c);
+                height = visit::push_slots(slots, h, children);
             }
         } else {
             let met = meet_first(at, vs, radii, strength, i, m, s, draws, spent);
@@ -221,7 +85,7 @@ fn walk_for(
     ended(0, spent, seen)
 }
 
-// Every particle once, in index order.
+// Every particle once, in index order. The arrays of one Walk serve all their walks.
 fn walk_all(
     q: Quadtree,
     m: &[u64],
@@ -238,11 +102,27 @@ fn walk_all(
     ensures few { λ r. ⌜ r .visits ≤ visits + length (now (radii .entry)) * nodes (Collide.radiusTree (now (at .entry)) (now (radii .entry))) ⌝ }
 {
     let n = radii.len();
+    let w = Walk::empty();
+    let mut slots = w.slots;
+    let mut ends = w.ends;
     let mut spent = used;
     let mut seen = visits;
     let mut i: usize = 0;
     while i < n {
-        let r = walk_for(q, m, at, vs, radii, strength, i, draws, spent, seen);
+        let r = walk_for(
+            q,
+            m,
+            at,
+            vs,
+            radii,
+            strength,
+            i,
+            draws,
+            spent,
+            seen,
+            &mut slots,
+            &mut ends,
+        );
         let refusal = r.refusal;
         let number = refusal.number;
         if number != 0 {

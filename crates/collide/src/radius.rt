@@ -1,26 +1,18 @@
 // Collide's radius of each node, laid in value 0 of its slot, children first.
+use contact::radius_of;
 use force::index;
 use force::wide;
-use number::plain_zero;
 use quadtree::Quadtree;
 use quadtree::store;
 use walk::visit_after;
 use walk::visit_after::Path;
 ghost use mathlib.Core.Path.{_≡_};
-ghost use Prim.Native.Nat.{_+_, _*_, _≤_, _<_};
+ghost use Prim.Native.Nat.{_+_, _*_, _≤_};
 ghost use lib.ListN.{length};
 ghost use Rattle.rules.specs.Plain.{foldl};
 ghost use Rattle.rules.specs.Collide as Collide;
 ghost use Rattle.walk.specs.WalkAfter.{Lent, KidsLent, valuesAt, kidValues};
 ghost use Rattle.collide.specs.Radius.{radiusIn, Standing, Prepares};
-
-// -0.0 is read as 0.0.
-pub fn radius_of(radii: &[f64], j: usize) -> f64
-    requires { ⌜ j < length (now radii) ⌝ }
-    ensures { λ r. ⌜ r ≡ Collide.radiusOf (now (radii .entry)) j ⌝ }
-{
-    plain_zero(radii[j])
-}
 
 // The radius of a child, where there is one and it is greater.
 fn greater(m: &[u64], child: u32, r: f64) -> f64

@@ -21,7 +21,7 @@ use Rattle.force.specs.Checks.{coordinatesCheck, velocitiesCheck}
 use Rattle.force.specs.Calls.{firstOf, lentCheck, numbersCheck}
 use Rattle.force.proofs.Scans.{real-require, real-then, real-all, real-coordinates, real-velocities, first-then}
 use Rattle.force.proofs.Called.{Lent, then-fine, require-true, real-ranges, first-three}
-use Rattle.collide.specs.Collide.{Spread}
+use Rattle.contact.specs.Contact.{Spread}
 
 -- ---- 2
 

@@ -3,6 +3,8 @@ pub mod Pairs
 pub mod Scans
 pub mod Centring
 pub mod Closing
+pub mod Stages
+pub mod Told
 pub mod Called
 pub mod CalledTree
 pub mod Visits

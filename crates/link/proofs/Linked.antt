@@ -2,7 +2,7 @@
 use mathlib.Core.Path.{_≡_, refl, sym, ap, _∙_}
 use mathlib.Core.Bool.{true, false}
 use mathlib.Core.List.{List, [], _∷_}
-use Prim.Native.Nat.{ℕ, _+_, _-_, _*_, _/_, _≤_, _<_, min}
+use Prim.Native.Nat.{ℕ, _+_, _-_, _*_, _/_, _≤_, _<_}
 use native.Mathlib.Nat.{sub-zero}
 use native.Mathlib.Omega.{arith}
 use borrow.Author.Tests.{eq-eqb, ne-eqb}
@@ -18,26 +18,11 @@ use Rattle.rules.specs.Link.{Ends, countEnds, bias, defaultStrength, strengthAt
 use Rattle.force.specs.declared.draws.Jiggled.{Jiggled}
 use Rattle.force.specs.declared.draws.Spent.{Spent}
 use Rattle.force.specs.Draws.{shakenOf, spentOf}
-use Rattle.link.specs.Links.{strengthOr}
+use Rattle.tally.specs.Tally.{strengthOr}
 use Rattle.force.specs.Checks.{endsAt}
 use Rattle.force.proofs.Scans.{endsLeft, ends-first, ends-left, ends-none, count-left}
 
 -- ---- strengths
-
-module _ (ss : List Float) (k s t : ℕ) where
-  pub no-strengths : length ss ≡ 0 → 1· ⊘ float (min s t) ≡ strengthOr ss k s t
-  no-strengths h = go ss h
-    where
-      go : (ss : List Float) → length ss ≡ 0 → 1· ⊘ float (min s t) ≡ strengthOr ss k s t
-      go [] h = refl
-      go (x ∷ xs) h = absurd (omega arith)
-
-  pub some-strengths : (length ss ≡ 0 → ⊥) → getD ss k nan ≡ strengthOr ss k s t
-  some-strengths h = go ss h
-    where
-      go : (ss : List Float) → (length ss ≡ 0 → ⊥) → getD ss k nan ≡ strengthOr ss k s t
-      go [] h = absurd (h refl)
-      go (x ∷ xs) h = refl
 
 strength-is : (es : List Ends) (ss : List Float) (k : ℕ) (e : Ends) → strengthAt es ss k e ≡ strengthOr ss k (countEnds es (e .source)) (countEnds es (e .target))
 unfolding defaultStrength

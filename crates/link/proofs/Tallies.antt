@@ -15,7 +15,8 @@ use Rattle.rules.specs.Plain.{countFrom, upTo}
 use Rattle.rules.specs.Link.{Ends, ends, countEnds}
 use Rattle.rules.specs.Force.{endsFrom, endsOf}
 use Rattle.quadtree.proofs.Fill.{room}
-use Rattle.link.specs.Links.{EndsLent, Ready, tallies, counted}
+use Rattle.tally.specs.Tally.{counted}
+use Rattle.link.specs.Links.{EndsLent, Ready, tallies}
 use Rattle.force.specs.Checks.{endsAt}
 
 -- ---- numbers one after the other

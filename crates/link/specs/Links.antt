@@ -1,11 +1,10 @@
 -- What Link is lent, and what it works out beforehand. Definitions only.
 use mathlib.Core.Path.{_≡_}
-use mathlib.Core.List.{List, [], _∷_, map}
-use Prim.Native.Nat.{ℕ, _+_, _*_, _/_, _%_, _≤_, _<_, min}
-use lib.ListN.{length, getD, set}
-use lib.Ieee.{Float, nan}
+use mathlib.Core.List.{List, map}
+use Prim.Native.Nat.{ℕ, _*_, _/_, _%_, _≤_, _<_}
+use lib.ListN.{length, getD}
+use lib.Ieee.{Float}
 use Rattle.rules.specs.Plain.{upTo}
-use Rattle.rules.specs.Number.{_⊘_, 1·, float}
 use Rattle.rules.specs.Link.{Ends, countEnds}
 use Rattle.rules.specs.Force.{endsOf}
 
@@ -23,15 +22,6 @@ pub record ListsLent (links : List ℕ) (strengths distances : List Float) : Typ
 -- how many ends each of n particles has
 unfoldable pub tallies : ℕ → List Ends → List ℕ
 tallies n es = map (countEnds es) (upTo n)
-
--- one end more of particle i
-abbrev pub counted : List ℕ → ℕ → List ℕ
-counted cs i = set cs i (getD cs i 0 + 1)
-
--- the strength of link number k, its ends having these counts
-abbrev pub strengthOr : List Float → ℕ → ℕ → ℕ → Float
-strengthOr [] k source target = 1· ⊘ float (min source target)
-strengthOr (s ∷ ss) k source target = getD (s ∷ ss) k nan
 
 -- all that a link needs beside its lists: the counts of ends, and a velocity for each particle
 pub record Ready (vs : List Float) (links counts : List ℕ) : Type 0 where

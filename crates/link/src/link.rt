@@ -7,29 +7,23 @@ use force::shaken;
 use force::wide;
 use number::root;
 use rules::Refusal;
+use tally::bias;
+use tally::count_link;
+use tally::strength_at;
 ghost use mathlib.Core.Path.{_≡_};
 ghost use mathlib.Core.List.{[]};
-ghost use Prim.Native.Nat.{_+_, _*_, _/_, _%_, _≤_, _<_, _^_, min};
+ghost use Prim.Native.Nat.{_+_, _*_, _/_, _%_, _≤_, _<_};
 ghost use lib.ListN.{length, getD, drop};
 ghost use lib.Ieee.{nan};
-ghost use Rattle.rules.specs.Number.{_⊕_, _⊖_, _⊗_, _⊘_, 1·, float};
+ghost use Rattle.rules.specs.Number.{_⊕_, _⊖_, _⊗_, _⊘_, 1·};
 ghost use Rattle.rules.specs.Root as Root;
 ghost use Rattle.rules.specs.Flow.{flow, gap, length², pushed};
 ghost use Rattle.rules.specs.Link as Link;
 ghost use Rattle.rules.specs.Force.{endsOf};
 ghost use Rattle.force.specs.Draws.{spentOf, From};
 ghost use Rattle.force.specs.Ran.{Runs, visited};
-ghost use Rattle.link.specs.Links.{EndsLent, ListsLent, Ready, tallies, counted, strengthOr};
+ghost use Rattle.link.specs.Links.{EndsLent, ListsLent, Ready, tallies};
 ghost use Rattle.force.specs.Checks.{endsAt};
-
-// Both ends of a link, also where they are the same particle.
-fn count_link(counts: &mut [u32], source: usize, target: usize)
-    requires { ⌜ (source < length (now counts)) × (target < length (now counts)) × (getD (now counts) source 0 < 2 ^ 31) × (getD (counted (now counts) source) target 0 < 2 ^ 31) ⌝ }
-    ensures { λ _. ⌜ now (counts .exit) ≡ counted (counted (now (counts .entry)) source) target ⌝ }
-{
-    counts[source] = counts[source] + 1;
-    counts[target] = counts[target] + 1;
-}
 
 // How many ends each particle has, from counts that are all zero.
 fn count_ends(links: &[u32], counts: &mut [u32])
@@ -43,35 +37,6 @@ fn count_ends(links: &[u32], counts: &mut [u32])
         count_link(counts, wide(links[at]), wide(links[at + 1]));
         k = k + 1;
     }
-}
-
-// count[source] / (count[source] + count[target])
-fn bias(source: u32, target: u32) -> f64
-    requires { ⌜ source + target < 2 ^ 32 ⌝ }
-    ensures { λ r. ⌜ r ≡ float source ⊘ float (source + target) ⌝ }
-{
-    source as f64 / (source + target) as f64
-}
-
-// 1 / the lesser count
-fn default_strength(source: u32, target: u32) -> f64
-    ensures { λ r. ⌜ r ≡ 1· ⊘ float (min source target) ⌝ }
-{
-    if source < target {
-        return 1.0 / source as f64;
-    }
-    1.0 / target as f64
-}
-
-// Of link number k; the default where the list lent is empty.
-fn strength_at(strengths: &[f64], k: usize, source: u32, target: u32) -> f64
-    requires { ⌜ (0 < length (now strengths) → k < length (now strengths)) ⌝ }
-    ensures { λ r. ⌜ r ≡ strengthOr (now (strengths .entry)) k source target ⌝ }
-{
-    if strengths.len() == 0 {
-        return default_strength(source, target);
-    }
-    strengths[k]
 }
 
 // From the number at one index to the number at another, both where they will be.

@@ -1,27 +1,27 @@
 -- A particle's walk over the tree with its charges. Assumes nothing.
 use mathlib.Core.Path.{_≡_, refl, sym, ap, _∙_}
 use mathlib.Core.List.{List, []}
-use Prim.Native.Nat.{ℕ, zero, suc, _+_, _≤_, _<_}
+use Prim.Native.Nat.{ℕ, zero, suc, _+_}
 use native.Mathlib.Omega.{arith}
 use lib.ListN.{length, drop}
 use lib.Ieee.{Float}
 use Rattle.rules.specs.declared.Extent.{Extent}
 use Rattle.rules.specs.declared.Refusal.{Refusal}
 use Rattle.rules.specs.declared.Tuning.{Tuning}
-use Rattle.rules.specs.Outcome.{Outcome, done, refused}
+use Rattle.rules.specs.Outcome.{Outcome, refused}
 use Rattle.rules.specs.Tree.{Tree, nodes}
 use Rattle.rules.specs.Walk.{Entry, internal, tip, Counted, counted, After, walk}
-use Rattle.rules.specs.Flow.{Flow, flow}
+use Rattle.rules.specs.Flow.{flow}
 use Rattle.rules.specs.ManyBody.{Charge, chargedTree, manyBodyStep}
 use Rattle.quadtree.specs.declared.Quadtree.{Quadtree}
 use Rattle.walk.specs.declared.visit.Walk.{Walk}
 use Rattle.walk.specs.declared.visit.Waiting.{Waiting}
 use Rattle.quadtree.specs.Slots.{word, Follows, first}
 use Rattle.walk.specs.Walk.{stackOf, Sized, lay, seen}
-use Rattle.walk.proofs.Walking.{Walking, Turn, start, reach, turn-refused, turn-refused-leaf}
+use Rattle.walk.proofs.Walking.{Walking, Turn, start, turn-refused, turn-refused-leaf}
 use Rattle.walk.proofs.WalkStands.{found, nodes-stands}
-use Rattle.many_body.specs.Charge.{readCharge, Few, Charged}
-use Rattle.many_body.proofs.ChargeChain.{chains-few}
+use Rattle.charge.specs.Charge.{readCharge, Few, Charged}
+use Rattle.charge.proofs.ChargeChain.{chains-few}
 
 -- what is read at a slot whose cell is given
 abbrev pub look : List ℕ → ℕ → Extent → Extent × Charge

@@ -1,56 +1,19 @@
--- What the answers of ManyBody's code say. Definitions only.
-use mathlib.Core.Path.{_≡_}
-use mathlib.Core.Bool.{cond}
+-- ManyBody over all particles, on a tree with its charges. Definitions only.
 use mathlib.Core.List.{List}
-use Prim.Native.Nat.{ℕ, _*_, _≤_}
-use lib.ListN.{length, drop}
+use Prim.Native.Nat.{ℕ}
+use lib.ListN.{length}
 use lib.Ieee.{Float}
 use Rattle.rules.specs.declared.Tuning.{Tuning}
-use Rattle.rules.specs.declared.Visit.{Visit}
-use Rattle.rules.specs.Outcome.{Outcome, done, refused, refusal, _>>=_, foldStages}
+use Rattle.rules.specs.Outcome.{Outcome, foldStages}
 use Rattle.rules.specs.Plain.{upTo}
-use Rattle.rules.specs.Walk.{After, after, Counted, walk}
-use Rattle.rules.specs.Flow.{Flow, flow, Gap, gap, shaken, lengthened}
-use Rattle.rules.specs.ManyBody.{softened, chargedTree, manyBodyStep}
-use Rattle.many_body.specs.declared.many_body.Aim.{Aim}
-use Rattle.many_body.specs.declared.many_body.Met.{Met}
+use Rattle.rules.specs.Walk.{Counted, walk}
+use Rattle.rules.specs.Flow.{Flow}
+use Rattle.rules.specs.ManyBody.{chargedTree, manyBodyStep}
 
--- ---- how a force is aimed
+-- the walk of particle i over the tree with its charges
+abbrev pub pulledFor : Tuning → List Float → List Float → Float → Counted Flow → ℕ → Outcome (Counted Flow)
+pulledFor t at strengths alpha m i = walk (manyBodyStep t at strengths alpha i) (chargedTree at strengths) m
 
--- a gap with neither difference zero, its length, and the draws that are left
-pub record Aimed : Type 0 where
-  pub gap : Gap
-  pub length : Float
-  pub left : List Float
-
-abbrev pub aimAt : Gap → Float → List Float → Aimed
-aimAt g l ds = record { gap = g; length = l; left = ds }
-
--- the draws that are needed, and the length that follows
-unfoldable pub aimed : Tuning → Gap → Float → List Float → Outcome Aimed
-aimed t g l ds = shaken g ds >>= λ s. done (aimAt (s .gap) (softened t (lengthened l g (s .gap))) (s .left))
-
--- dry is refusal 8
-unfoldable pub aimOf : List Float → Aim → Outcome Aimed
-aimOf ds r = cond (r .dry) (refused (refusal 8 0)) (done (aimAt (gap (r .x) (r .y)) (r .l) (drop (r .used) ds)))
-
--- ---- what is lent
-
--- places, velocities and links for at most 4,096 particles
-pub record Bodies (at vs strengths : List Float) (next : List ℕ) : Type 0 where
-  pub few : length strengths ≤ 4096
-  pub places : length at ≡ length strengths * 2
-  pub speeds : length vs ≡ length strengths * 2
-  pub links : length next ≡ length strengths
-
--- ---- a node that was met
-
--- dry is refusal 8, otherwise the velocities vs, what is left of the draws, and whether the walk goes on below
-unfoldable pub metOf : List Float → List Float → Met → Outcome (After Flow)
-metOf vs ds r = cond (r .dry) (refused (refusal 8 0)) (done (after (flow vs (drop (r .used) ds)) (r .visit)))
-
--- ---- all particles
-
--- per particle in index order, a walk over the tree with its charges
+-- those of all particles, in index order
 abbrev pub pulledAll : Tuning → List Float → List Float → Float → Counted Flow → Outcome (Counted Flow)
-pulledAll t at strengths alpha m = foldStages (λ m i. walk (manyBodyStep t at strengths alpha i) (chargedTree at strengths) m) m (upTo (length strengths))
+pulledAll t at strengths alpha m = foldStages (pulledFor t at strengths alpha) m (upTo (length strengths))

@@ -1,5 +1,4 @@
 // ManyBody, after src/force/many_body.rs of fjadra.
-mod charge;
 pub mod many_body;
 
 pub use many_body::standard;

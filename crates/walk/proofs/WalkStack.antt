@@ -12,15 +12,12 @@ use Rattle.rules.specs.Cell.{quarter}
 use Rattle.walk.specs.declared.visit.Walk.{Walk}
 use Rattle.walk.specs.declared.visit.Waiting.{Waiting}
 use Rattle.quadtree.specs.Slots.{kids}
-use Rattle.walk.specs.Walk.{waiting, cellAt, waitingAt, stackAt, stackOf, Sized, lay, layKids, above, putSlot, putCell, height2, height1, height0, heightAfter, putSlots, putCells}
+use Rattle.walk.specs.Walk.{waiting, cellAt, waitingAt, stackAt, walkOf, stackOf, Sized, lay, layKids, above, putSlot, putCell, height2, height1, height0, heightAfter, putSlots, putCells}
 
 -- ---- a number is that of a slot, or none
 
 pub one-more : (p : ℕ) → (p ≡ 0 → ⊥) → p ≡ suc (p - 1)
 one-more p h = omega arith
-
-pub lay-some : (p : ℕ) (c : Extent) (es : List Waiting) → (p ≡ 0 → ⊥) → lay p c es ≡ waiting (p - 1) c ∷ es
-lay-some p c es h = ap (λ (x : ℕ). lay x c es) (one-more p h)
 
 pub above-none : (h p : ℕ) → p ≡ 0 → above h p ≡ h
 above-none h p e = rw e
@@ -31,6 +28,10 @@ above-some h p n = ap (above h) (one-more p n)
 pub above-more : (h p : ℕ) → h ≤ above h p
 above-more h zero = omega arith
 above-more h (suc s) = omega arith
+
+pub above-one : (h p : ℕ) → above h p ≤ h + 1
+above-one h zero = omega arith
+above-one h (suc s) = omega arith
 
 pub slot-none : (ss : List ℕ) (h p : ℕ) → p ≡ 0 → ss ≡ putSlot ss h p
 unfolding putSlot
@@ -115,6 +116,15 @@ room : (ss : List ℕ) (es : List Float) (h p : ℕ) (c : Extent) → Room ss es
 unfolding putSlot putCell
 room ss es h zero c z = z
 room ss es h (suc s) c z = (length-set ss h s ∙ z .0, length-four es (h * 4) c ∙ z .1)
+
+-- a root is laid at the bottom
+pub root-laid : (ss : List ℕ) (es : List Float) (p : ℕ) (c : Extent) → Sized (walkOf ss es 0) → {es′ : List Float} {ss′ : List ℕ} {h : ℕ}
+    → es′ ≡ putCell es 0 p c → ss′ ≡ putSlot ss 0 p → h ≡ above 0 p → Sized (walkOf ss′ es′ h) × (stackAt ss′ es′ h ≡ lay p c [])
+root-laid ss es p c z e s k =
+    let y = room ss es 0 p c (z .slots, z .ends) in (
+      record { slots = ap length s ∙ y .0; ends = ap length e ∙ y .1 },
+      rw (s, e, k) (laid ss es 0 p c (z .slots, z .ends) (omega (arith, above-one 0 p))),
+    )
 
 -- ---- the four children of a node
 

@@ -28,6 +28,10 @@ abbrev pub stackAt : List ℕ → List Float → ℕ → List Waiting
 stackAt ss es zero = []
 stackAt ss es (suc h) = waitingAt ss es h ∷ stackAt ss es h
 
+-- arrays with a height are a walk
+abbrev pub walkOf : List ℕ → List Float → ℕ → Walk
+walkOf ss es h = record { slots = ss; ends = es; height = h }
+
 abbrev pub stackOf : Walk → List Waiting
 stackOf w = stackAt (w .slots) (w .ends) (w .height)
 

@@ -1,8 +1,8 @@
-// Parent first: the slots that wait in a walk, with their cells. A function that walks keeps one Walk in a local and lends its arrays, so that nothing is copied at a node.
+// Parent first: the slots that wait in a walk, with their cells. Walks one after the other share one Walk: it is made once, and its arrays are lent to the function that walks, which keeps the height.
 ghost use mathlib.Core.Path.{_≡_};
 ghost use mathlib.Core.List.{[]};
 ghost use Prim.Native.Nat.{_<_, _≤_};
-ghost use Rattle.walk.specs.Walk.{waitingAt, stackOf, Sized, lay, above, putSlot, putCell, heightAfter, putSlots, putCells};
+ghost use Rattle.walk.specs.Walk.{waitingAt, stackAt, walkOf, Sized, lay, above, putSlot, putCell, heightAfter, putSlots, putCells};
 use cells::extent;
 use rules::Extent;
 
@@ -90,29 +90,24 @@ pub fn push_cells(ends: &mut [f64; 772], h: usize, children: [u32; 4], c: Extent
     push_cell(ends, h0, children[0], extent::quarter(0, c));
 }
 
+// The root alone waits, where there is one; the height is then what is answered. What lay in the arrays before doesn't matter.
+pub fn lay_root(slots: &mut [u32; 193], ends: &mut [f64; 772], root: u32, extent: Extent) -> usize
+    requires { ⌜ Sized (walkOf (now slots) (now ends) 0) ⌝ }
+    ensures { λ r. ⌜ Sized (walkOf (now (slots .exit)) (now (ends .exit)) r) × (stackAt (now (slots .exit)) (now (ends .exit)) r ≡ lay root extent []) ⌝ }
+{
+    push_cell(ends, 0, root, extent);
+    push_slot(slots, 0, root)
+}
+
 impl Walk {
-    // The root waits, where there is one.
-    pub fn begin(root: u32, extent: Extent) -> Walk
-        ensures { λ r. ⌜ Sized r × (stackOf r ≡ lay root extent []) ⌝ }
+    // Nothing waits.
+    pub fn empty() -> Walk
+        ensures { λ r. ⌜ Sized r ⌝ }
     {
-        let mut slots = [0u32; 193];
-        let mut ends = [0.0f64; 772];
-        if root == 0 {
-            return Walk {
-                slots,
-                ends,
-                height: 0,
-            };
-        }
-        slots[0] = root - 1;
-        ends[0] = extent.x0;
-        ends[1] = extent.y0;
-        ends[2] = extent.x1;
-        ends[3] = extent.y1;
         Walk {
-            slots,
-            ends,
-            height: 1,
+            slots: [0; 193],
+            ends: [0.0; 772],
+            height: 0,
         }
     }
 }

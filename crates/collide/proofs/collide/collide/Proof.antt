@@ -7,8 +7,9 @@ use Rattle.rules.specs.Outcome.{zeroesWork}
 use Rattle.force.specs.Ran.{standing, ranOf}
 use Rattle.quadtree.proofs.Refusals.{tree-clears}
 use Rattle.collide.specs.Collide.{begun}
-use Rattle.collide.proofs.CollideFolds.{ran-refused}
-use Rattle.collide.proofs.CollideRun.{run-none, run-walked, run-refused, told-refused, told-fine, told-stood}
+use Rattle.force.proofs.Stages.{ran-refused}
+use Rattle.force.proofs.Told.{told-refused, told-fine, told-stands}
+use Rattle.collide.proofs.CollideRun.{run-none, run-walked, run-refused}
 use Rattle.collide.proofs.collide.collide.Statement.{statement}
 use Rattle.collide.proofs.collide.collide.Tie as tie
 
@@ -34,7 +35,10 @@ collide-on-requires c κs =
     let a = f .args in
     let p = f .pre in (
       p .1,
-      told-stood (a .at .now) (a .radii .now) (b .build .last .1 .1 .1 .0) (b .build .last .1 .0) (length (a .m .now) / 8) (b .build .result) (p .1 .places) (ap (λ (n : ℕ). n / 8) (b .build .kept .1 .1 .1 .0)) (b .build .ensures) (g .q .given .1),
+      record {
+        next = b .build .last .1 .0;
+        stands = told-stands (a .at .now) (length (a .radii .now)) (b .build .last .1 .1 .1 .0) (b .build .last .1 .0) (length (a .m .now) / 8) (b .build .result) (p .1 .places) (ap (λ (n : ℕ). n / 8) (b .build .kept .1 .1 .1 .0)) (b .build .ensures) (g .q .given .1);
+      },
       record { few = omega (arith, p .0 .few, p .1 .places); times = p .2; room = p .3 },
     )
 
@@ -45,7 +49,7 @@ returns-2 c =
     let f = b .before .before .before .before .before .before .before .before .before .before .before .before in
     let a = f .args in
     let p = f .pre in
-    let t = told-refused (a .at .now) (a .radii .now) (b .build .last .1 .1 .1 .0) (b .build .last .1 .0) (length (a .m .now) / 8) (b .build .result) (p .1 .places) (ap (λ (n : ℕ). n / 8) (b .build .kept .1 .1 .1 .0)) (b .build .ensures) (g .refusal .given .1) in
+    let t = told-refused (a .at .now) (length (a .radii .now)) (b .build .last .1 .1 .1 .0) (b .build .last .1 .0) (length (a .m .now) / 8) (b .build .result) (p .1 .places) (ap (λ (n : ℕ). n / 8) (b .build .kept .1 .1 .1 .0)) (b .build .ensures) (g .refusal .given .1) in
     let l = tree-clears (a .at .now) (length (a .radii .now)) (length (a .m .now) / 8) _ t in (
       record {
         is = ran-refused (a .vs .now) (a .draws .now) _ (l .0)
@@ -68,7 +72,7 @@ returns-3 c =
       record {
         is = r .is
             ∙ run-walked (a .at .now) (a .radii .now) (a .strength) (a .iterations) (length (a .m .now) / 8) (begun (a .vs .now) (a .draws .now) (a .used) (a .visits))
-            (told-fine (a .at .now) (a .radii .now) (b .build .last .1 .1 .1 .0) (b .build .last .1 .0) (length (a .m .now) / 8) (b .build .result) (p .1 .places) (ap (λ (n : ℕ). n / 8) (b .build .kept .1 .1 .1 .0)) (b .build .ensures) (g .q .given .1));
+            (told-fine (a .at .now) (length (a .radii .now)) (b .build .last .1 .1 .1 .0) (b .build .last .1 .0) (length (a .m .now) / 8) (b .build .result) (p .1 .places) (ap (λ (n : ℕ). n / 8) (b .build .kept .1 .1 .1 .0)) (b .build .ensures) (g .q .given .1));
         draws = r .draws;
         late = r .late;
       },

@@ -11,7 +11,7 @@ use Rattle.rules.specs.Collide.{radiusTree}
 use Rattle.force.specs.Draws.{From}
 use Rattle.force.specs.Ran.{standing, ranOf}
 use Rattle.collide.specs.Collide.{begun, walkAll, walkTimes}
-use Rattle.collide.proofs.CollideFolds.{left, left-first, left-refused, left-on, left-end, one-more}
+use Rattle.force.proofs.Stages.{left, left-first, left-refused, left-on, left-end, one-more}
 use Rattle.collide.proofs.collide.iterate.Statement.{statement}
 use Rattle.collide.proofs.collide.iterate.Tie as tie
 

@@ -1,11 +1,12 @@
-use mathlib.Core.Path.{_≡_, refl, ap, _∙_}
+use mathlib.Core.Path.{ap, _∙_}
 use Prim.Native.Nat.{ℕ, _/_}
 use native.Mathlib.Omega.{arith}
 use borrow.Author.Needs.{needs}
 use lib.ListN.{length, drop}
 use Rattle.rules.specs.Walk.{counted}
 use Rattle.rules.specs.Flow.{flow}
-use Rattle.many_body.proofs.ManyBodyRun.{refused-runs, stands-runs, told-refused, told-fine, told-stands}
+use Rattle.force.proofs.Told.{told-refused, told-fine, told-stands}
+use Rattle.many_body.proofs.ManyBodyRun.{refused-runs, stands-runs}
 use Rattle.many_body.proofs.many_body.many_body.Statement.{statement}
 use Rattle.many_body.proofs.many_body.many_body.Tie as tie
 
@@ -16,7 +17,7 @@ many-body-on-requires c κs =
     let s = b .before .before .before .before .before .before .before .before .before .before .before in
     let a = s .args in
     let p = s .pre in (
-      told-stands (a .at .now) (a .strengths .now) (b .build .last .1 .1 .1 .0) (b .build .last .1 .0) (length (a .m .now) / 8) (b .build .result) (p .1 .0) (ap (λ (n : ℕ). n / 8) (b .build .kept .1 .1 .1 .0)) (b .build .ensures) _ (g .q .given .1),
+      told-stands (a .at .now) (length (a .strengths .now)) (b .build .last .1 .1 .1 .0) (b .build .last .1 .0) (length (a .m .now) / 8) (b .build .result) (p .1 .0) (ap (λ (n : ℕ). n / 8) (b .build .kept .1 .1 .1 .0)) (b .build .ensures) (g .q .given .1),
       (record { few = omega (arith, p .0 .few, p .1 .0); places = p .1 .0; speeds = p .1 .1; links = omega (arith, b .build .kept .1 .0, p .0 .links, p .1 .0) }, p .1 .2, p .1 .3),
     )
 
@@ -28,7 +29,7 @@ returns c =
     let a = s .args in
     let p = s .pre in (
       refused-runs (a .t) (a .at .now) (a .strengths .now) (a .alpha) (length (a .m .now) / 8) (counted (flow (a .vs .now) (drop (a .used) (a .draws .now))) (a .visits)) (a .vs .now) (a .draws .now) (a .used) (a .visits) _ (p .1 .2)
-          (told-refused (a .at .now) (a .strengths .now) (b .build .last .1 .1 .1 .0) (b .build .last .1 .0) (length (a .m .now) / 8) (b .build .result) (p .1 .0) (ap (λ (n : ℕ). n / 8) (b .build .kept .1 .1 .1 .0)) (b .build .ensures) _ (g .refusal .given .1)),
+          (told-refused (a .at .now) (length (a .strengths .now)) (b .build .last .1 .1 .1 .0) (b .build .last .1 .0) (length (a .m .now) / 8) (b .build .result) (p .1 .0) (ap (λ (n : ℕ). n / 8) (b .build .kept .1 .1 .1 .0)) (b .build .ensures) (g .refusal .given .1)),
       omega arith,
     )
 
@@ -44,7 +45,7 @@ returns-2 c =
       record {
         is = r .is
             ∙ stands-runs (a .t) (a .at .now) (a .strengths .now) (a .alpha) (length (a .m .now) / 8) (counted (flow (a .vs .now) (drop (a .used) (a .draws .now))) (a .visits))
-            (told-fine (a .at .now) (a .strengths .now) (b .build .last .1 .1 .1 .0) (b .build .last .1 .0) (length (a .m .now) / 8) (b .build .result) (p .1 .0) (ap (λ (n : ℕ). n / 8) (b .build .kept .1 .1 .1 .0)) (b .build .ensures) _ (g .q .given .1));
+            (told-fine (a .at .now) (length (a .strengths .now)) (b .build .last .1 .1 .1 .0) (b .build .last .1 .0) (length (a .m .now) / 8) (b .build .result) (p .1 .0) (ap (λ (n : ℕ). n / 8) (b .build .kept .1 .1 .1 .0)) (b .build .ensures) (g .q .given .1));
         draws = r .draws;
         late = r .late;
       },

@@ -1,0 +1,2 @@
+pub mod ChargeChain
+pub mod ChargeLaws
