@@ -66,7 +66,7 @@ pub extern "C" fn talemiku_many_body(
     ensures { λ r. ⌜ (let l = lent (now (places .entry)) (now (buffer .entry)) start (now (draws .entry)) (now (work .entry)) in
         Answered l (manyBodyResult l (now (strengths .entry)) alpha) r (now (buffer .exit)) (now (work .exit))) ⌝ }
 {
-    many_body::many_body_call(places, buffer, start, strengths, alpha, draws, work)
+    many_body_call::many_body_call(places, buffer, start, strengths, alpha, draws, work)
 }
 
 // Collide on plain lists, with a radius for each particle.
@@ -84,7 +84,7 @@ pub extern "C" fn talemiku_collide(
     ensures { λ r. ⌜ (let l = lent (now (places .entry)) (now (buffer .entry)) start (now (draws .entry)) (now (work .entry)) in
         Answered l (collideResult l (now (radii .entry)) strength iterations) r (now (buffer .exit)) (now (work .exit))) ⌝ }
 {
-    collide::collide_call(
+    collide_call::collide_call(
         places,
         buffer,
         start,
@@ -113,7 +113,7 @@ pub extern "C" fn talemiku_link(
     ensures { λ r. ⌜ (let l = lent (now (places .entry)) (now (buffer .entry)) start (now (draws .entry)) (now (work .entry)) in
         Answered l (linkResult l (now (links .entry)) (now (strengths .entry)) (now (distances .entry)) iterations alpha) r (now (buffer .exit)) (now (work .exit))) ⌝ }
 {
-    link::link_call(
+    link_call::link_call(
         places,
         buffer,
         start,
