@@ -26,7 +26,7 @@ use Rattle.cells.specs.declared.cover.Covered.{Covered}
 use Rattle.quadtree.specs.declared.add.Inserted.the-variants.{Done, Deep, Full}
 use Rattle.quadtree.specs.Slots.{inCells, Follows as Chained, Leads, Stands}
 use Rattle.cells.specs.Cover.{squareOf, Reachable, Near, CoveredTo}
-use Rattle.quadtree.specs.Chain.{Linked}
+use Rattle.slots.specs.Chain.{Linked}
 use Rattle.quadtree.specs.Add.{lead, Holds, Ranged, Placed, Inserts}
 use Rattle.quadtree.specs.declared.build.Built.the-variants as Built
 use Rattle.quadtree.specs.Build.{particles, Builds, Follows, Extends}
@@ -184,7 +184,7 @@ module _ (at : List Float) where
     pub build-inserts : (c : Covered) → Extends at q p c → particles at ≤ 4096 → length next ≡ particles at → length tail ≡ particles at → Inserts at m next tail q c p
     build-inserts c x few links tails =
         record {
-          puts = record { holds = b .holds; linked = b .linked; ranged = λ i k. ranged i (omega arith); few = omega arith; read = omega arith; in-next = omega arith; in-tail = omega arith };
+          puts = record { seeks = record { holds = b .holds; ranged = λ i k. ranged i (omega arith); few = omega arith; read = omega arith }; linked = b .linked; in-next = omega arith; in-tail = omega arith };
           covers = x .covers;
         }
 

@@ -6,7 +6,7 @@ use mathlib.Core.Logic.{inl, inr, ⊎-elim}
 use Prim.Native.Nat.{ℕ, zero, suc, _+_, _≤_, _<_}
 use native.Mathlib.Omega.{arith}
 use native.Mathlib.Decide.{ℕ-discrete, decLt}
-use lib.ListN.{length, getD, set, length-set}
+use lib.ListN.{length, getD, set}
 use lib.Seq.{getD-set-same, getD-set-other}
 use lib.Ieee.{Float}
 use Rattle.rules.specs.Plain.{countFrom, upTo, keep}
@@ -15,7 +15,8 @@ use Rattle.rules.proofs.CellList.{In, in-keep, keep-in}
 use Rattle.rules.proofs.CellPoints.{same-sym, same-trans}
 use Rattle.rules.proofs.CellChain.{Chain}
 use Rattle.quadtree.specs.Slots.{Follows, first}
-use Rattle.quadtree.specs.Chain.{Link, Earliest, Last, Linked}
+use Rattle.quadtree.specs.Add.{Alone}
+use Rattle.slots.specs.Chain.{Link, Earliest, Last, Linked}
 
 -- ---- numbers in order
 
@@ -63,31 +64,38 @@ in-upTo n i m = omega (arith, in-count 0 n i m)
 module _ (at : List Float) where
   -- ---- one particle more
 
-  module _ (p : ℕ) (next tail : List ℕ) (h : Linked at next tail p) (in-next : p < length next) (in-tail : p < length tail) (own : same at p p ≡ true) where
+  -- a chain begun at p leaves those of the particles before it
+  pub begin-linked : (p : ℕ) (next tail : List ℕ) → Linked at next tail p → Linked at (set next p 0) (set tail p p) p
+  begin-linked p next tail h =
+      record {
+        links = λ i l. subst (Link at p i) (sym (getD-set-other next p i 0 0 (λ e. omega arith))) (h .links i l);
+        tails = λ i l e. subst (Last at p i) (sym (getD-set-other tail p i p 0 (λ e. omega arith))) (h .tails i l e);
+      }
+
+  module _ (p : ℕ) (next tail : List ℕ) (h : Linked at next tail p) (alone : Alone next tail p) (in-next : p < length next) (in-tail : p < length tail) (own : same at p p ≡ true) where
     -- at a point of its own
-    pub begin-linked : ((i : ℕ) → i < p → same at i p ≡ true → ⊥) → Linked at (set next p 0) (set tail p p) (p + 1)
-    begin-linked new = record { links = links; tails = tails }
+    pub new-linked : ((i : ℕ) → i < p → same at i p ≡ true → ⊥) → Linked at next tail (p + 1)
+    new-linked new = record { links = links; tails = tails }
       where
-        links : (i : ℕ) → i < p + 1 → Link at (p + 1) i (getD (set next p 0) i 0)
+        links : (i : ℕ) → i < p + 1 → Link at (p + 1) i (getD next i 0)
         links i l = elim (ℕ-discrete i p) [
-          | yes e ↦ rw e (inl (getD-set-same next p 0 0 in-next, λ j a b f. absurd (omega arith)))
-          | no n ↦ rw (getD-set-other next p i 0 0 n)
-              (⊎-elim
+          | yes e ↦ rw e (inl (alone .0, λ j a b f. absurd (omega arith)))
+          | no n ↦ ⊎-elim
               (λ a. inl (a .0, λ j x y f. elim (ℕ-discrete j p) [ yes z ↦ new i (omega arith) (ap (same at i) (sym z) ∙ f) | no ne ↦ a .1 j x (omega arith) f ]))
               (λ b. inr (b .0, b .1, b .2, omega (arith, b .3), b .4, b .5))
-              (h .links i (omega arith)))
+              (h .links i (omega arith))
         ]
 
-        tails : (i : ℕ) → i < p + 1 → Earliest at i → Last at (p + 1) i (getD (set tail p p) i 0)
+        tails : (i : ℕ) → i < p + 1 → Earliest at i → Last at (p + 1) i (getD tail i 0)
         tails i l first = elim (ℕ-discrete i p) [
-          | yes e ↦ rw (e, getD-set-same tail p p 0 in-tail) (record { low = omega arith; less = omega arith; point = own; last = λ j a b f. omega arith })
-          | no n ↦ rw (getD-set-other tail p i p 0 n)
+          | yes e ↦ rw (e, alone .1) (record { low = omega arith; less = omega arith; point = own; last = λ j a b f. omega arith })
+          | no n ↦
               (let g = h .tails i (omega arith) first in
               record { low = g .low; less = omega (arith, g .less); point = g .point; last = λ j a b f. elim (ℕ-discrete j p) [ yes z ↦ new i (omega arith) (ap (same at i) (sym z) ∙ f) | no ne ↦ g .last j a (omega arith) f ] })
         ]
 
     -- at the point of f, whose chain it joins at the end
-    pub join-linked : (f : ℕ) → f < p → Earliest at f → same at f p ≡ true → Linked at (set (set next (getD tail f 0) (p + 1)) p 0) (set tail f p) (p + 1)
+    pub join-linked : (f : ℕ) → f < p → Earliest at f → same at f p ≡ true → Linked at (set next (getD tail f 0) (p + 1)) (set tail f p) (p + 1)
     join-linked f lf early e = record { links = links; tails = tails }
       where
         l : ℕ
@@ -96,17 +104,14 @@ module _ (at : List Float) where
         g : Last at p f l
         g = h .tails f lf early
 
-        w : List ℕ
-        w = set (set next l (p + 1)) p 0
-
         -- a particle at p's point is at f's
         point : (i : ℕ) → same at i p ≡ true → same at f i ≡ true
         point i a = same-trans at f p i e (same-sym at i p a)
 
-        links : (i : ℕ) → i < p + 1 → Link at (p + 1) i (getD w i 0)
+        links : (i : ℕ) → i < p + 1 → Link at (p + 1) i (getD (set next l (p + 1)) i 0)
         links i li = elim (ℕ-discrete i p) [
-          | yes z ↦ rw z (inl (getD-set-same (set next l (p + 1)) p 0 0 (rw length-set in-next), λ j a b c. absurd (omega arith)))
-          | no n ↦ rw (getD-set-other (set next l (p + 1)) p i 0 0 n) (elim (ℕ-discrete i l) [ yes z ↦ at-last z | no ne ↦ other n ne ])
+          | yes z ↦ rw z (inl (getD-set-other next l p (p + 1) 0 (λ y. omega (arith, g .less)) ∙ alone .0, λ j a b c. absurd (omega arith)))
+          | no n ↦ elim (ℕ-discrete i l) [ yes z ↦ at-last z | no ne ↦ other n ne ]
         ]
           where
             at-last : i ≡ l → Link at (p + 1) i (getD (set next l (p + 1)) i 0)

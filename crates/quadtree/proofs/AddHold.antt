@@ -22,9 +22,11 @@ use Rattle.rules.proofs.CellIs.{Is}
 use Rattle.rules.proofs.CellInsert.{insertT}
 use Rattle.rules.proofs.CellRule.{tree-whole, chains, nodes-points, insert-tree, insert-refused, insert-none, insert-same}
 use Rattle.quadtree.specs.declared.Quadtree.{Quadtree}
-use Rattle.quadtree.specs.Slots.{kids, putInternal, putLeaf, EachSlot, Once, inCells}
-use Rattle.quadtree.specs.Add.{lead, Stored, Holds, pick, side, Reaches, gap, hung}
-use Rattle.quadtree.proofs.Slots.{Same, same-trans as slot-trans, internal-length, internal-same, internal-tag, internal-kids, leaf-length, leaf-same, leaf-tag}
+use Rattle.slots.specs.Slots.{kids, putInternal, putLeaf}
+use Rattle.quadtree.specs.Slots.{EachSlot, Once, inCells}
+use Rattle.slots.specs.Leaf.{side, gap, hung}
+use Rattle.quadtree.specs.Add.{lead, Stored, Holds, pick, Reaches}
+use Rattle.slots.proofs.Slots.{Same, same-trans as slot-trans, internal-length, internal-same, internal-tag, internal-kids, leaf-length, leaf-same, leaf-tag}
 use Rattle.quadtree.proofs.SlotsTree.{each-map, each-both, lead-le, over, upd, leads, upd-below, each-child, stored-over, stored-child, leads-upd, leads-small, once-out, frame}
 use Rattle.quadtree.proofs.AddWay.{up, up-is, side-lt, reach-all, reach-each, reach-stored, reach-once, reach-depth, plug, plug-nodes, plug-depth, Renews, plug-renews, plug-once, plug-stored, plug-cells, plug-deep}
 use Rattle.quadtree.proofs.AddSplit.{splitT, split-lead, split-each, split-once, split-depth, split-nodes, split-cells, split-deep}

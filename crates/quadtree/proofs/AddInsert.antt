@@ -1,12 +1,13 @@
 -- The turns of wrapping, and what an insertion with a covered extent does or refuses.
-use mathlib.Core.Path.{_≡_, refl, sym, ap, _∙_, subst}
+use mathlib.Core.Path.{_≡_, refl, sym, ap, _∙_, subst, subst₂}
 use mathlib.Core.Bool.{Bool, true, false}
 use mathlib.Core.List.{List, [], _∷_}
 use Prim.Native.Nat.{ℕ, suc, _+_, _-_, _*_, _/_, _≤_, _<_}
 use native.Mathlib.Omega.{arith}
 use lib.Dec.{T}
 use lib.IntN.{ℤ}
-use lib.ListN.{length, set}
+use lib.ListN.{length, getD, set, length-set}
+use lib.Seq.{getD-set-same}
 use lib.Ieee.{Float}
 use Rattle.rules.specs.declared.Extent.{Extent}
 use Rattle.rules.specs.Plain.{upTo}
@@ -24,19 +25,22 @@ use Rattle.rules.proofs.CellRule.{insert-tree, insert-none}
 use Rattle.quadtree.specs.declared.Quadtree.{Quadtree}
 use Rattle.cells.specs.declared.cover.Doubled.{Doubled}
 use Rattle.cells.specs.declared.cover.Covered.{Covered}
+use Rattle.quadtree.specs.declared.add.Inserted.{Inserted}
 use Rattle.quadtree.specs.declared.add.Inserted.the-variants.{Done, Deep, Full}
-use Rattle.quadtree.specs.Slots.{word, putInternal, putLeaf, inCells}
+use Rattle.slots.specs.Slots.{word, putInternal, putLeaf}
+use Rattle.quadtree.specs.Slots.{inCells}
 use Rattle.cells.specs.Cover.{squareOf, Near, DoubledTo}
-use Rattle.quadtree.specs.Chain.{Linked}
-use Rattle.quadtree.specs.Add.{lead, Stored, Holds, childless, Ranged, Puts, Placed, Covers, Wraps, Wrapped, Enlarges}
+use Rattle.slots.specs.Chain.{Linked}
+use Rattle.slots.specs.Leaf.{childless}
+use Rattle.quadtree.specs.Add.{lead, Stored, Holds, Ranged, Seeks, Puts, Alone, Grown, Placed, Covers, Wraps, Wrapped, Planted}
 use Rattle.cells.proofs.CoverEnds.{doubled-square}
 use Rattle.cells.proofs.CoverLaws.{Lies, covered-grows}
-use Rattle.quadtree.proofs.Slots.{internal-length, internal-tag, leaf-length, leaf-tag}
+use Rattle.slots.proofs.Slots.{internal-length, internal-tag, leaf-length, leaf-tag}
 use Rattle.quadtree.proofs.SlotsTree.{lead-le}
-use Rattle.quadtree.proofs.AddChain.{upTo-in, in-upTo}
+use Rattle.quadtree.proofs.AddChain.{upTo-in, in-upTo, begin-linked}
 use Rattle.quadtree.proofs.AddHold.{cells-depth, cells-nodes, holds-is}
 use Rattle.quadtree.proofs.AddWrap.{grows-none, inExtent, Internal, leaf-regrown, wrappedIn, wrap-holds, next-near, next-within, next-less, wrap-deep, wrap-full}
-use Rattle.quadtree.proofs.AddPlaced.{few, begun}
+use Rattle.quadtree.proofs.AddPlaced.{few, placed, kept}
 
 pub is-T : (b : Bool) → b ≡ true → T b
 is-T b e = subst T (sym e) tt
@@ -121,11 +125,11 @@ module _ (at : List Float) where
 
   -- ---- an insertion
 
-  module _ (m nx tail : List ℕ) (q : Quadtree) (c : Covered) (p : ℕ) (g : Puts at m nx tail q p) where
+  module _ (m : List ℕ) (q : Quadtree) (c : Covered) (p : ℕ) (g : Seeks at m q p) where
     -- the first particle
 
     module _ (z : q .root ≡ 0) where
-      no-points : upTo p ≡ []
+      pub no-points : upTo p ≡ []
       no-points = nothing (g .holds .tree) (sym (g .holds .root) ∙ z) (holds-is at (upTo p) m q (g .holds))
         where
           nothing : (t : Tree ℕ) → lead t ≡ 0 → Is at (q .extent) (inCells (q .extent) t) (upTo p) → upTo p ≡ []
@@ -139,13 +143,10 @@ module _ (at : List Float) where
           let a : insertT at p e 65 none ≡ leaf e (p ∷ []) = insert-none at p e 65 in
           sym a ∙ insert-tree at p none e (upTo p) no-points (subst (λ (t : Tree Extent). depth t ≤ 65) (sym a) (omega arith)) ∙ ap (treeIn at e) (sym (upTo-snoc p))
 
-      pub first-full : length m / 8 ≡ 0 → (a b : List ℕ) → Placed at m a b (c .extent) p Full
-      first-full e a b = (subst (λ (t : Tree Extent). depth t ≤ 65) first-cells (omega arith), subst (λ (t : Tree Extent). length m < nodes t * 8) first-cells (omega arith))
-
-      pub first-placed : (w a b : List ℕ) → (length m / 8 ≡ 0 → ⊥) → w ≡ putLeaf m 0 p → a ≡ set nx p 0 → b ≡ set tail p p → Placed at w a b (c .extent) p (Done (record { extent = c .extent; root = 1; nodes = 1; deepest = 0 }))
-      first-placed w a b n ew ea eb =
-          let room : 8 ≤ length m = fits (length m) n in (
-            record {
+      pub first-grown : (w : List ℕ) (r : Inserted) → Planted m w (c .extent) p r → Grown at w (c .extent) p r
+      first-grown w (Done r) (ew, room, er) = (
+        subst (Holds at (upTo (p + 1)) w) (sym er)
+            (record {
               tree = leaf 0 (p ∷ []);
               root = refl;
               stored = ap (λ (w : List ℕ). word w 0 0) ew ∙ leaf-tag m 0 p (omega arith);
@@ -156,31 +157,22 @@ module _ (at : List Float) where
               below = omega arith;
               once = tt;
               room = omega (arith, ap length ew, leaf-length m 0 p);
-            },
-            refl,
-            subst (λ (a : List ℕ). Linked at a b (p + 1)) (sym ea) (subst (λ (b : List ℕ). Linked at (set nx p 0) b (p + 1)) (sym eb) (begun at m nx tail q p g (λ i k e. subst (In i) no-points k))),
-          )
-        where
-          fits : (n : ℕ) → (n / 8 ≡ 0 → ⊥) → 8 ≤ n
-          fits n h = omega arith
-
-    -- the extent has not grown
-
-    pub unmoved : Covers at q c p → c .doublings ≡ 0 → q .extent ≡ c .extent
-    unmoved f z =
-        let e : squareOf (q .extent) ≡ squareOf (c .extent) = grows-none (floor (xAt at p)) (floor (yAt at p)) (covered-grows (f .near) (f .covered)) z .0 in
-        f .near .reachable .is ∙ ap (λ (s : Square). extentOf (holds s)) e ∙ sym (f .covered .reachable .is)
+            }),
+        ap (λ (r : Quadtree). r .extent) er,
+      )
+      first-grown w Deep h = absurd h
+      first-grown w Full h = (subst (λ (t : Tree Extent). depth t ≤ 65) first-cells (omega arith), subst (λ (t : Tree Extent). length w < nodes t * 8) first-cells (omega arith))
 
     -- a leaf root
 
-    pub leaf-puts : 0 < q .root → (word m (q .root - 1) 0 ≡ 0 → ⊥) → Puts at m nx tail (inExtent (c .extent) q) p
-    leaf-puts l n =
+    pub leaf-enlarged : 0 < q .root → (word m (q .root - 1) 0 ≡ 0 → ⊥) → Wrapped at m (c .extent) p (inExtent (c .extent) q)
+    leaf-enlarged l n =
         let (s, is, z) = root-leaf m (g .holds .tree) (q .root) (g .holds .root) l n (g .holds .stored) in
-        record { holds = leaf-regrown at (upTo p) m q (g .holds) (c .extent) s is z; linked = g .linked; ranged = g .ranged; few = g .few; read = g .read; in-next = g .in-next; in-tail = g .in-tail }
+        record { holds = leaf-regrown at (upTo p) m q (g .holds) (c .extent) s is z; extent = refl; rooted = l }
 
     -- an internal root
 
-    module _ (f : Enlarges at m q c p) where
+    module _ (rooted : 0 < q .root) (root-internal : word m (q .root - 1) 0 ≡ 0) (f : Covers at q c p) where
       abbrev e : Extent
       e = q .extent
 
@@ -190,15 +182,12 @@ module _ (at : List Float) where
       abbrev u : Tree Extent
       u = inCells (q .extent) (g .holds .tree)
 
-      go : Grows (floor (xAt at p)) (floor (yAt at p)) (suc (c .doublings - 1)) (squareOf e) (squareOf v)
-      go = subst (λ (k : ℕ). Grows (floor (xAt at p)) (floor (yAt at p)) k (squareOf e) (squareOf v)) (let z : c .doublings ≡ suc (c .doublings - 1) = omega (arith, f .some) in z) (covered-grows (f .covers .near) (f .covers .covered))
-
       before-ranged : Ranged at p
       before-ranged i l = g .ranged i (omega arith)
 
       levels : depth u ≡ q .deepest + 1
       levels =
-          let (s, t0, t1, t2, t3, z) = root-node m (g .holds .tree) (q .root) (g .holds .root) (f .rooted) (f .internal) (g .holds .stored) in
+          let (s, t0, t1, t2, t3, z) = root-node m (g .holds .tree) (q .root) (g .holds .root) rooted root-internal (g .holds .stored) in
           cells-depth e (g .holds .tree) ∙ one (g .holds .tree) (subst (λ (t : Tree ℕ). 0 < depth t) (sym z) (omega arith)) (g .holds .deepest)
         where
           one : (t : Tree ℕ) → 0 < depth t → depth t - 1 ≡ q .deepest → depth t ≡ q .deepest + 1
@@ -209,42 +198,77 @@ module _ (at : List Float) where
 
       internal : Internal at u
       internal =
-          let (s, t0, t1, t2, t3, z) = root-node m (g .holds .tree) (q .root) (g .holds .root) (f .rooted) (f .internal) (g .holds .stored) in
+          let (s, t0, t1, t2, t3, z) = root-node m (g .holds .tree) (q .root) (g .holds .root) rooted root-internal (g .holds .stored) in
           subst (λ (t : Tree ℕ). Internal at (inCells e t)) (sym z) tt
 
-      doublings-are : suc (c .doublings - 1) ≡ c .doublings
-      doublings-are = omega (arith, f .some)
+      pub deepest-most : q .deepest ≤ greatestLevel
+      deepest-most = most (depth (g .holds .tree)) (g .holds .most) (g .holds .deepest)
+        where
+          most : (d : ℕ) → d ≤ greatestLevel + 1 → d - 1 ≡ q .deepest → q .deepest ≤ greatestLevel
+          most d a b = omega arith
 
-      pub enlarge-deep : greatestLevel < q .deepest + c .doublings → (w a b : List ℕ) → Placed at w a b v p Deep
-      enlarge-deep l w a b =
-          subst (λ (x : List ℕ). 65 < depth (treeIn at v x)) (sym (upTo-snoc p))
-          (wrap-deep at p (upTo p) (in-range p before-ranged) (c .doublings - 1) e u (f .covers .near) (all-lie p e (f .covers .inside)) internal (holds-is at (upTo p) m q (g .holds)) v (f .covers .covered .reachable) go (omega (arith, levels, doublings-are)))
+      -- at least one doubling
+      module _ (some : 0 < c .doublings) where
+        doublings-are : suc (c .doublings - 1) ≡ c .doublings
+        doublings-are = omega arith
 
-      module _ (shallow : q .deepest + c .doublings ≤ greatestLevel) where
-        pub enlarge-full : length m / 8 < q .nodes + c .doublings + 1 → (a b : List ℕ) → Placed at m a b v p Full
-        enlarge-full l a b =
-            let r = wrap-full at p (upTo p) (in-range p before-ranged) (c .doublings - 1) e u (f .covers .near) (all-lie p e (f .covers .inside)) internal (holds-is at (upTo p) m q (g .holds)) v (f .covers .covered .reachable) go (omega (arith, levels, doublings-are)) in
+        go : Grows (floor (xAt at p)) (floor (yAt at p)) (suc (c .doublings - 1)) (squareOf e) (squareOf v)
+        go = subst (λ (k : ℕ). Grows (floor (xAt at p)) (floor (yAt at p)) k (squareOf e) (squareOf v)) (sym doublings-are) (covered-grows (f .near) (f .covered))
+
+        some-deep : greatestLevel < q .deepest + c .doublings → (w : List ℕ) → Grown at w v p Deep
+        some-deep l w =
+            subst (λ (x : List ℕ). 65 < depth (treeIn at v x)) (sym (upTo-snoc p))
+            (wrap-deep at p (upTo p) (in-range p before-ranged) (c .doublings - 1) e u (f .near) (all-lie p e (f .inside)) internal (holds-is at (upTo p) m q (g .holds)) v (f .covered .reachable) go (omega (arith, levels, doublings-are)))
+
+        some-full : q .deepest + c .doublings ≤ greatestLevel → length m / 8 < q .nodes + c .doublings → Grown at m v p Full
+        some-full shallow l =
+            let r = wrap-full at p (upTo p) (in-range p before-ranged) (c .doublings - 1) e u (f .near) (all-lie p e (f .inside)) internal (holds-is at (upTo p) m q (g .holds)) v (f .covered .reachable) go (omega (arith, levels, doublings-are)) in
             subst (λ (x : List ℕ). (depth (treeIn at v x) ≤ 65) × (length m < nodes (treeIn at v x) * 8)) (sym (upTo-snoc p)) (r .0, more (r .1))
           where
             more : {k : ℕ} → k ≡ nodes u + suc (c .doublings - 1) + 1 → length m < k * 8
             more e = omega (arith, count, doublings-are)
 
-        pub enlarge-asks : q .nodes + c .doublings + 1 ≤ length m / 8 → Wraps at m q v p (c .doublings)
+      pub enlarge-deep : greatestLevel < q .deepest + c .doublings → (w : List ℕ) → Grown at w v p Deep
+      enlarge-deep l = some-deep (omega (arith, deepest-most)) l
+
+      module _ (shallow : q .deepest + c .doublings ≤ greatestLevel) where
+        pub enlarge-full : length m / 8 < q .nodes + c .doublings → Grown at m v p Full
+        enlarge-full l = some-full (some (length m) (g .holds .room) l) shallow l
+          where
+            some : (n : ℕ) → q .nodes * 8 ≤ n → n / 8 < q .nodes + c .doublings → 0 < c .doublings
+            some n a b = omega arith
+
+        pub enlarge-asks : q .nodes + c .doublings ≤ length m / 8 → Wraps at m q v p (c .doublings)
         enlarge-asks l =
             record {
               holds = g .holds;
-              rooted = f .rooted;
-              internal = f .internal;
-              near = f .covers .near;
+              rooted = rooted;
+              internal = root-internal;
+              near = f .near;
               ranged = before-ranged;
-              inside = f .covers .inside;
-              grows = covered-grows (f .covers .near) (f .covers .covered);
-              end = f .covers .covered .reachable;
+              inside = f .inside;
+              grows = covered-grows (f .near) (f .covered);
+              end = f .covered .reachable;
               levels = shallow;
               room = omega arith;
-              small = omega (arith, few at m nx tail q p g, shallow);
+              small = omega (arith, few at m q p g, shallow);
               read = g .read;
             }
 
-      pub enlarge-puts : (w : List ℕ) (r : Quadtree) → Wrapped at w v p r → Puts at w nx tail r p
-      enlarge-puts w r h = record { holds = h .holds; linked = g .linked; ranged = g .ranged; few = g .few; read = g .read; in-next = g .in-next; in-tail = g .in-tail }
+  -- ---- with the chains
+
+  module _ (m nx tail : List ℕ) (q : Quadtree) (c : Covered) (p : ℕ) (g : Puts at m nx tail q p) (a b : List ℕ) (ea : a ≡ set nx p 0) (eb : b ≡ set tail p p) where
+    pub begun-alone : Alone a b p
+    begun-alone = (ap (λ (l : List ℕ). getD l p 0) ea ∙ getD-set-same nx p 0 0 (g .in-next), ap (λ (l : List ℕ). getD l p 0) eb ∙ getD-set-same tail p p 0 (g .in-tail))
+
+    pub begun-puts : (w : List ℕ) (r : Quadtree) → Holds at (upTo p) w r → Puts at w a b r p
+    begun-puts w r h =
+        record {
+          seeks = record { holds = h; ranged = g .seeks .ranged; few = g .seeks .few; read = g .seeks .read };
+          linked = subst₂ (λ (x y : List ℕ). Linked at x y p) (sym ea) (sym eb) (begin-linked at p nx tail (g .linked));
+          in-next = omega (arith, g .in-next, ap length ea, length-set nx p 0);
+          in-tail = omega (arith, g .in-tail, ap length eb, length-set tail p p);
+        }
+
+    pub first-placed : q .root ≡ 0 → (w : List ℕ) (r : Inserted) → Planted m w (c .extent) p r → Placed at w a b (c .extent) p r
+    first-placed z w r h = placed at w a b (c .extent) p r (first-grown m q c p (g .seeks) z w r h) (kept at m a b q p (begun-puts m q (g .seeks .holds)) begun-alone (λ i k e. subst (In i) (no-points m q c p (g .seeks) z) k))

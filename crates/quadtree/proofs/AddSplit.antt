@@ -15,9 +15,11 @@ use Rattle.rules.specs.Cell.{quadrant, quarter}
 use Rattle.rules.specs.Tree.{Tree, none, leaf, depth, nodes, same, inQuarter}
 use Rattle.rules.proofs.CellInsert.{insertT, into, moved, ends, below, insert-apart, insert-together, insert-other, insert-node}
 use Rattle.rules.proofs.CellDeep.{quarterOf, inQuarter-is, inQuarter-own}
-use Rattle.quadtree.specs.Slots.{kids, first, putInternal, putLeaf, EachSlot, Apart, Once, inCells}
-use Rattle.quadtree.specs.Add.{lead, Stored, pick, side, childless, gap, parted}
-use Rattle.quadtree.proofs.Slots.{Same, Small, same-trans, internal-length, internal-same, internal-tag, internal-kids, leaf-length, leaf-same, leaf-tag}
+use Rattle.slots.specs.Slots.{kids, putInternal, putLeaf}
+use Rattle.quadtree.specs.Slots.{first, EachSlot, Apart, Once, inCells}
+use Rattle.slots.specs.Leaf.{side, childless, gap, parted}
+use Rattle.quadtree.specs.Add.{lead, Stored, pick}
+use Rattle.slots.proofs.Slots.{Same, Small, same-trans, internal-length, internal-same, internal-tag, internal-kids, leaf-length, leaf-same, leaf-tag}
 use Rattle.quadtree.proofs.SlotsTree.{each-true, apart-sym, over, upd, bare, leads, upd-all, upd-below, each-over, stored-over, leads-upd, leads-small, depth-upd, nodes-upd, depth-child, once-over, pair-upd}
 use Rattle.quadtree.proofs.AddWay.{pick-ap, side-lt}
 use Rattle.cells.proofs.Quadrant.{quadrant-lt}

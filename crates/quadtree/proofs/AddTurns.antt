@@ -16,8 +16,9 @@ use Rattle.quadtree.specs.declared.Quadtree.{Quadtree}
 use Rattle.cells.specs.declared.indexer.Indexer.{Indexer}
 use Rattle.cells.specs.declared.indexer.Descent.{Descent}
 use Rattle.cells.specs.Indexer.{indexer, cellOf, Descends}
-use Rattle.quadtree.specs.Slots.{word, kids, putInternal}
-use Rattle.quadtree.specs.Add.{lead, Holds, childless, pick, side, Reaches, gap, forked, parted, FoundLeaf, FoundHole}
+use Rattle.slots.specs.Slots.{word, kids, putInternal}
+use Rattle.slots.specs.Leaf.{childless, side, gap, forked, parted}
+use Rattle.quadtree.specs.Add.{lead, Holds, pick, Reaches, FoundLeaf, FoundHole}
 use Rattle.quadtree.proofs.SlotsTree.{lead-each, leads}
 use Rattle.quadtree.proofs.AddWay.{side-lt, reach-each, reach-stored, reach-down}
 use Rattle.quadtree.proofs.AddHold.{reached, node-level}
@@ -35,26 +36,7 @@ lead-none none e = refl
 lead-none (leaf s is) e = absurd (omega arith)
 lead-none (node s t0 t1 t2 t3) e = absurd (omega arith)
 
--- an indexer of a cell
-pub indexed : (i : Indexer) (c : Extent) → i ≡ indexer c → i ≡ indexer (cellOf i)
-indexed i c e = e ∙ ap indexer (sym (ap cellOf e))
-
 module _ (at : List Float) (p : ℕ) where
-  -- ---- one step down
-
-  module _ (c : Extent) (x y : Float) (r : Descent) (d : Descends c x y r) (ex : x ≡ xAt at p) (ey : y ≡ yAt at p) where
-    pub step-side : r .quadrant ≡ side at p c
-    step-side = d .quadrant ∙ ap₂ (quadrant c) ex ey
-
-    pub step-less : r .quadrant < 4
-    step-less = subst (λ (q : ℕ). q < 4) (sym step-side) (side-lt at p c)
-
-    pub step-own : r .indexer ≡ indexer (cellOf (r .indexer))
-    step-own = indexed (r .indexer) (quarter (r .quadrant) c) (d .indexer)
-
-    pub step-cell : cellOf (r .indexer) ≡ quarter (r .quadrant) c
-    step-cell = ap cellOf (d .indexer)
-
   -- ---- the way down
 
   -- the slot s stands l levels down on the way of p, for any tree that begins in slot r of the cell b
@@ -127,29 +109,3 @@ module _ (at : List Float) (p : ℕ) where
       where
         back : (a b : ℕ) → a ≡ b → (a ≡ 0 → ⊥) → b ≡ a - 1 + 1
         back a b e n = omega arith
-
-  -- ---- the levels that two particles share
-
-  module _ (l f : ℕ) (c : Extent) (lt : l < 64) where
-    one : 64 - l ≡ suc (64 - (l + 1))
-    one = omega arith
-
-    pub meet-more : (k : ℕ) → k ≡ side at p c → k ≡ quadrant c (xAt at f) (yAt at f) → gap at p (64 - l) c f ≡ suc (gap at p (64 - (l + 1)) (quarter k c) f)
-    unfolding inQuarter
-    meet-more k e g = rw (one, e, eq-eqb (side at p c) (quadrant c (xAt at f) (yAt at f)) (sym e ∙ g))
-
-    pub meet-stop : (k j : ℕ) → k ≡ side at p c → j ≡ quadrant c (xAt at f) (yAt at f) → (k ≡ j → ⊥) → gap at p (64 - l) c f ≡ 0
-    unfolding inQuarter
-    meet-stop k j e g n = rw (one, ne-eqb (side at p c) (quadrant c (xAt at f) (yAt at f)) (λ z. n (e ∙ z ∙ sym g)))
-
-  pub meet-end : (l f : ℕ) (c : Extent) → 64 ≤ l → gap at p (64 - l) c f ≡ 0
-  meet-end l f c h = let z : 64 - l ≡ 0 = omega arith in rw z
-
-  -- ---- a split
-
-  pub split-turn : (f left k : ℕ) (c : Extent) (s x : ℕ) (m w : List ℕ) → 0 < left → k ≡ side at p c → w ≡ putInternal m s (set childless k (x + 1)) → parted at p f (left - 1) (quarter k c) x (x + 1) w ≡ parted at p f left c s x m
-  split-turn f zero k c s x m w l e g = absurd (omega arith)
-  split-turn f (suc n) k c s x m w l e g = let z : suc n - 1 ≡ n = omega arith in rw (z, g, e)
-
-  pub split-end : (f left j k : ℕ) (c : Extent) (s x : ℕ) (m w : List ℕ) → left ≤ 0 → j ≡ quadrant c (xAt at f) (yAt at f) → k ≡ side at p c → w ≡ forked f p m s j k x → w ≡ parted at p f left c s x m
-  split-end f left j k c s x m w l ej ek e = let z : left ≡ 0 = omega arith in e ∙ rw (z, ej, ek)

@@ -15,8 +15,9 @@ use Rattle.rules.specs.Tree.{Tree, none, leaf, node, depth, nodes, inQuarter}
 use Rattle.rules.proofs.CellInsert.{insertT, into, insert-node}
 use Rattle.rules.proofs.CellDeep.{inQuarter-own}
 use Rattle.quadtree.specs.Slots.{EachSlot, Apart, Once, inCells}
-use Rattle.quadtree.specs.Add.{lead, Stored, pick, side, Reaches}
-use Rattle.quadtree.proofs.Slots.{Same}
+use Rattle.slots.specs.Leaf.{side}
+use Rattle.quadtree.specs.Add.{lead, Stored, pick, Reaches}
+use Rattle.slots.proofs.Slots.{Same}
 use Rattle.quadtree.proofs.SlotsTree.{each-map, each-both, apart-sym, lead-each, over, upd, each-child, stored-child, upd-below, each-over, stored-over, leads-keep, depth-upd, nodes-upd, depth-child, once-out, once-apart, once-child, once-over, pair-upd, frame}
 use Rattle.cells.proofs.Quadrant.{quadrant-lt}
 

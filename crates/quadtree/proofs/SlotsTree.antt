@@ -10,9 +10,10 @@ use borrow.Author.Tests.{eqb-true, eqb-false}
 use Rattle.rules.specs.Plain.{branch}
 use Rattle.rules.specs.Tree.{Tree, none, leaf, node, depth, nodes}
 use Rattle.rules.proofs.CellChain.{EachLeaf}
-use Rattle.quadtree.specs.Slots.{word, kids, Follows, Leads, EachSlot, Apart, Once}
+use Rattle.slots.specs.Slots.{word, kids}
+use Rattle.quadtree.specs.Slots.{Follows, Leads, EachSlot, Apart, Once}
 use Rattle.quadtree.specs.Add.{lead, Stored, pick}
-use Rattle.quadtree.proofs.Slots.{Same, Small}
+use Rattle.slots.proofs.Slots.{Same, Small}
 
 -- ---- each slot
 

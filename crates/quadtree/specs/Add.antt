@@ -2,15 +2,15 @@
 use mathlib.Core.Path.{_≡_}
 use mathlib.Core.Bool.{true}
 use mathlib.Core.List.{List, [], _∷_}
-use Prim.Native.Nat.{ℕ, zero, suc, _+_, _-_, _*_, _^_, _≤_, _<_}
-use lib.ListN.{length, set}
+use Prim.Native.Nat.{ℕ, zero, suc, _+_, _-_, _*_, _^_, _≤_, _<_, max}
+use lib.ListN.{length, getD}
 use lib.Ieee.{Float}
 use Rattle.rules.specs.declared.Extent.{Extent}
-use Rattle.rules.specs.Plain.{branch, upTo}
+use Rattle.rules.specs.Plain.{upTo}
 use Rattle.rules.specs.Number.{within, xAt, yAt}
 use Rattle.rules.specs.Floor.{floor}
-use Rattle.rules.specs.Cell.{quadrant, quarter}
-use Rattle.rules.specs.Tree.{Tree, none, leaf, node, nodes, depth, inQuarter, treeIn, greatestLevel}
+use Rattle.rules.specs.Cell.{quarter}
+use Rattle.rules.specs.Tree.{Tree, none, leaf, node, nodes, depth, treeIn, greatestLevel}
 use Rattle.rules.proofs.CellInside.{Inside}
 use Rattle.rules.proofs.CoverTerms.{Grows}
 use Rattle.quadtree.specs.declared.Quadtree.{Quadtree}
@@ -20,8 +20,10 @@ use Rattle.quadtree.specs.declared.add.Stop.the-variants.{Leaf, Hole}
 use Rattle.quadtree.specs.declared.add.Inserted.{Inserted}
 use Rattle.quadtree.specs.declared.add.Inserted.the-variants.{Done, Deep, Full}
 use Rattle.cells.specs.Cover.{squareOf, Reachable, Near, CoveredTo}
-use Rattle.quadtree.specs.Chain.{Linked}
-use Rattle.quadtree.specs.Slots.{word, kids, first, putInternal, putLeaf, EachSlot, Once, inCells}
+use Rattle.slots.specs.Chain.{Linked}
+use Rattle.slots.specs.Slots.{word, kids, putLeaf}
+use Rattle.slots.specs.Leaf.{side}
+use Rattle.quadtree.specs.Slots.{first, EachSlot, Once, inCells}
 
 -- ---- trees in slots, whatever their chains
 
@@ -51,10 +53,6 @@ pub record Holds (at : List Float) (is m : List ℕ) (q : Quadtree) : Type 0 whe
   pub once : Once tree
   pub room : q .nodes * 8 ≤ length m
 
--- no child
-abbrev pub childless : List ℕ
-childless = 0 ∷ 0 ∷ 0 ∷ 0 ∷ []
-
 -- one of four, by its number
 abbrev pub pick : {A : Type 0} → A → A → A → A → ℕ → A
 pick a b c d zero = a
@@ -62,39 +60,15 @@ pick a b c d (suc zero) = b
 pick a b c d (suc (suc zero)) = c
 pick a b c d (suc (suc (suc q))) = d
 
--- a leaf of p in slot x, as child k of slot s
-unfoldable pub hung : ℕ → List ℕ → ℕ → ℕ → ℕ → List ℕ
-hung p m s k x = putLeaf (putInternal m s (set (kids m s) k (x + 1))) x p
-
--- slot s becomes an internal node over two new leaves, from slot x on: of f as child j, of p as child k
-abbrev pub forked : ℕ → ℕ → List ℕ → ℕ → ℕ → ℕ → ℕ → List ℕ
-forked f p m s j k x = putLeaf (putLeaf (putInternal m s (set (set childless j (x + 1)) k (x + 2))) x f) (x + 1) p
-
 -- ---- the way of a point down a tree
 
 module _ (at : List Float) (p : ℕ) where
-  -- the quadrant of the point p
-  abbrev pub side : Extent → ℕ
-  side c = quadrant c (xAt at p) (yAt at p)
-
   -- n levels below the tree t of the cell c, the way of p comes to the tree u of the cell d
   abbrev pub Reaches : ℕ → Extent → Tree ℕ → Extent → Tree ℕ → Type 0
   Reaches zero c t d u = (c ≡ d) × (t ≡ u)
   Reaches (suc n) c none d u = ⊥
   Reaches (suc n) c (leaf s is) d u = ⊥
-  Reaches (suc n) c (node s t0 t1 t2 t3) d u = Reaches n (quarter (side c) c) (pick t0 t1 t2 t3 (side c)) d u
-
-  -- how many levels from the cell c on, n at the most, the point i shares the quadrant of p
-  abbrev pub gap : ℕ → Extent → ℕ → ℕ
-  gap zero c i = 0
-  gap (suc n) c i = branch (inQuarter at c (side c) i) (λ _. suc (gap n (quarter (side c) c) i)) (λ _. 0)
-
-  -- ---- what is written where it ends
-
-  -- The leaf of f in slot s is split: internal nodes for the g + 1 levels from the cell c on, the first in slot s and the others from slot x on, then the leaves of f and p.
-  abbrev pub parted : ℕ → ℕ → Extent → ℕ → ℕ → List ℕ → List ℕ
-  parted f zero c s x m = forked f p m s (quadrant c (xAt at f) (yAt at f)) (side c) x
-  parted f (suc g) c s x m = parted f g (quarter (side c) c) x (x + 1) (putInternal m s (set childless (side c) (x + 1)))
+  Reaches (suc n) c (node s t0 t1 t2 t3) d u = Reaches n (quarter (side at p c) c) (pick t0 t1 t2 t3 (side at p c)) d u
 
 -- ---- what is asked and answered
 
@@ -102,21 +76,23 @@ module _ (at : List Float) (p : ℕ) where
 abbrev pub Ranged : List Float → ℕ → Type 0
 Ranged at n = (i : ℕ) → i < n → (within (xAt at i) ≡ true) × (within (yAt at i) ≡ true)
 
--- a tree of the particles before p, and room for p in the lists
-pub record Puts (at : List Float) (m next tail : List ℕ) (q : Quadtree) (p : ℕ) : Type 0 where
+-- a tree of the particles before p, and the place of p
+pub record Seeks (at : List Float) (m : List ℕ) (q : Quadtree) (p : ℕ) : Type 0 where
   pub holds : Holds at (upTo p) m q
-  pub linked : Linked at next tail p
   pub ranged : Ranged at (p + 1)
   pub few : p < 4096
   pub read : p * 2 + 2 ≤ length at
+
+-- and the chains of those particles, with room for p
+pub record Puts (at : List Float) (m next tail : List ℕ) (q : Quadtree) (p : ℕ) : Type 0 where
+  pub seeks : Seeks at m q p
+  pub linked : Linked at next tail p
   pub in-next : p < length next
   pub in-tail : p < length tail
 
--- a tree with a root, and the place of p
-pub record Finds (at : List Float) (m : List ℕ) (q : Quadtree) (p : ℕ) : Type 0 where
-  pub holds : Holds at (upTo p) m q
-  pub rooted : 0 < q .root
-  pub read : p * 2 + 2 ≤ length at
+-- p is a chain of its own
+abbrev pub Alone : List ℕ → List ℕ → ℕ → Type 0
+Alone next tail p = (getD next p 0 ≡ 0) × (getD tail p 0 ≡ p)
 
 -- the way of p ends at the leaf in slot s of level l, whose first particle is f and whose cell is c
 pub record FoundLeaf (at : List Float) (m : List ℕ) (q : Quadtree) (p s l f : ℕ) (c : Extent) : Type 0 where
@@ -140,31 +116,21 @@ abbrev pub Found : List Float → List ℕ → Quadtree → ℕ → Stop → Typ
 Found at m q p (Leaf s l f c) = FoundLeaf at m q p s l f c
 Found at m q p (Hole s k l) = FoundHole at m q p s k l
 
--- what a fork asks
-pub record Forks (size s j k x f p : ℕ) : Type 0 where
-  pub own : s * 8 + 8 ≤ size
-  pub first-quadrant : j < 4
-  pub new-quadrant : k < 4
-  pub room : (x + 2) * 8 ≤ size
-  pub small : x + 2 < 2 ^ 32
-  pub first : f < 4096
-  pub new : p < 4096
-
--- what a split asks of its slots and particles
-pub record Splits (size places s x g f p : ℕ) : Type 0 where
-  pub own : s * 8 + 8 ≤ size
-  pub room : (x + g + 2) * 8 ≤ size
-  pub small : x + g + 2 < 2 ^ 32
-  pub first : f < 4096
-  pub new : p < 4096
-  pub first-place : f * 2 + 2 ≤ places
-  pub new-place : p * 2 + 2 ≤ places
+-- n nodes more, one of level l
+abbrev pub withMore : Quadtree → ℕ → ℕ → Quadtree
+withMore q n l = record { extent = q .extent; root = q .root; nodes = q .nodes + n; deepest = max (q .deepest) l }
 
 -- The tree with p in the extent c; or 6, where it would pass the greatest level; or 7, where only slots are wanting.
+abbrev pub Grown : List Float → List ℕ → Extent → ℕ → Inserted → Type 0
+Grown at m c p (Done q) = Holds at (upTo (p + 1)) m q × (q .extent ≡ c)
+Grown at m c p Deep = greatestLevel + 1 < depth (treeIn at c (upTo (p + 1)))
+Grown at m c p Full = (depth (treeIn at c (upTo (p + 1))) ≤ greatestLevel + 1) × (length m < nodes (treeIn at c (upTo (p + 1))) * 8)
+
+-- and its chains
 abbrev pub Placed : List Float → List ℕ → List ℕ → List ℕ → Extent → ℕ → Inserted → Type 0
 Placed at m next tail c p (Done q) = Holds at (upTo (p + 1)) m q × (q .extent ≡ c) × Linked at next tail (p + 1)
-Placed at m next tail c p Deep = greatestLevel + 1 < depth (treeIn at c (upTo (p + 1)))
-Placed at m next tail c p Full = (depth (treeIn at c (upTo (p + 1))) ≤ greatestLevel + 1) × (length m < nodes (treeIn at c (upTo (p + 1))) * 8)
+Placed at m next tail c p Deep = Grown at m c p Deep
+Placed at m next tail c p Full = Grown at m c p Full
 
 -- p is covered from the extent of q, in which all particles before it lie
 pub record Covers (at : List Float) (q : Quadtree) (c : Covered) (p : ℕ) : Type 0 where
@@ -176,13 +142,6 @@ pub record Covers (at : List Float) (q : Quadtree) (c : Covered) (p : ℕ) : Typ
 pub record Inserts (at : List Float) (m next tail : List ℕ) (q : Quadtree) (c : Covered) (p : ℕ) : Type 0 where
   pub puts : Puts at m next tail q p
   pub covers : 0 < q .root → Covers at q c p
-
--- the root is internal and p lies outside its extent
-pub record Enlarges (at : List Float) (m : List ℕ) (q : Quadtree) (c : Covered) (p : ℕ) : Type 0 where
-  pub rooted : 0 < q .root
-  pub internal : word m (q .root - 1) 0 ≡ 0
-  pub some : 0 < c .doublings
-  pub covers : Covers at q c p
 
 -- An internal root that is to be wrapped n times, once for each doubling towards p that leads to the extent `to`.
 pub record Wraps (at : List Float) (m : List ℕ) (q : Quadtree) (to : Extent) (p n : ℕ) : Type 0 where
@@ -204,3 +163,15 @@ pub record Wrapped (at : List Float) (m : List ℕ) (to : Extent) (p : ℕ) (r :
   pub holds : Holds at (upTo p) m r
   pub extent : r .extent ≡ to
   pub rooted : 0 < r .root
+
+-- or what refuses the tree with p
+abbrev pub Enlarged : List Float → List ℕ → Extent → ℕ → Inserted → Type 0
+Enlarged at m c p (Done q) = Wrapped at m c p q
+Enlarged at m c p Deep = Grown at m c p Deep
+Enlarged at m c p Full = Grown at m c p Full
+
+-- the first leaf, or no slot for it
+abbrev pub Planted : List ℕ → List ℕ → Extent → ℕ → Inserted → Type 0
+Planted m w c p (Done q) = (w ≡ putLeaf m 0 p) × (8 ≤ length m) × (q ≡ record { extent = c; root = 1; nodes = 1; deepest = 0 })
+Planted m w c p Deep = ⊥
+Planted m w c p Full = length w < 8

@@ -1,17 +1,18 @@
-// add.rs: a particle goes into the tree. What it takes is found by reading alone; refusal 6, then 7, is decided before anything is written.
+// add.rs: a particle goes into the tree. Where it ends is found by reading alone.
 ghost use mathlib.Core.Path.{_≡_};
-ghost use Prim.Native.Nat.{_+_, _-_, _*_, _/_, _^_, _≤_, _<_, max};
-ghost use lib.ListN.{length, set};
-ghost use Rattle.cells.specs.Indexer.{indexer, cellOf};
-ghost use Rattle.quadtree.specs.Add.{childless, hung, gap, forked, parted, Forks, Splits, Finds, Found, Puts, FoundLeaf, Placed, Wraps, Wrapped, Enlarges, Inserts};
+ghost use mathlib.Core.Bool.{false};
+ghost use Prim.Native.Nat.{_≤_, _<_, max};
+ghost use Rattle.rules.specs.Tree.{same};
+ghost use Rattle.quadtree.specs.Add.{withMore, Seeks, Alone, Found, Puts, FoundLeaf, Grown, Placed, Covers, Wraps, Wrapped, Enlarged, Planted, Inserts};
 use crate::Quadtree;
-use crate::chain;
-use crate::point;
-use crate::store;
 use cells::cover;
 use cells::cover::Covered;
 use cells::indexer::Indexer;
 use rules::Extent;
+use slots::chain;
+use slots::leaf;
+use slots::point;
+use slots::store;
 
 // Where a point's way down the tree ends.
 pub enum Stop {
@@ -28,12 +29,6 @@ pub enum Inserted {
     Full,
 }
 
-fn slots(m: &[u64]) -> usize
-    ensures { λ r. ⌜ r ≡ length (now (m .entry)) / 8 ⌝ }
-{
-    m.len() / 8
-}
-
 fn greater(a: usize, b: usize) -> usize
     ensures { λ r. ⌜ r ≡ max a b ⌝ }
 {
@@ -43,19 +38,9 @@ fn greater(a: usize, b: usize) -> usize
     a
 }
 
-// One child and no other.
-fn only(k: usize, child: usize) -> [u32; 4]
-    requires { ⌜ (k < 4) × (child < 2 ^ 32) ⌝ }
-    ensures { λ r. ⌜ r ≡ set childless k child ⌝ }
-{
-    let mut children = [0u32; 4];
-    children[k] = child as u32;
-    children
-}
-
 // Where the way of p ends.
 fn find(m: &[u64], at: &[f64], q: Quadtree, p: usize) -> Stop
-    requires { ⌜ Finds (now at) (now m) q p ⌝ }
+    requires { ⌜ Seeks (now at) (now m) q p × (0 < q .root) ⌝ }
     ensures { λ r. ⌜ Found (now (at .entry)) (now (m .entry)) q p r ⌝ }
 {
     let x = point::x_at(at, p);
@@ -81,145 +66,57 @@ fn find(m: &[u64], at: &[f64], q: Quadtree, p: usize) -> Stop
     }
 }
 
-// For how many levels from that of the cell on the two particles share a quadrant.
-fn meet(at: &[f64], cell: Extent, level: usize, f: usize, p: usize) -> usize
-    requires { ⌜ (level ≤ 64) × (f * 2 + 2 ≤ length (now at)) × (p * 2 + 2 ≤ length (now at)) ⌝ }
-    ensures { λ r. ⌜ r ≡ gap (now (at .entry)) p (64 - level) cell f ⌝ }
+// The tree with as many nodes more, one of them of that level.
+fn more(q: Quadtree, nodes: usize, level: usize) -> Quadtree
+    requires { ⌜ (q .nodes ≤ 262144) × (nodes ≤ 66) ⌝ }
+    ensures { λ r. ⌜ r ≡ withMore q nodes level ⌝ }
 {
-    let x = point::x_at(at, p);
-    let y = point::y_at(at, p);
-    let u = point::x_at(at, f);
-    let v = point::y_at(at, f);
-    let mut ix = Indexer::with_extent(cell);
-    let mut l = level;
-    while l < Quadtree::GREATEST_LEVEL {
-        let other = ix.get(u, v);
-        let way = ix.get_and_descend(x, y);
-        if way.quadrant != other {
-            return l - level;
-        }
-        ix = way.indexer;
-        l += 1;
-    }
-    l - level
-}
-
-// A leaf of p in slot x, as child k of slot s.
-fn hang(m: &mut [u64], s: usize, k: usize, x: usize, p: usize)
-    requires { ⌜ (s * 8 + 8 ≤ length (now m)) × (k < 4) × ((x + 1) * 8 ≤ length (now m)) × (x + 1 < 2 ^ 32) × (p < 4096) ⌝ }
-    ensures { λ _. ⌜ now (m .exit) ≡ hung p (now (m .entry)) s k x ⌝ }
-{
-    let mut children = store::children(m, s);
-    children[k] = (x + 1) as u32;
-    store::put_internal(m, s, children);
-    store::put_leaf(m, x, p);
-}
-
-// Slot s becomes an internal node over two new leaves, from slot x on: of f as child j, of p as child k.
-fn fork(m: &mut [u64], s: usize, j: usize, k: usize, x: usize, f: usize, p: usize)
-    requires { ⌜ Forks (length (now m)) s j k x f p ⌝ }
-    ensures { λ _. ⌜ now (m .exit) ≡ forked f p (now (m .entry)) s j k x ⌝ }
-{
-    let mut children = only(j, x + 1);
-    children[k] = (x + 2) as u32;
-    store::put_internal(m, s, children);
-    store::put_leaf(m, x, f);
-    store::put_leaf(m, x + 1, p);
-}
-
-// The leaf of f in slot s becomes an internal node over g more, new ones, with the leaves of f and p at the end.
-fn split(m: &mut [u64], at: &[f64], s: usize, cell: Extent, g: usize, x: usize, f: usize, p: usize)
-    requires { ⌜ Splits (length (now m)) (length (now at)) s x g f p ⌝ }
-    ensures { λ _. ⌜ now (m .exit) ≡ parted (now (at .entry)) p f g cell s x (now (m .entry)) ⌝ }
-{
-    let u = point::x_at(at, p);
-    let v = point::y_at(at, p);
-    let mut ix = Indexer::with_extent(cell);
-    let mut slot = s;
-    let mut free = x;
-    let mut left = g;
-    while 0 < left {
-        let way = ix.get_and_descend(u, v);
-        let children = only(way.quadrant, free + 1);
-        store::put_internal(m, slot, children);
-        ix = way.indexer;
-        slot = free;
-        free += 1;
-        left -= 1;
-    }
-    let j = ix.get(point::x_at(at, f), point::y_at(at, f));
-    let k = ix.get(u, v);
-    fork(m, slot, j, k, free, f, p);
-}
-
-// The way of p has ended at the leaf of f in slot s, of level l.
-fn at_leaf(
-    m: &mut [u64],
-    at: &[f64],
-    next: &mut [u32],
-    tail: &mut [u32],
-    q: Quadtree,
-    s: usize,
-    l: usize,
-    f: usize,
-    cell: Extent,
-    p: usize,
-) -> Inserted
-    requires { ⌜ Puts (now at) (now m) (now next) (now tail) q p × FoundLeaf (now at) (now m) q p s l f cell ⌝ }
-    ensures { λ r. ⌜ Placed (now (at .entry)) (now (m .exit)) (now (next .exit)) (now (tail .exit)) (q .extent) p r ⌝ }
-{
-    if point::same(at, f, p) {
-        chain::join(next, tail, f, p);
-        return Inserted::Done(q);
-    }
-    let g = meet(at, cell, l, f, p);
-    if g == Quadtree::GREATEST_LEVEL - l {
-        return Inserted::Deep;
-    }
-    let nodes = q.nodes + g + 2;
-    if slots(m) < nodes {
-        return Inserted::Full;
-    }
-    split(m, at, s, cell, g, q.nodes, f, p);
-    chain::begin(next, tail, p);
     let extent = q.extent;
-    Inserted::Done(Quadtree {
+    Quadtree {
         extent: extent,
         root: q.root,
-        nodes: nodes,
-        deepest: greater(q.deepest, l + g + 1),
-    })
+        nodes: q.nodes + nodes,
+        deepest: greater(q.deepest, level),
+    }
 }
 
-// p goes into a tree whose extent holds it.
-fn place(
-    m: &mut [u64],
-    at: &[f64],
-    next: &mut [u32],
-    tail: &mut [u32],
-    q: Quadtree,
-    p: usize,
-) -> Inserted
-    requires { ⌜ Puts (now at) (now m) (now next) (now tail) q p × (0 < q .root) ⌝ }
+// The way of p has ended at the leaf in slot s, of level l, whose first particle f is at another point.
+fn at_leaf(m: &mut [u64], at: &[f64], q: Quadtree, s: usize, l: usize, f: usize, cell: Extent, p: usize) -> Inserted
+    requires { ⌜ Seeks (now at) (now m) q p × FoundLeaf (now at) (now m) q p s l f cell × (same (now at) f p ≡ false) ⌝ }
+    ensures { λ r. ⌜ Grown (now (at .entry)) (now (m .exit)) (q .extent) p r ⌝ }
+{
+    let left = Quadtree::GREATEST_LEVEL - l;
+    let g = leaf::meet(at, cell, left, f, p);
+    if g == left {
+        return Inserted::Deep;
+    }
+    if store::slots(m) < q.nodes + g + 2 {
+        return Inserted::Full;
+    }
+    leaf::split(m, at, s, cell, g, q.nodes, f, p);
+    Inserted::Done(more(q, g + 2, l + g + 1))
+}
+
+// p, a chain of its own so far, goes into a tree whose extent holds it.
+fn place(m: &mut [u64], at: &[f64], next: &mut [u32], tail: &mut [u32], q: Quadtree, p: usize) -> Inserted
+    requires { ⌜ Puts (now at) (now m) (now next) (now tail) q p × Alone (now next) (now tail) p × (0 < q .root) ⌝ }
     ensures { λ r. ⌜ Placed (now (at .entry)) (now (m .exit)) (now (next .exit)) (now (tail .exit)) (q .extent) p r ⌝ }
 {
     let stop = find(m, at, q, p);
     match stop {
-        Stop::Leaf(s, l, f, cell) => at_leaf(m, at, next, tail, q, s, l, f, cell, p),
+        Stop::Leaf(s, l, f, cell) => {
+            if point::same(at, f, p) {
+                chain::join(next, tail, f, p);
+                return Inserted::Done(q);
+            }
+            at_leaf(m, at, q, s, l, f, cell, p)
+        }
         Stop::Hole(s, k, l) => {
-            let nodes = q.nodes + 1;
-            if slots(m) < nodes {
+            if store::slots(m) == q.nodes {
                 return Inserted::Full;
             }
-            hang(m, s, k, q.nodes, p);
-            chain::begin(next, tail, p);
-            let extent = q.extent;
-            Inserted::Done(Quadtree {
-                extent: extent,
-                root: q.root,
-                nodes: nodes,
-                deepest: greater(q.deepest, l + 1),
-            })
+            leaf::hang(m, s, k, q.nodes, p);
+            Inserted::Done(more(q, 1, l + 1))
         }
     }
 }
@@ -236,7 +133,7 @@ fn wrap(m: &mut [u64], at: &[f64], q: Quadtree, covered: Covered, p: usize) -> Q
     while 0 < left {
         let nodes = wrapped.nodes;
         let doubled = cover::double_once(wrapped.extent, x, y);
-        let children = only(doubled.quadrant, wrapped.root as usize);
+        let children = store::only(doubled.quadrant, wrapped.root as usize);
         store::put_internal(m, nodes, children);
         let extent = doubled.extent;
         wrapped = Quadtree {
@@ -250,28 +147,46 @@ fn wrap(m: &mut [u64], at: &[f64], q: Quadtree, covered: Covered, p: usize) -> Q
     wrapped
 }
 
-// p lies outside the extent of an internal root, so it comes into another quarter of the last new root.
-fn enlarge(
-    m: &mut [u64],
-    at: &[f64],
-    next: &mut [u32],
-    tail: &mut [u32],
-    q: Quadtree,
-    covered: Covered,
-    p: usize,
-) -> Inserted
-    requires { ⌜ Puts (now at) (now m) (now next) (now tail) q p × Enlarges (now at) (now m) q covered p ⌝ }
-    ensures { λ r. ⌜ Placed (now (at .entry)) (now (m .exit)) (now (next .exit)) (now (tail .exit)) (covered .extent) p r ⌝ }
+// The tree of the particles before p in the extent with p. A leaf root is not wrapped: only the extent grows.
+fn enlarge(m: &mut [u64], at: &[f64], q: Quadtree, covered: Covered, p: usize) -> Inserted
+    requires { ⌜ Seeks (now at) (now m) q p × (0 < q .root) × Covers (now at) q covered p ⌝ }
+    ensures { λ r. ⌜ Enlarged (now (at .entry)) (now (m .exit)) (covered .extent) p r ⌝ }
 {
+    let root = q.root;
+    if store::tag(m, root as usize - 1) != 0 {
+        let extent = covered.extent;
+        return Inserted::Done(Quadtree {
+            extent: extent,
+            root: root,
+            nodes: q.nodes,
+            deepest: q.deepest,
+        });
+    }
     let w = covered.doublings;
     if q.deepest + w > Quadtree::GREATEST_LEVEL {
         return Inserted::Deep;
     }
-    if slots(m) < q.nodes + w + 1 {
+    if store::slots(m) < q.nodes + w {
         return Inserted::Full;
     }
-    let wrapped = wrap(m, at, q, covered, p);
-    place(m, at, next, tail, wrapped, p)
+    Inserted::Done(wrap(m, at, q, covered, p))
+}
+
+// A leaf of p as the root of a tree that has none.
+fn plant(m: &mut [u64], extent: Extent, p: usize) -> Inserted
+    requires { ⌜ p < 4096 ⌝ }
+    ensures { λ r. ⌜ Planted (now (m .entry)) (now (m .exit)) extent p r ⌝ }
+{
+    if store::slots(m) == 0 {
+        return Inserted::Full;
+    }
+    store::put_leaf(m, 0, p);
+    Inserted::Done(Quadtree {
+        extent: extent,
+        root: 1,
+        nodes: 1,
+        deepest: 0,
+    })
 }
 
 // p goes into the tree of the particles before it; `covered` is the extent with p.
@@ -287,33 +202,14 @@ pub fn insert(
     requires { ⌜ Inserts (now at) (now m) (now next) (now tail) q covered p ⌝ }
     ensures { λ r. ⌜ Placed (now (at .entry)) (now (m .exit)) (now (next .exit)) (now (tail .exit)) (covered .extent) p r ⌝ }
 {
-    let root = q.root;
-    let extent = covered.extent;
-    if root == 0 {
-        if slots(m) == 0 {
-            return Inserted::Full;
-        }
-        store::put_leaf(m, 0, p);
-        chain::begin(next, tail, p);
-        return Inserted::Done(Quadtree {
-            extent: extent,
-            root: 1,
-            nodes: 1,
-            deepest: 0,
-        });
+    chain::begin(next, tail, p);
+    if q.root == 0 {
+        return plant(m, covered.extent, p);
     }
-    if covered.doublings == 0 {
-        return place(m, at, next, tail, q, p);
+    let answer = enlarge(m, at, q, covered, p);
+    match answer {
+        Inserted::Done(grown) => place(m, at, next, tail, grown, p),
+        Inserted::Deep => Inserted::Deep,
+        Inserted::Full => Inserted::Full,
     }
-    // A leaf root is not wrapped: only the extent grows.
-    if store::tag(m, root as usize - 1) != 0 {
-        let grown = Quadtree {
-            extent: extent,
-            root: root,
-            nodes: q.nodes,
-            deepest: q.deepest,
-        };
-        return place(m, at, next, tail, grown, p);
-    }
-    enlarge(m, at, next, tail, q, covered, p)
 }

@@ -6,11 +6,11 @@ ghost use Rattle.quadtree.specs.Build.{Lent, Builds, Follows, Extends};
 use crate::Quadtree;
 use crate::add;
 use crate::add::Inserted;
-use crate::point;
 use cells::cover;
 use cells::cover::Covered;
 use rules::Extent;
 use rules::Refusal;
+use slots::point;
 
 // The tree, or refusal 6 or 7 with the particle's number as its place.
 pub enum Built {

@@ -1,9 +1,8 @@
-// The quadtree in lent slots: laying it out, inserting and building, after src/quadtree/{store,add,mod}.rs of fjadra.
+// The quadtree in lent slots: inserting and building, after src/quadtree/{add,mod}.rs of fjadra.
 pub mod add;
 pub mod build;
-pub mod chain;
-pub mod point;
-pub mod store;
+
+pub use slots::store;
 
 use rules::Extent;
 

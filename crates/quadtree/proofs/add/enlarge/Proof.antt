@@ -1,65 +1,66 @@
-use mathlib.Core.Path.{subst}
+use mathlib.Core.Path.{sym, _∙_}
 use native.Mathlib.Omega.{arith}
 use borrow.Author.Needs.{needs}
-use Rattle.rules.specs.declared.Extent.{Extent}
-use Rattle.quadtree.specs.Add.{Placed}
-use Rattle.quadtree.proofs.AddInsert.{enlarge-deep, enlarge-full, enlarge-asks, enlarge-puts}
+use Rattle.quadtree.proofs.AddInsert.{root-slot, leaf-enlarged, enlarge-deep, enlarge-full, enlarge-asks}
 use Rattle.quadtree.proofs.add.enlarge.Statement.{statement}
 use Rattle.quadtree.proofs.add.enlarge.Tie as tie
 
 -- where the function begins
-abbrev start : tie.After-struct-known → tie.Start
-start c = c .before .before .before .before .before
+abbrev start : tie.After-tag → tie.Start
+start c = c .before .before .before .before
+
+tag-requires : tie.Need-tag-requires
+tag-requires c κs =
+    let s = c .before .before .before in
+    root-slot (s .args .at .now) _ (s .args .m .now) (s .args .q) (s .pre .0 .holds) (s .pre .1)
 
 returns : tie.Need-returns
 returns c =
-    let s = start (c .before) in
-    enlarge-deep (s .args .at .now) (s .args .m .now) (s .args .next .now) (s .args .tail .now) (s .args .q) (s .args .covered) (s .args .p) (s .pre .0) (s .pre .1) (c .if1 .taken) (s .args .m .now) (s .args .next .now) (s .args .tail .now)
+    let t = c .before in
+    let s = start (t .before) in
+    leaf-enlarged (s .args .at .now) (s .args .m .now) (s .args .q) (s .args .covered) (s .args .p) (s .pre .0) (s .pre .1) (λ z. t .if1 .taken (t .before .tag .ensures ∙ z))
 
 returns-2 : tie.Need-returns-2
 returns-2 c =
-    let e = c .before .before .before .before in
+    let e = c .before .before in
     let s = start (e .before) in
-    enlarge-full (s .args .at .now) (s .args .m .now) (s .args .next .now) (s .args .tail .now) (s .args .q) (s .args .covered) (s .args .p) (s .pre .0) (s .pre .1) (e .if1 .left)
-    (omega (arith, c .before .before .slots .ensures, c .if2 .taken)) (s .args .next .now) (s .args .tail .now)
+    enlarge-deep (s .args .at .now) (s .args .m .now) (s .args .q) (s .args .covered) (s .args .p) (s .pre .0) (s .pre .1) (sym (e .before .tag .ensures) ∙ e .if1 .left) (s .pre .2) (c .if2 .taken) (s .args .m .now)
+
+returns-3 : tie.Need-returns-3
+returns-3 c =
+    let k = c .before .before in
+    let d = k .before .before in
+    let e = d .before .before in
+    let s = start (e .before) in
+    enlarge-full (s .args .at .now) (s .args .m .now) (s .args .q) (s .args .covered) (s .args .p) (s .pre .0) (s .pre .1) (sym (e .before .tag .ensures) ∙ e .if1 .left) (s .pre .2) (d .if2 .left)
+    (omega (arith, k .slots .ensures, c .if3 .taken))
 
 wrap-requires : tie.Need-wrap-requires
 wrap-requires c κs =
     let f = c .before in
-    let e = f .before .before .before .before in
+    let k = f .before .before in
+    let d = k .before .before in
+    let e = d .before .before in
     let s = start (e .before) in
-    enlarge-asks (s .args .at .now) (s .args .m .now) (s .args .next .now) (s .args .tail .now) (s .args .q) (s .args .covered) (s .args .p) (s .pre .0) (s .pre .1) (e .if1 .left)
-    (omega (arith, f .before .before .slots .ensures, f .if2 .left))
-
-place-requires : tie.Need-place-requires
-place-requires c κs =
-    let w = c .before .before .before .before .before in
-    let s = start (w .before .before .before .before .before .before .before) in (
-      enlarge-puts (s .args .at .now) (s .args .m .now) (s .args .next .now) (s .args .tail .now) (s .args .q) (s .args .covered) (s .args .p) (s .pre .0) (s .pre .1) (w .wrap .last .0) (w .wrap .result) (w .wrap .ensures),
-      w .wrap .ensures .rooted,
-    )
-
-returns-3 : tie.Need-returns-3
-returns-3 c =
-    let l = c .before .before .before .before .before .before in
-    let w = l .before .before .before .before .before .before in
-    let s = start (w .before .before .before .before .before .before .before) in
-    subst (λ (e : Extent). Placed (s .args .at .now) (l .place .last .0) (l .place .last .1 .1 .0) (l .place .last .1 .1 .1 .0) e (s .args .p) (l .place .result)) (w .wrap .ensures .extent) (l .place .ensures)
+    enlarge-asks (s .args .at .now) (s .args .m .now) (s .args .q) (s .args .covered) (s .args .p) (s .pre .0) (s .pre .1) (sym (e .before .tag .ensures) ∙ e .if1 .left) (s .pre .2) (d .if2 .left)
+    (omega (arith, k .slots .ensures, f .if3 .left))
 
 pub enlarge-spec : {M : Type 1} → statement M
 enlarge-spec =
     tie.close
     (tie.spec
     (λ c. search needs)
-    returns
-    (λ c κs. search needs)
     (λ c. search needs)
+    tag-requires
+    (λ c. search needs)
+    returns
     (λ c. search needs)
     (λ c. search needs)
     returns-2
+    (λ c κs. search needs)
+    (λ c. search needs)
+    (λ c. search needs)
+    returns-3
     wrap-requires
-    place-requires
     (λ c. search needs)
-    (λ c. search needs)
-    (λ c. search needs)
-    returns-3)
+    (λ c. c .before .before .wrap .ensures))

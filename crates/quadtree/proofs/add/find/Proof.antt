@@ -7,9 +7,11 @@ use borrow.Author.Needs.{needs}
 use Rattle.rules.specs.declared.Extent.{Extent}
 use Rattle.rules.specs.Tree.{Tree}
 use Rattle.cells.specs.Indexer.{indexer, cellOf}
-use Rattle.quadtree.specs.Slots.{word, kids}
-use Rattle.quadtree.specs.Add.{lead, side, Reaches, FoundLeaf}
-use Rattle.quadtree.proofs.AddTurns.{indexed, step-side, step-less, step-own, step-cell, Way, Inner, way-start, way-slot, way-leaf, way-inner, way-hole, way-down}
+use Rattle.slots.specs.Slots.{word, kids}
+use Rattle.slots.specs.Leaf.{side}
+use Rattle.quadtree.specs.Add.{lead, Reaches, FoundLeaf}
+use Rattle.slots.proofs.Turns.{indexed, step-side, step-less, step-own, step-cell}
+use Rattle.quadtree.proofs.AddTurns.{Way, Inner, way-start, way-slot, way-leaf, way-inner, way-hole, way-down}
 use Rattle.quadtree.proofs.add.find.Statement.{statement}
 use Rattle.quadtree.proofs.add.find.Tie as tie
 
@@ -24,25 +26,25 @@ entry c = c .before .before .before .before .before .before .before
 
 -- the tree that the way has come to
 here : (c : tie.At-loop Inv-loop μ-loop)
-    → (u : Tree ℕ) × Reaches (entry c .args .at .now) (entry c .args .p) (c .loop .l) (entry c .args .q .extent) (entry c .pre .holds .tree) (cellOf (c .loop .ix)) u × (lead u ≡ c .loop .s + 1)
+    → (u : Tree ℕ) × Reaches (entry c .args .at .now) (entry c .args .p) (c .loop .l) (entry c .args .q .extent) (entry c .pre .0 .holds .tree) (cellOf (c .loop .ix)) u × (lead u ≡ c .loop .s + 1)
 here c =
     let s = entry c in
-    c .loop .inv .1 (s .args .q) (s .pre .holds) (omega (arith, s .pre .rooted)) (sym (ap cellOf (c .before .with-extent .ensures)))
+    c .loop .inv .1 (s .args .q) (s .pre .0 .holds) (omega (arith, s .pre .1)) (sym (ap cellOf (c .before .with-extent .ensures)))
 
 slot : (c : tie.At-loop Inv-loop μ-loop) → c .loop .s * 8 + 8 ≤ length (entry c .args .m .now)
 slot c =
     let s = entry c in
     let (u, r, e) = here c in
-    way-slot (s .args .at .now) (s .args .p) (s .args .m .now) (s .args .q) (s .pre .holds) (c .loop .s) (c .loop .l) (cellOf (c .loop .ix)) u r e
+    way-slot (s .args .at .now) (s .args .p) (s .args .m .now) (s .args .q) (s .pre .0 .holds) (c .loop .s) (c .loop .l) (cellOf (c .loop .ix)) u r e
 
 -- it is internal
 inner : (c : tie.Else1 Inv-loop μ-loop)
-    → let d = c .before .before in Inner (entry d .args .at .now) (entry d .args .p) (entry d .args .m .now) (entry d .args .q) (entry d .pre .holds) (d .loop .s) (d .loop .l) (cellOf (d .loop .ix))
+    → let d = c .before .before in Inner (entry d .args .at .now) (entry d .args .p) (entry d .args .m .now) (entry d .args .q) (entry d .pre .0 .holds) (d .loop .s) (d .loop .l) (cellOf (d .loop .ix))
 inner c =
     let d = c .before .before in
     let s = entry d in
     let (u, r, e) = here d in
-    way-inner (s .args .at .now) (s .args .p) (s .args .m .now) (s .args .q) (s .pre .holds) (d .loop .s) (d .loop .l) (cellOf (d .loop .ix)) u r e (sym (c .before .tag .ensures) ∙ c .if1 .left)
+    way-inner (s .args .at .now) (s .args .p) (s .args .m .now) (s .args .q) (s .pre .0 .holds) (d .loop .s) (d .loop .l) (cellOf (d .loop .ix)) u r e (sym (c .before .tag .ensures) ∙ c .if1 .left)
 
 loop-holds : tie.Need-loop-holds Inv-loop μ-loop
 loop-holds c =
@@ -55,7 +57,7 @@ returns c =
     let s = entry d in
     let (u, r, e) = here d in
     let t = c .before .before .tag .ensures in
-    let g : FoundLeaf (s .args .at .now) (s .args .m .now) (s .args .q) (s .args .p) (d .loop .s) (d .loop .l) (word (s .args .m .now) (d .loop .s) 0 - 1) (cellOf (d .loop .ix)) = way-leaf (s .args .at .now) (s .args .p) (s .args .m .now) (s .args .q) (s .pre .holds) (d .loop .s) (d .loop .l) (cellOf (d .loop .ix)) u r e (λ z. c .before .if1 .taken (t ∙ z)) in
+    let g : FoundLeaf (s .args .at .now) (s .args .m .now) (s .args .q) (s .args .p) (d .loop .s) (d .loop .l) (word (s .args .m .now) (d .loop .s) 0 - 1) (cellOf (d .loop .ix)) = way-leaf (s .args .at .now) (s .args .p) (s .args .m .now) (s .args .q) (s .pre .0 .holds) (d .loop .s) (d .loop .l) (cellOf (d .loop .ix)) u r e (λ z. c .before .if1 .taken (t ∙ z)) in
     subst (λ (f : ℕ). FoundLeaf (s .args .at .now) (s .args .m .now) (s .args .q) (s .args .p) (d .loop .s) (d .loop .l) f (c .cell .result)) (ap (λ (n : ℕ). n - 1) (sym t))
     (subst (λ (k : Extent). FoundLeaf (s .args .at .now) (s .args .m .now) (s .args .q) (s .args .p) (d .loop .s) (d .loop .l) (word (s .args .m .now) (d .loop .s) 0 - 1) k) (sym (c .cell .ensures)) g)
 
@@ -81,7 +83,7 @@ returns-2 c =
     let b = c .before .before in
     let d = b .before .before .before in
     let s = entry d in
-    way-hole (s .args .at .now) (s .args .p) (s .args .m .now) (s .args .q) (s .pre .holds) (d .loop .s) (d .loop .l) (cellOf (d .loop .ix)) (inner (b .before)) (b .get-and-descend .result .quadrant) (quadrant-is b) (sym (child-is (c .before)) ∙ c .if2 .taken)
+    way-hole (s .args .at .now) (s .args .p) (s .args .m .now) (s .args .q) (s .pre .0 .holds) (d .loop .s) (d .loop .l) (cellOf (d .loop .ix)) (inner (b .before)) (b .get-and-descend .result .quadrant) (quadrant-is b) (sym (child-is (c .before)) ∙ c .if2 .taken)
 
 loop-again : tie.Need-loop-again Inv-loop μ-loop
 loop-again c =

@@ -9,7 +9,7 @@ use Rattle.rules.specs.declared.Extent.{Extent}
 use Rattle.rules.specs.Number.{xAt, yAt}
 use Rattle.rules.specs.Floor.{floor}
 use Rattle.rules.specs.Cover.{inside}
-use Rattle.quadtree.specs.Slots.{putInternal}
+use Rattle.slots.specs.Slots.{putInternal}
 use Rattle.cells.specs.Cover.{squareOf, Near, DoubledTo}
 use Rattle.quadtree.specs.Add.{Wraps}
 use Rattle.quadtree.proofs.AddInsert.{wrap-asks, wrap-quadrant, wrap-turn, wrap-root, wrap-end}
