@@ -49,14 +49,6 @@ module _ {s : Square} {fs : List (ℤ × ℤ)} (h : Held s fs) (x y : ℤ) (n : 
       from : {k : ℕ} {t : Square} → k ≤ mostDoublings → Grows x y k s t → (i : ℕ) × (k ≡ suc i) × Grows x y i (next s x y) t → doublings mostDoublings x y s ≡ suc (doublings mostDoublings x y (next s x y))
       from l g (i, u, g') = grows-count x y g mostDoublings l ∙ u ∙ ap suc (sym (grows-count x y g' mostDoublings (omega arith)))
 
-  -- so where there is any, the point is outside
-  pub count-some : (k : ℕ) → doublings mostDoublings x y s ≡ suc k → inside s x y ≡ false
-  count-some k e = go (inside s x y) refl
-    where
-      go : (t : Bool) → inside s x y ≡ t → t ≡ false
-      go true u = let z : suc k ≡ 0 = sym e ∙ count-done x y s u in absurd (omega arith)
-      go false u = refl
-
 -- ---- the loop
 
 -- After n doublings from e₀ to e: the rest of the covering, and the rest of the count, are those from e on.

@@ -15,7 +15,7 @@ use Rattle.rules.specs.declared.Extent.{Extent}
 use Rattle.rules.specs.Number.{_⊕_, _⊖_, 1·, within}
 use Rattle.rules.specs.Floor.{floor, ceiling}
 use Rattle.rules.specs.Cell.{cell, middle, quarter}
-use Rattle.rules.specs.Cover.{Square, square, inside, oldQuadrant, grown, holds, nothing, coverPoint, whole, extentOf}
+use Rattle.rules.specs.Cover.{Square, inside, oldQuadrant, grown, holds, nothing, coverPoint, whole, extentOf}
 use Rattle.rules.proofs.Floor.{ceiling-ge, ceiling-least}
 use Rattle.rules.proofs.CoverTerms.{quarterOf, Doubling, side, next, Held, Ends}
 use Rattle.rules.proofs.CoverSquare.{same-square, twice, sided-side}

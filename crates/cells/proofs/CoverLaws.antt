@@ -1,11 +1,11 @@
--- Laws on extents that covering can reach: where points lie, which quadrant they have after a doubling, how long the sides are, and covering the points of a list. Assumes nothing.
+-- Laws on extents that covering can reach: where points lie, which quadrant they have after a doubling, and covering the points of a list. Assumes nothing.
 use mathlib.Core.Path.{_≡_, refl, sym, ap, _∙_, subst, subst₂}
 use mathlib.Core.Logic.{_≢_}
 use mathlib.Core.Bool.{true, false, true≢false, _&&_}
 use mathlib.Core.List.{List, [], _∷_, _++_, map, List·Memᴰ}
 use Prim.Native.Nat.{ℕ, _^_, _≤_, _<_}
 use lib.Dec.{T}
-use lib.IntN.{ℤ, pos, natAbs, _-ℤ_, +ℤ-comm, +ℤ-negℤ-cancel}
+use lib.IntN.{ℤ, natAbs, _-ℤ_, +ℤ-comm, +ℤ-negℤ-cancel}
 use lib.Signed.{ltZ, leZ}
 use lib.Ieee.{Float, lt, le}
 use Rattle.rules.specs.declared.Extent.{Extent}
@@ -17,10 +17,10 @@ use Rattle.rules.proofs.CellList.{left, right}
 use Rattle.rules.proofs.CellInside.{FiniteCell, Inside}
 use Rattle.rules.proofs.CoverCount.{le-more}
 use Rattle.rules.proofs.CoverTerms.{Grows, Covering, AllNear, floors}
-use Rattle.rules.proofs.CoverSquare.{four-true, sided-side}
+use Rattle.rules.proofs.CoverSquare.{four-true}
 use Rattle.rules.proofs.CoverReach.{next-contains}
-use Rattle.rules.proofs.Cover.{old-quadrant-less, contains-inside, grows-inside, held-sided, held-most, held-ends, covering, cover-all, cover-inside, cover-append, reached-some}
-use Rattle.number.proofs.Integers.{le-int, sub-int}
+use Rattle.rules.proofs.Cover.{old-quadrant-less, contains-inside, held-sided, held-ends, covering, cover-all, cover-inside, cover-append, reached-some}
+use Rattle.number.proofs.Integers.{le-int}
 use Rattle.number.proofs.Flooring.{floor-le, floor-lt, floor-within, within-finite}
 use Rattle.cells.specs.declared.cover.Doubled.{Doubled}
 use Rattle.cells.specs.declared.cover.Covered as Answer
@@ -110,37 +110,9 @@ module _ {e : Extent} {x y : Float} (n : Near e x y) {r : Answer.Covered} (d : C
   to : squareOf (r .extent) ≡ way .to
   to = ap squareOf (d .extent ∙ ap extentOf (way .is)) ∙ square-back (way .to) (n .reachable .floors ++ (floor x, floor y) ∷ []) (way .held)
 
-  -- The rule's square is that of the new extent.
-  pub covered-square : coverPoint (holds (squareOf e)) (floor x) (floor y) ≡ holds (squareOf (r .extent))
-  covered-square = way .is ∙ ap holds (sym to)
-
   -- The doublings lead from one square to the other, each with the point still outside.
   pub covered-grows : Grows (floor x) (floor y) (r .doublings) (squareOf e) (squareOf (r .extent))
   covered-grows = subst₂ (λ (k : ℕ) (t : Square). Grows (floor x) (floor y) k (squareOf e) t) (sym (d .doublings ∙ grows-count (floor x) (floor y) (way .grows) mostDoublings (way .few))) (sym to) (way .grows)
-
-  after : {u v : Float} → T (within u) → T (within v) → Near (r .extent) u v
-  after a b = record { reachable = d .reachable; across = a; along = b }
-
-  -- The point lies in the new extent.
-  pub covered-lies : Lies (r .extent) x y
-  covered-lies = inside-lies (after (n .across) (n .along)) (grows-inside (floor x) (floor y) covered-grows)
-
-  -- A point in range that lies in the old extent lies in the new one.
-  pub covered-keeps : {u v : Float} → Near e u v → Lies e u v → Lies (r .extent) u v
-  covered-keeps {u} {v} m w = inside-lies (after (m .across) (m .along)) (subst (λ (s : Square). inside s (floor u) (floor v) ≡ true) (sym to) (contains-inside (floor u) (floor v) (way .contains) (lies-inside m w)))
-
--- ---- sides
-
-module _ {e : Extent} (h : Reachable e) where
-  -- Both sides are 2 ^ log long, exactly, at most 2 ^ 43.
-  pub side-x : e .x1 ⊖ e .x0 ≡ whole (pos (2 ^ (h .held .log)))
-  side-x = sub-int (e .x1) (e .x0) (squareOf e .x1) (squareOf e .x0) (x1-has h) (x0-has h) ∙ ap whole (sided-side (held-sided (h .held)))
-
-  pub side-y : e .y1 ⊖ e .y0 ≡ whole (pos (2 ^ (h .held .log)))
-  side-y = sub-int (e .y1) (e .y0) (squareOf e .y1) (squareOf e .y0) (y1-has h) (y0-has h) ∙ ap whole (ap (_-ℤ squareOf e .y0) (held-sided (h .held) .tall ∙ +ℤ-comm (squareOf e .y0) (pos (2 ^ (h .held .log)))) ∙ +ℤ-negℤ-cancel (pos (2 ^ (h .held .log))) (squareOf e .y0))
-
-  pub side-most : h .held .log ≤ 43
-  side-most = held-most (h .held)
 
 -- ---- the points of a list, in order
 

@@ -1,7 +1,7 @@
 -- The middle of two f64 lies between them, though it is rounded twice: rounding keeps the order, and doubling and halving are exact. Assumes nothing.
 use mathlib.Core.Path.{_≡_, refl, sym, ap, _∙_, subst}
 use mathlib.Core.Logic.{⊎-elim}
-use mathlib.Core.Bool.{Bool, true, false, not, _&&_, false≢true}
+use mathlib.Core.Bool.{Bool, true, false, _&&_, false≢true}
 use Prim.Native.Nat.{ℕ, zero, suc, _+_, _-_, _*_, _%_, _^_, _≤_, _<_}
 use native.Mathlib.Nat.{mul-assoc, mul-right-comm, mul-one, one-mul, mul-pos, mul-le-mul, mul-le-mul-right, le-of-mul-le-mul-right, pow-succ', le-of-eq, le-trans, lt-irrefl, lt-of-lt-of-le, lt-of-le-of-lt}
 use native.Mathlib.Omega.{arith}
@@ -10,7 +10,7 @@ use borrow.Author.Tests.{le-leb}
 use lib.Pow.{pow-add, pow-pos, pow-mono, pow-lt}
 use lib.IntN.{ℤ, pos, negsuc, negℤ, natAbs}
 use lib.Signed.{leZ}
-use lib.Ieee.{Float, nan, inf, fin, binary64, low, up, down, units, round, sum, add, fits, lt, le, eq}
+use lib.Ieee.{Float, nan, inf, fin, binary64, low, up, down, round, sum, add, fits, lt, le, eq}
 use lib.Ieee.Fits.{down-pos, div-fits, ofInt-fits, and-l, and-r}
 use lib.Ieee.Exact.{HasValue, round-exact}
 use lib.Ieee.Scale.{round-same}

@@ -17,7 +17,6 @@ use lib.Ieee.Bits.{is-true}
 use Rattle.rules.specs.Number.{_⊕_, _⊘_, 2·, finite}
 use Rattle.rules.proofs.CoverCount.{le-more}
 use Rattle.number.proofs.Order.{signed, le-at}
-use Rattle.number.proofs.Integers.{negative}
 use Rattle.number.proofs.Flooring.{negatives, either-side}
 
 -- ---- order with signs

@@ -4,7 +4,6 @@ use mathlib.Core.Logic.{⊎-elim, inl, inr}
 use mathlib.Core.Bool.{Bool, true, false}
 use mathlib.Core.List.{List, [], _∷_, map, List·Memᴰ, List·Memᴰ·not-nil, List·Memᴰ·cases-cons, cons≢nil}
 use Prim.Native.Nat.{ℕ, zero, suc, _+_, _*_, _^_, _≤_, _<_}
-use native.Mathlib.Nat.{le-trans}
 use native.Mathlib.Omega.{arith}
 use borrow.Author.Tests.{leb-true}
 use lib.IntN.{ℤ}
@@ -20,7 +19,7 @@ use Rattle.rules.specs.Sheet.{lengthCheck, recordCheck, recordsCheck, placesOf,
 use Rattle.rules.specs.Cover.{Square, Covered, nothing, holds, coverAll, coverFirst, extentOf}
 use Rattle.rules.specs.Tree.{Tree, none, leaf, node, depth, nodes, treeIn, treeOf, fitsCheck, treeCheck, chainsOf}
 use Rattle.rules.specs.Calls.{treeOfSheet, coverSheet}
-use Rattle.rules.specs.Listing.{mostListed, listerSlots, listing, lister}
+use Rattle.rules.specs.Listing.{mostListed, listerSlots}
 use Rattle.rules.proofs.CoverTerms.{AllNear, Held, Reached, floors}
 use Rattle.rules.proofs.Cover.{cover-all, held-ends}
 use Rattle.rules.proofs.CellList.{In, left, right}
@@ -29,7 +28,7 @@ use Rattle.rules.proofs.CellIs.{Is}
 use Rattle.rules.proofs.CellRule.{grow-none, tree-whole, chains-in, chains-length}
 use Rattle.number.proofs.Flooring.{floor-within}
 use Rattle.listing.specs.Told.{AllBelow, Covers, Near, Listed}
-use Rattle.listing.proofs.Sizes.{below-more, refused-length, listing-length}
+use Rattle.listing.proofs.Sizes.{below-more}
 
 -- ---- outcomes
 
@@ -200,12 +199,3 @@ accepted sheet t e =
     let count = accepts-then (lengthCheck sheet) counts (accepts-then first fine (checks .0) .0) .1 in
     subst (λ (u : Tree Extent). Listed (coverSheet sheet) u) (d .1 .1)
     (accepted-tree sheet (checks .1) (leb-true (countOf sheet) mostListed (accepts-require (leb (countOf sheet) mostListed) 1 0 count)) (d .1 .0))
-
--- So no listing is longer than 2 ^ 14 bytes.
-pub lister-length : (sheet : List ℕ) → length (lister sheet) ≤ 2 ^ 14
-unfolding lister
-lister-length sheet = go (treeOfSheet mostListed listerSlots fine sheet) refl
-  where
-    go : (o : Outcome (Tree Extent)) → treeOfSheet mostListed listerSlots fine sheet ≡ o → length (listing sheet o) ≤ 2 ^ 14
-    go (done t) e = listing-length (coverSheet sheet) t (accepted sheet t e)
-    go (refused r) e = le-trans (refused-length (r .number)) (lit≤ tt)

@@ -8,7 +8,6 @@ use borrow.Author.Tests.{eq-eqb}
 use lib.ListN.{length, take, drop, replicate, length-replicate, length-append}
 use lib.Seq.{take-all, length-take-le}
 use Rattle.rules.specs.declared.Extent.{Extent}
-use Rattle.rules.specs.declared.Refusal.{Refusal}
 use Rattle.rules.specs.declared.TreeAnswer.{TreeAnswer}
 use Rattle.rules.specs.Outcome.{Outcome, done, refused, fine, refusalOf}
 use Rattle.rules.specs.Sheet.{recordSize, countOf}

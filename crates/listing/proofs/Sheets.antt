@@ -1,25 +1,24 @@
 -- The lister's text from what the tree call answers for a sheet. Assumes nothing.
-use mathlib.Core.Path.{_≡_, refl, sym, ap, ap₂, _∙_, subst}
-use mathlib.Core.Bool.{Bool, true, false, _&&_}
+use mathlib.Core.Path.{_≡_, refl, sym, ap, ap₂, _∙_}
+use mathlib.Core.Bool.{Bool, _&&_}
 use mathlib.Core.List.{List, [], _∷_, _++_}
 use Prim.Native.Nat.{ℕ, _+_, _*_, _%_, _≤_, _<_}
-use native.Mathlib.Nat.{le-trans}
-use borrow.Author.Tests.{le-leb, lt-leb, eq-eqb, ne-eqb}
-use lib.Dec.{leb, eqb, lit≤, lit<}
+use borrow.Author.Tests.{lt-leb, eq-eqb, ne-eqb}
+use lib.Dec.{lit≤, lit<}
 use lib.ListN.{length}
 use Rattle.rules.specs.declared.Extent.{Extent}
 use Rattle.rules.specs.declared.Refusal.{Refusal}
-use Rattle.rules.specs.declared.Particle.{Particle}
-use Rattle.rules.specs.Plain.{padded, upTo}
-use Rattle.rules.specs.Outcome.{Outcome, done, refused, _>>=_, Check, fine, require, _then_, checkFrom, ifDone}
-use Rattle.rules.specs.Refusal.{mostParticles, countCheck, coordinateCheck, velocityCheck}
-use Rattle.rules.specs.Number.{placeRange, speedRange}
-use Rattle.rules.specs.Sheet.{recordSize, lengthCheck, recordCheck, countOf, particlesOf, recordsCheck, placesOf}
+use Rattle.rules.specs.Plain.{padded}
+use Rattle.rules.specs.Outcome.{Outcome, done, refused, _>>=_, Check, fine, require, _then_, ifDone}
+use Rattle.rules.specs.Refusal.{countCheck}
+use Rattle.rules.specs.Sheet.{recordSize, lengthCheck, countOf, particlesOf, recordsCheck, placesOf}
 use Rattle.rules.specs.Cell.{nowhere}
 use Rattle.rules.specs.Cover.{extentOf}
-use Rattle.rules.specs.Tree.{Tree, depth, nodes, treeOf, fitsCheck, treeCheck, rowsOf, flat, chainsOf}
+use Rattle.rules.specs.Tree.{Tree, nodes, treeOf, treeCheck, rowsOf, flat, chainsOf}
 use Rattle.rules.specs.Calls.{slotsOf, treeOfSheet, coverSheet, TreeInput, treeLengths, treeResult, treeAnswer, rowsAfter, chainsAfter}
 use Rattle.rules.specs.Listing.{ascii, decimal, line, extentLine, rowLines, mostListed, listerSlots, listing, lister}
+use Rattle.rules.proofs.RefusalNumbers.{Early, one, two, three, four, five, ten, Late, six, seven, eight, nine}
+use Rattle.rules.proofs.Places.{tree-refuses}
 use Rattle.listing.specs.Told.{Told}
 use Rattle.listing.proofs.Accepted.{accepted}
 
@@ -88,58 +87,22 @@ lister-many sheet whole many =
 
 -- ---- a refusal's number is one of 1 to 10
 
-abbrev Numbered : {A : Type 0} → Outcome A → Type 0
-Numbered (done a) = Unit
-Numbered (refused r) = (0 < r .number) × (r .number ≤ 10)
+abbrev Numbered : Refusal → Type 0
+Numbered r = (0 < r .number) × (r .number ≤ 10)
 
-numbered-require : (ok : Bool) (n p : ℕ) → (0 < n) × (n ≤ 10) → Numbered (require ok n p)
-numbered-require true n p h = tt
-numbered-require false n p h = h
+early-numbered : (r : Refusal) → Early r → Numbered r
+early-numbered r one = (lit< tt, lit≤ tt)
+early-numbered r two = (lit< tt, lit≤ tt)
+early-numbered r (three i) = (lit< tt, lit≤ tt)
+early-numbered r (four i) = (lit< tt, lit≤ tt)
+early-numbered r (five i) = (lit< tt, lit≤ tt)
+early-numbered r (ten i) = (lit< tt, lit≤ tt)
 
-numbered-then : (a b : Check) → Numbered a → Numbered b → Numbered (a then b)
-numbered-then (done _) b h k = k
-numbered-then (refused r) b h k = h
-
-numbered-bind : {A B : Type 0} (o : Outcome A) (f : A → Outcome B) → Numbered o → ((a : A) → Numbered (f a)) → Numbered (o >>= f)
-numbered-bind (done a) f h k = k a
-numbered-bind (refused r) f h k = h
-
-numbered-from : {A : Type 0} (f : ℕ → A → Check) → ((i : ℕ) (a : A) → Numbered (f i a)) → (i : ℕ) (l : List A) → Numbered (checkFrom f i l)
-numbered-from f h i [] = tt
-numbered-from f h i (a ∷ l) = numbered-bind (f i a) (λ _. checkFrom f (i + 1) l) (h i a) (λ _. numbered-from f h (i + 1) l)
-
-numbered-length : (sheet : List ℕ) → Numbered (lengthCheck sheet)
-unfolding lengthCheck
-numbered-length sheet = numbered-require (eqb (length sheet % recordSize) 0) 10 0 (lit< tt, lit≤ tt)
-
-numbered-record : (i : ℕ) (p : Particle) → Numbered (recordCheck i p)
-unfolding recordCheck
-numbered-record i p =
-    numbered-then (require (leb (p .flags) 3) 10 i then coordinateCheck i (p .x) (p .y)) (velocityCheck i (p .vx) (p .vy))
-    (numbered-then (require (leb (p .flags) 3) 10 i) (coordinateCheck i (p .x) (p .y)) (numbered-require (leb (p .flags) 3) 10 i (lit< tt, lit≤ tt)) (numbered-require (placeRange (p .x) (p .y)) 4 i (lit< tt, lit≤ tt)))
-    (numbered-require (speedRange (p .vx) (p .vy)) 5 i (lit< tt, lit≤ tt))
-
-numbered-fits : (slots i : ℕ) (t : Tree Extent) → Numbered (fitsCheck slots i t)
-unfolding fitsCheck
-numbered-fits slots i t =
-    numbered-then (require (leb (depth t) 65) 6 i) (require (leb (nodes t) slots) 7 i) (numbered-require (leb (depth t) 65) 6 i (lit< tt, lit≤ tt)) (numbered-require (leb (nodes t) slots) 7 i (lit< tt, lit≤ tt))
-
-numbered-after : (sheet : List ℕ) (whole count lengths : Check) (slots : ℕ) → Numbered whole → Numbered count → Numbered lengths → Numbered (after sheet whole count lengths slots)
-unfolding recordsCheck treeCheck
-numbered-after sheet whole count lengths slots h k m =
-    numbered-bind (whole then count then lengths then recordsCheck (particlesOf sheet)) _
-    (numbered-then (whole then count then lengths) (recordsCheck (particlesOf sheet))
-    (numbered-then (whole then count) lengths (numbered-then whole count h k) m)
-    (numbered-from recordCheck numbered-record 0 (particlesOf sheet)))
-    (λ _. numbered-bind (treeCheck (placesOf (particlesOf sheet)) (countOf sheet) slots) _ (numbered-from _ (λ i _. numbered-fits slots i (treeOf (placesOf (particlesOf sheet)) (i + 1))) 0 (upTo (countOf sheet))) (λ _. tt))
-
-numbered-tree : (most : ℕ) (l : TreeInput) → Numbered (treeResult most l)
-unfolding treeResult
-numbered-tree most l =
-    subst Numbered (sym (tree-after (l .sheet) most (slotsOf (l .work)) (treeLengths l)))
-    (numbered-after (l .sheet) (lengthCheck (l .sheet)) (countCheck most (countOf (l .sheet))) (treeLengths l) (slotsOf (l .work)) (numbered-length (l .sheet))
-    (numbered-require (leb (countOf (l .sheet)) most) 1 0 (lit< tt, lit≤ tt))
-    (numbered-require (eqb (length (l .rows)) (slotsOf (l .work) * 4) && eqb (length (l .chains)) (countOf (l .sheet))) 2 0 (lit< tt, lit≤ tt)))
+late-numbered : (r : Refusal) → Late r → Numbered r
+late-numbered r (six i) = (lit< tt, lit≤ tt)
+late-numbered r (seven i) = (lit< tt, lit≤ tt)
+late-numbered r eight = (lit< tt, lit≤ tt)
+late-numbered r nine = (lit< tt, lit≤ tt)
 
 pub number-is : (most : ℕ) (l : TreeInput) (r : Refusal) → treeResult most l ≡ refused r → (0 < r .number) × (r .number ≤ 10)
-number-is most l r e = subst Numbered e (numbered-tree most l)
+number-is most l r e = tree-refuses early-numbered late-numbered most l .by r e

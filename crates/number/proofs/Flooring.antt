@@ -1,5 +1,5 @@
 -- The floor against whole floats: x is at or above one where its floor is. Assumes nothing.
-use mathlib.Core.Path.{_≡_, refl, sym, ap, ap₂, _∙_, subst}
+use mathlib.Core.Path.{_≡_, refl, sym, ap, _∙_, subst}
 use mathlib.Core.Bool.{Bool, true, false, not, _&&_}
 use Prim.Native.Nat.{ℕ, zero, suc, _+_, _*_, _/_, _^_, _≤_, _<_}
 use native.Mathlib.Nat.{le-trans, le-of-eq, mul-comm, mul-one, mul-right-comm, mul-le-mul-right, le-of-mul-le-mul-right, le-div-iff-mul-le, div-le-of-le-mul}
@@ -108,10 +108,6 @@ not-le (fin t m e) y w F h = x-lt-int y w t m e h ∙ flip (signed t (m * up e))
 -- x is below the float of w where the floor is below w
 pub floor-lt : (x y : Float) (w : ℤ) → T (finite x) → HasInt y w → lt x y ≡ ltZ (floor x) w
 floor-lt x y w F h = not-le x y w F h ∙ ap not (floor-le x y w F h) ∙ sym (flip (floor x) w)
-
--- x is in the cell [a, b) where its floor is
-pub floor-cell : (x y₀ y₁ : Float) (a b : ℤ) → T (finite x) → HasInt y₀ a → HasInt y₁ b → (le y₀ x && lt x y₁) ≡ (leZ a (floor x) && ltZ (floor x) b)
-floor-cell x y₀ y₁ a b F h k = ap₂ (λ (p q : Bool). p && q) (floor-le x y₀ a F h) (floor-lt x y₁ b F k)
 
 -- ---- within 2 ^ 40 of zero
 

@@ -2,7 +2,6 @@
 pub mod Order
 pub mod Integers
 pub mod Flooring
-pub mod Biased
 pub mod NoTie
 -- for the proofs here
 mod Tests

@@ -244,8 +244,5 @@ module _ (x y : Float) (F : Finite64 x) (G : Finite64 y) where
   pub lt-order : lt x y ≡ ltZ (unitsZ x) (unitsZ y)
   lt-order = lt-at (2 ^ 1074) x y (X .sign) (Y .sign) (X .size) (Y .size) (pow-pos 1074) (X .has) (Y .has) ∙ ap₂ ltZ (X .is) (Y .is)
 
-  pub eq-order : eq x y ≡ eqZ (unitsZ x) (unitsZ y)
-  eq-order = eq-at (2 ^ 1074) x y (X .sign) (Y .sign) (X .size) (Y .size) (pow-pos 1074) (X .has) (Y .has) ∙ ap₂ eqZ (X .is) (Y .is)
-
   pub le-order : le x y ≡ leZ (unitsZ x) (unitsZ y)
   le-order = le-at (2 ^ 1074) x y (X .sign) (Y .sign) (X .size) (Y .size) (pow-pos 1074) (X .has) (Y .has) ∙ ap₂ leZ (X .is) (Y .is)

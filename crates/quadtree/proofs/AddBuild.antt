@@ -24,7 +24,7 @@ use Rattle.rules.proofs.CellChain.{EachLeaf, Chain}
 use Rattle.quadtree.specs.declared.Quadtree.{Quadtree}
 use Rattle.cells.specs.declared.cover.Covered.{Covered}
 use Rattle.quadtree.specs.declared.add.Inserted.the-variants.{Done, Deep, Full}
-use Rattle.quadtree.specs.Slots.{inCells, Follows as Chained, Leads, Stands}
+use Rattle.quadtree.specs.Slots.{inCells, Follows as Chained, Stands}
 use Rattle.cells.specs.Cover.{squareOf, Reachable, Near, CoveredTo}
 use Rattle.slots.specs.Chain.{Linked}
 use Rattle.quadtree.specs.Add.{lead, Holds, Ranged, Placed, Inserts}
@@ -232,19 +232,6 @@ module _ (at : List Float) where
         once = h .once;
         room = h .room;
       }
-
-  -- with no particles there is no root
-  pub stands-none : (m next : List ℕ) (q : Quadtree) → Stands at 0 m next q → q .root ≡ 0
-  unfolding treeOf
-  stands-none m next q s = go (s .tree) (s .is ∙ empty) (s .leads)
-    where
-      empty : treeOf at 0 ≡ none
-      empty = unfold treeIn in grow-none at 66 (extentOf (coverFirst at 0))
-
-      go : (t : Tree ℕ) → inCells (q .extent) t ≡ none → Leads m next (q .root) t → q .root ≡ 0
-      go none e h = h
-      go (leaf z is) e h = let y : _≡_ {A = ℕ} 0 1 = cc in absurd (omega arith)
-      go (node z t0 t1 t2 t3) e h = let y : _≡_ {A = ℕ} 0 1 = cc in absurd (omega arith)
 
   -- after the last particle
   pub build-end : (slots : ℕ) (m next tail : List ℕ) (q : Quadtree) (p : ℕ) → Building slots m next tail q p → Ranged at (particles at) → p ≤ particles at → particles at ≤ p → length m / 8 ≡ slots → Builds at m next (Built.Tree q)

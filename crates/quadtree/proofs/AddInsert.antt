@@ -27,7 +27,7 @@ use Rattle.cells.specs.declared.cover.Doubled.{Doubled}
 use Rattle.cells.specs.declared.cover.Covered.{Covered}
 use Rattle.quadtree.specs.declared.add.Inserted.{Inserted}
 use Rattle.quadtree.specs.declared.add.Inserted.the-variants.{Done, Deep, Full}
-use Rattle.slots.specs.Slots.{word, putInternal, putLeaf}
+use Rattle.slots.specs.Slots.{word, putInternal}
 use Rattle.quadtree.specs.Slots.{inCells}
 use Rattle.cells.specs.Cover.{squareOf, Near, DoubledTo}
 use Rattle.slots.specs.Chain.{Linked}

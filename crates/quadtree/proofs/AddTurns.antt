@@ -1,23 +1,18 @@
 -- The turns of the loops that find a particle's way, count the levels that two share, and split a leaf.
-use mathlib.Core.Path.{_≡_, refl, sym, ap, ap₂, _∙_, subst}
+use mathlib.Core.Path.{_≡_, refl, sym, ap, _∙_, subst}
 use mathlib.Core.List.{List, [], _∷_}
 use Prim.Native.Nat.{ℕ, zero, suc, _+_, _-_, _*_, _≤_, _<_}
 use native.Mathlib.Omega.{arith}
 use native.Mathlib.Numerals.{add-one}
-use lib.ListN.{length, getD, set}
+use lib.ListN.{length, getD}
 use lib.Ieee.{Float}
-use borrow.Author.Tests.{eq-eqb, ne-eqb}
 use Rattle.rules.specs.declared.Extent.{Extent}
 use Rattle.rules.specs.Plain.{upTo}
-use Rattle.rules.specs.Number.{xAt, yAt}
 use Rattle.rules.specs.Cell.{quadrant, quarter}
-use Rattle.rules.specs.Tree.{Tree, none, leaf, node, inQuarter}
+use Rattle.rules.specs.Tree.{Tree, none, leaf, node}
 use Rattle.quadtree.specs.declared.Quadtree.{Quadtree}
-use Rattle.cells.specs.declared.indexer.Indexer.{Indexer}
-use Rattle.cells.specs.declared.indexer.Descent.{Descent}
-use Rattle.cells.specs.Indexer.{indexer, cellOf, Descends}
-use Rattle.slots.specs.Slots.{word, kids, putInternal}
-use Rattle.slots.specs.Leaf.{childless, side, gap, forked, parted}
+use Rattle.slots.specs.Slots.{word, kids}
+use Rattle.slots.specs.Leaf.{side}
 use Rattle.quadtree.specs.Add.{lead, Holds, pick, Reaches, FoundLeaf, FoundHole}
 use Rattle.quadtree.proofs.SlotsTree.{lead-each, leads}
 use Rattle.quadtree.proofs.AddWay.{side-lt, reach-each, reach-stored, reach-down}

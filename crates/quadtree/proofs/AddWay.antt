@@ -1,16 +1,16 @@
 -- A point's way down a tree, and the tree with another subtree where the way has come to.
 use mathlib.Core.Path.{_≡_, refl, sym, ap, _∙_, subst}
-use mathlib.Core.Bool.{Bool, true, false, cond}
+use mathlib.Core.Bool.{Bool, true, false}
 use mathlib.Core.List.{List}
 use Prim.Native.Nat.{ℕ, zero, suc, _+_, _≤_, _<_, max}
 use native.Mathlib.Omega.{arith}
 use lib.Dec.{eqb}
-use lib.Ieee.{Float, le}
+use lib.Ieee.{Float}
 use borrow.Author.Tests.{eqb-true}
 use Rattle.rules.specs.declared.Extent.{Extent}
 use Rattle.rules.specs.Plain.{branch}
 use Rattle.rules.specs.Number.{xAt, yAt}
-use Rattle.rules.specs.Cell.{xm, ym, quadrant, quarter}
+use Rattle.rules.specs.Cell.{quarter}
 use Rattle.rules.specs.Tree.{Tree, none, leaf, node, depth, nodes, inQuarter}
 use Rattle.rules.proofs.CellInsert.{insertT, into, insert-node}
 use Rattle.rules.proofs.CellDeep.{inQuarter-own}

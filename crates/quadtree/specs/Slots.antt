@@ -8,7 +8,6 @@ use Rattle.rules.specs.declared.Extent.{Extent}
 use Rattle.rules.specs.Cell.{quarter}
 use Rattle.rules.specs.Tree.{Tree, none, leaf, node, nodes, depth, treeOf, greatestLevel}
 use Rattle.quadtree.specs.declared.Quadtree.{Quadtree}
-
 -- the words of a slot, for those who read a tree
 unfoldable pub use Rattle.slots.specs.Slots.{word, putValue}
 pub use Rattle.slots.specs.Slots.{kid, kids, value}

@@ -81,7 +81,16 @@ fn more(q: Quadtree, nodes: usize, level: usize) -> Quadtree
 }
 
 // The way of p has ended at the leaf in slot s, of level l, whose first particle f is at another point.
-fn at_leaf(m: &mut [u64], at: &[f64], q: Quadtree, s: usize, l: usize, f: usize, cell: Extent, p: usize) -> Inserted
+fn at_leaf(
+    m: &mut [u64],
+    at: &[f64],
+    q: Quadtree,
+    s: usize,
+    l: usize,
+    f: usize,
+    cell: Extent,
+    p: usize,
+) -> Inserted
     requires { ⌜ Seeks (now at) (now m) q p × FoundLeaf (now at) (now m) q p s l f cell × (same (now at) f p ≡ false) ⌝ }
     ensures { λ r. ⌜ Grown (now (at .entry)) (now (m .exit)) (q .extent) p r ⌝ }
 {
@@ -98,7 +107,14 @@ fn at_leaf(m: &mut [u64], at: &[f64], q: Quadtree, s: usize, l: usize, f: usize,
 }
 
 // p, a chain of its own so far, goes into a tree whose extent holds it.
-fn place(m: &mut [u64], at: &[f64], next: &mut [u32], tail: &mut [u32], q: Quadtree, p: usize) -> Inserted
+fn place(
+    m: &mut [u64],
+    at: &[f64],
+    next: &mut [u32],
+    tail: &mut [u32],
+    q: Quadtree,
+    p: usize,
+) -> Inserted
     requires { ⌜ Puts (now at) (now m) (now next) (now tail) q p × Alone (now next) (now tail) p × (0 < q .root) ⌝ }
     ensures { λ r. ⌜ Placed (now (at .entry)) (now (m .exit)) (now (next .exit)) (now (tail .exit)) (q .extent) p r ⌝ }
 {

@@ -1,7 +1,6 @@
 // mod.rs: the tree of all particles, one after the other. The earliest whose prefix passes the greatest level or wants more slots than are lent is refused.
 ghost use mathlib.Core.Path.{_≡_};
 ghost use Prim.Native.Nat.{_+_, _*_, _≤_};
-ghost use lib.ListN.{length};
 ghost use Rattle.quadtree.specs.Build.{Lent, Builds, Follows, Extends};
 use crate::Quadtree;
 use crate::add;

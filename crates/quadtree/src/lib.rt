@@ -2,9 +2,8 @@
 pub mod add;
 pub mod build;
 
-pub use slots::store;
-
 use rules::Extent;
+pub use slots::store;
 
 // A tree in lent slots: its extent, its root (0 for none, s + 1 for slot s), how many slots it takes from the first on, and its greatest level.
 pub struct Quadtree {

@@ -52,7 +52,7 @@ stop-placed : (r : Refusal) → Stop r → Placed r
 stop-placed r unrefused n = absurd n
 stop-placed r (ended h) n = late-placed r h n
 
-late-zeroes : (r : Refusal) → Late r → zeroesWork r ≡ true
+pub late-zeroes : (r : Refusal) → Late r → zeroesWork r ≡ true
 unfolding zeroesWork
 late-zeroes r (six i) = refl
 late-zeroes r (seven i) = refl

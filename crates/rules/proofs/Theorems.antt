@@ -1,14 +1,12 @@
 -- What the floor and the root are shown to be. Each theorem's proof is in the file that it cites.
 use mathlib.Core.Path.{_≡_}
-use mathlib.Core.Bool.{false}
 use Prim.Native.Nat.{ℕ, _^_, _<_}
 use lib.IntN.{ℤ}
 use lib.Dec.{T}
 use lib.Ieee.{Float}
-use lib.Ieee.Exact.{HasValue}
-use Rattle.rules.specs.Number.{finite, floatOf}
+use Rattle.rules.specs.Number.{finite}
 use Rattle.rules.specs.Floor.{floor, IsFloor}
-use Rattle.rules.specs.Root.{infinity, units, rootPattern, root, Nearest, IsRoot}
+use Rattle.rules.specs.Root.{rootPattern, root, Nearest, IsRoot}
 use Rattle.rules.proofs.Floor as Floor
 use Rattle.rules.proofs.Nearest as Near
 use Rattle.rules.proofs.Patterns as Patterns
@@ -21,10 +19,6 @@ floor-is = Floor.is
 -- No other number is the floor.
 pub floor-unique : (x : Float) (z w : ℤ) → IsFloor x z → IsFloor x w → z ≡ w
 floor-unique = Floor.unique
-
--- A pattern below the infinity's has the value of `units` of 2 ^ -1074, and no sign.
-pub units-value : (b : ℕ) → b < infinity → HasValue (floatOf b) false (units b) (2 ^ 1074)
-units-value = Patterns.value
 
 -- The pattern that the root is computed as is the one nearest to the root of b's value, at a tie the even one.
 pub root-pattern-nearest : (b : ℕ) → Nearest b (rootPattern b)

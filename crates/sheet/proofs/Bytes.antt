@@ -1,5 +1,5 @@
 -- Words in lists of bytes.
-use mathlib.Core.Path.{_≡_, refl, ap, _∙_}
+use mathlib.Core.Path.{_≡_, refl, _∙_}
 use mathlib.Core.List.{List, [], _∷_}
 use Prim.Native.Nat.{ℕ, zero, suc, _+_, _*_, _/_, _%_, _^_, _≤_, _<_}
 use native.Mathlib.Numerals.{add-one, add-two, add-three, add-four, add-five, add-six, add-seven}
@@ -9,7 +9,6 @@ use lib.ListN.{length, getD, take, drop, set, length-drop}
 use lib.Seq.{sets-eq, drop-cons, getD-drop, length-take-le}
 use Rattle.rules.specs.Plain.{overwritten}
 use Rattle.rules.specs.Sheet.{wordOf, bytesOf, wordAt}
-use Rattle.sheet.proofs.Lists.{overwritten-drop}
 
 -- every element is a byte
 abbrev pub Bytes : List ℕ → Type 0
@@ -80,12 +79,6 @@ pub stores : (l : List ℕ) (at b0 b1 b2 b3 b4 b5 b6 b7 : ℕ) → at + 8 ≤ le
 stores l at b0 b1 b2 b3 b4 b5 b6 b7 h =
     rw (add-one at, add-two at, add-three at, add-four at, add-five at, add-six at, add-seven at)
     (sets-eq (b0 ∷ b1 ∷ b2 ∷ b3 ∷ b4 ∷ b5 ∷ b6 ∷ b7 ∷ []) l at h)
-
--- reading what was written gives it
-pub word-put : (l : List ℕ) (at w : ℕ) → at + 8 ≤ length l → w < 2 ^ 64 → wordAt (overwritten l at (bytesOf 8 w)) at ≡ w
-unfolding wordAt
-word-put l at w h hw =
-    ap (λ (x : List ℕ). wordOf (take 8 x)) (overwritten-drop l at (bytesOf 8 w) (omega arith)) ∙ word-of-bytes 8 w hw
 
 module _ (l : List ℕ) (at : ℕ) (b : Bytes l) (h : at + 8 ≤ length l) where
   word-length : length (take 8 (drop at l)) ≡ 8

@@ -37,11 +37,6 @@ module _ {A : Type 0} where
   overwritten-after p l at part =
       rw (take-append-add p l at, add-assoc (length p) at (length part), drop-append-add p l (at + length part)) (simp append-assoc)
 
-  -- from its place on, the part that was written
-  pub overwritten-drop : (l : List A) (at : ℕ) (part : List A) → at ≤ length l → drop at (overwritten l at part) ≡ part ++ drop (at + length part) l
-  overwritten-drop l at part h =
-      rw append-assoc (drop-at (take at l) (part ++ drop (at + length part) l) at (length-take-le at l h))
-
   -- nothing is written
   pub overwritten-none : (l : List A) (at : ℕ) → overwritten l at [] ≡ l
   overwritten-none l at = rw (append-nil, add-zero) (take-append-drop at l)

@@ -82,11 +82,6 @@ records-held s at (suc k) b h = (
   records-held s (at + 40) k b (omega arith),
 )
 
--- what was read is held
-pub particles-held : (s : List ℕ) → Bytes s → AllHeld (particlesOf s)
-unfolding particlesOf
-particles-held s b = records-held s 0 (countOf s) b (omega arith)
-
 record-length : (p : Particle) (q : List ℕ) → length (recordBytes p ++ q) ≡ 40 + length q
 unfolding recordBytes
 record-length p q = omega arith

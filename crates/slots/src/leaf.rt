@@ -55,7 +55,16 @@ fn fork(m: &mut [u64], s: usize, j: usize, k: usize, x: usize, f: usize, p: usiz
 }
 
 // The leaf of f in slot s becomes an internal node over g more, new ones, with the leaves of f and p at the end.
-pub fn split(m: &mut [u64], at: &[f64], s: usize, cell: Extent, g: usize, x: usize, f: usize, p: usize)
+pub fn split(
+    m: &mut [u64],
+    at: &[f64],
+    s: usize,
+    cell: Extent,
+    g: usize,
+    x: usize,
+    f: usize,
+    p: usize,
+)
     requires { ⌜ Splits (length (now m)) (length (now at)) s x g f p ⌝ }
     ensures { λ _. ⌜ now (m .exit) ≡ parted (now (at .entry)) p f g cell s x (now (m .entry)) ⌝ }
 {

@@ -1,20 +1,18 @@
 -- The checks of the tree call: what comes of each, in their order.
 use mathlib.Core.Path.{_≡_, refl, sym, ap, _∙_}
 use mathlib.Core.Bool.{Bool, true, false, _&&_}
-use mathlib.Core.List.{List}
 use Prim.Native.Nat.{ℕ, _*_, _%_, _≤_, _<_}
 use native.Mathlib.Omega.{arith}
-use borrow.Author.Tests.{leb-true, eqb-true, eq-eqb, lt-leb}
+use borrow.Author.Tests.{leb-true, eqb-true}
 use lib.Dec.{leb, eqb}
 use lib.ListN.{length}
-use Rattle.rules.specs.declared.Particle.{Particle}
 use Rattle.rules.specs.declared.Refusal.{Refusal}
 use Rattle.rules.specs.Outcome.{Outcome, done, refused, Check, fine, require, _then_, _>>=_, refusalOf}
-use Rattle.rules.specs.Number.{placeRange, speedRange}
 use Rattle.rules.specs.Refusal.{countCheck, lengthsCheck, mostParticles}
-use Rattle.rules.specs.Sheet.{recordSize, lengthCheck, recordCheck, recordsCheck, countOf, particlesOf}
+use Rattle.rules.specs.Sheet.{lengthCheck, recordsCheck, countOf, particlesOf}
 use Rattle.rules.specs.Calls.{slotsOf, TreeInput, treeLengths, treeOfSheet, treeResult}
-use Rattle.quadtree.proofs.Refusals.{Refuses, of-require, of-then, of-from, Numbered}
+use Rattle.rules.proofs.RefusalLaws.{Refuses, _then·_}
+use Rattle.rules.proofs.RefusalNumbers.{Early, one, two, three, four, five, ten, count-early, lengths-early, length-early, records-early}
 use Rattle.tree.specs.Tree.{built, Passed}
 
 -- ---- one check after the other
@@ -33,22 +31,22 @@ is-refused (refused q) r e h = ap refused (sym e)
 
 -- ---- refusals have numbers
 
+-- a number
+abbrev Numbered : Refusal → Type 0
+Numbered r = r .number ≡ 0 → ⊥
+
+early-numbered : (r : Refusal) → Early r → Numbered r
+early-numbered r one z = omega arith
+early-numbered r two z = omega arith
+early-numbered r (three i) z = omega arith
+early-numbered r (four i) z = omega arith
+early-numbered r (five i) z = omega arith
+early-numbered r (ten i) z = omega arith
+
 -- a check whose refusals have numbers is fine where it answers none
-no-number : (c : Check) (r : Refusal) → Refuses Numbered c → r ≡ refusalOf c → r .number ≡ 0 → c ≡ fine
+no-number : (c : Check) (r : Refusal) → Refuses Early c → r ≡ refusalOf c → r .number ≡ 0 → c ≡ fine
 no-number (done t) r h e z = refl
-no-number (refused q) r h e z = absurd (h q refl (sym (ap (λ (r : Refusal). r .number) e) ∙ z))
-
-record-numbered : (i : ℕ) (p : Particle) → Refuses Numbered (recordCheck i p)
-unfolding recordCheck
-record-numbered i p =
-    of-then Numbered (require (leb (p .flags) 3) 10 i then require (placeRange (p .x) (p .y)) 4 i) (require (speedRange (p .vx) (p .vy)) 5 i)
-    (of-then Numbered (require (leb (p .flags) 3) 10 i) (require (placeRange (p .x) (p .y)) 4 i)
-    (of-require Numbered (leb (p .flags) 3) 10 i (λ z. omega arith)) (of-require Numbered (placeRange (p .x) (p .y)) 4 i (λ z. omega arith)))
-    (of-require Numbered (speedRange (p .vx) (p .vy)) 5 i (λ z. omega arith))
-
-records-numbered : (ps : List Particle) → Refuses Numbered (recordsCheck ps)
-unfolding recordsCheck
-records-numbered ps = of-from Numbered recordCheck record-numbered 0 ps
+no-number (refused q) r h e z = absurd (early-numbered q (h .by q refl) (sym (ap (λ (r : Refusal). r .number) e) ∙ z))
 
 -- ---- the order of the call
 
@@ -73,22 +71,13 @@ module _ (most : ℕ) (l : TreeInput) where
   unfolding treeResult treeOfSheet
   stages = in-order (lengthCheck (l .sheet)) (countCheck most n) (treeLengths l) records (λ _. built l)
 
-  length-numbered : Refuses Numbered (lengthCheck (l .sheet))
-  unfolding lengthCheck
-  length-numbered = of-require Numbered (eqb (length (l .sheet) % recordSize) 0) 10 0 (λ z. omega arith)
-
-  lengths-numbered : Refuses Numbered lengths
-  lengths-numbered =
-      of-then Numbered (countCheck most n) (treeLengths l) (of-require Numbered (leb n most) 1 0 (λ z. omega arith))
-      (of-require Numbered (eqb (length (l .rows)) (slotsOf (l .work) * 4) && eqb (length (l .chains)) n) 2 0 (λ z. omega arith))
-
   -- r, s and t are what the three checks answered; the first with a number decides
   pub stop-1 : (r : Refusal) → r ≡ refusalOf (lengthCheck (l .sheet)) → Numbered r → treeResult most l ≡ refused r
   stop-1 r e h = stages ∙ rw (is-refused (lengthCheck (l .sheet)) r e h)
 
   module _ (r : Refusal) (e : r ≡ refusalOf (lengthCheck (l .sheet))) (z : r .number ≡ 0) where
     a : lengthCheck (l .sheet) ≡ fine
-    a = no-number (lengthCheck (l .sheet)) r length-numbered e z
+    a = no-number (lengthCheck (l .sheet)) r (length-early (l .sheet)) e z
 
     -- the lengths agree or not
     module _ (agreed : Bool) (o : agreed ≡ (eqb (length (l .rows)) (slotsOf (l .work) * 4) && eqb (length (l .chains)) n)) (s : Refusal)
@@ -101,14 +90,14 @@ module _ (most : ℕ) (l : TreeInput) where
 
       module _ (y : s .number ≡ 0) where
         b : lengths ≡ fine
-        b = no-number lengths s lengths-numbered f y
+        b = no-number lengths s (count-early most n then· lengths-early _) f y
 
         pub stop-3 : (t : Refusal) → t ≡ refusalOf records → Numbered t → treeResult most l ≡ refused t
         stop-3 t g h = stages ∙ rw (a, b, is-refused records t g h)
 
         module _ (t : Refusal) (g : t ≡ refusalOf records) (x : t .number ≡ 0) where
           c : records ≡ fine
-          c = no-number records t (records-numbered (particlesOf (l .sheet))) g x
+          c = no-number records t (records-early (particlesOf (l .sheet))) g x
 
           -- with none of them the tree is built
           pub goes-on : treeResult most l ≡ built l
@@ -118,20 +107,3 @@ module _ (most : ℕ) (l : TreeInput) where
           passed m =
               let h = tests (leb n most) (eqb (length (l .rows)) (slotsOf (l .work) * 4)) (eqb (length (l .chains)) n) b in
               record { few = omega (arith, leb-true n most (h .0)); rows = eqb-true _ _ (h .1); chains = eqb-true _ _ (h .2); sound = c }
-
--- ---- for callers that lend the right lengths
-
--- where the lists have their lengths, only the sheet decides
-pub lengths-right : (most : ℕ) (l : TreeInput) → length (l .rows) ≡ slotsOf (l .work) * 4 → length (l .chains) ≡ countOf (l .sheet)
-    → treeResult most l ≡ treeOfSheet most (slotsOf (l .work)) fine (l .sheet)
-unfolding treeResult
-lengths-right most l r c = rw (eq-eqb _ _ r, eq-eqb _ _ c)
-
--- a sheet of too many particles is refused before the lengths are looked at
-pub too-many : (most : ℕ) (l : TreeInput) → most < countOf (l .sheet) → treeResult most l ≡ treeOfSheet most (slotsOf (l .work)) fine (l .sheet)
-unfolding treeResult treeOfSheet
-too-many most l h = go (lengthCheck (l .sheet)) (treeLengths l) (recordsCheck (particlesOf (l .sheet))) (leb (countOf (l .sheet)) most) (lt-leb _ _ h)
-  where
-    go : (a c d : Check) (b : Bool) → b ≡ false → (a then require b 1 0 then c then d >>= λ _. built l) ≡ (a then require b 1 0 then fine then d >>= λ _. built l)
-    go (refused r) c d b e = refl
-    go (done t) c d b e = rw e

@@ -8,16 +8,12 @@ use lib.ListN.{length}
 use lib.Ieee.{Float}
 use Rattle.rules.specs.declared.Extent.{Extent}
 use Rattle.rules.specs.Plain.{keep, countFrom, upTo, branch}
-use Rattle.rules.specs.Outcome.{Outcome}
 use Rattle.rules.specs.Cell.{quarter}
 use Rattle.rules.specs.Tree.{Tree, none, leaf, node, nodes, inQuarter, pointsIn, alike, grow, treeIn, treeOf}
-use Rattle.rules.specs.Walk.{Entry, Counted, After}
 use Rattle.quadtree.specs.declared.Quadtree.{Quadtree}
-use Rattle.walk.specs.declared.visit.Walk.{Walk}
 use Rattle.quadtree.specs.Slots.{EachSlot, inCells, Stands}
-use Rattle.walk.specs.Walk.{stackOf, Sized, lay, seen, EachChain, EachBelow}
+use Rattle.walk.specs.Walk.{seen, EachChain, EachBelow}
 use Rattle.walk.proofs.WalkTurns.{Found, nodes-seen}
-use Rattle.walk.proofs.Walking.{Walking, start}
 
 pub each-slot-map : (P Q : ℕ → Type 0) → ((s : ℕ) → P s → Q s) → (t : Tree ℕ) → EachSlot P t → EachSlot Q t
 each-slot-map P Q f none h = tt

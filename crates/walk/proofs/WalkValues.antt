@@ -11,7 +11,7 @@ use lib.Ieee.Bits.{ofBits-toBits}
 use Rattle.rules.specs.Number.{floatOf, bitsOf}
 use Rattle.rules.specs.Tree.{Tree, none, leaf, node}
 use Rattle.quadtree.specs.Slots.{word, put, kid, value, putValue, Leads}
-use Rattle.quadtree.proofs.Slots.{put-same, put-other, put-word, put-length, Same, same-words}
+use Rattle.slots.proofs.Slots.{put-same, put-other, put-word, put-length, Same, same-words}
 
 -- ---- what a tree sees
 

@@ -1,4 +1,3 @@
-use mathlib.Core.Path.{refl}
 use Rattle.cells.proofs.cover.off.Statement.{statement}
 use Rattle.cells.proofs.cover.off.Tie as tie
 

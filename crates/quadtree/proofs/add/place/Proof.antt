@@ -93,7 +93,7 @@ returns-4 c =
     let s = start (h .before .before) in
     let g = h .stop2 .given .0 in
     let r =
-        grown-hung (s .args .at .now) (s .args .m .now) (s .args .q) (s .args .p) (s .pre .0 .seeks) (g .0) (g .1 .0) (g .1 .1 .0) (found-hole h) (λ z. e .if2 .left (k .slots .ensures ∙ z)) (w .hang .last .0) (c .more .result) (w .hang .ensures) (c .more .ensures) in (
+    grown-hung (s .args .at .now) (s .args .m .now) (s .args .q) (s .args .p) (s .pre .0 .seeks) (g .0) (g .1 .0) (g .1 .1 .0) (found-hole h) (λ z. e .if2 .left (k .slots .ensures ∙ z)) (w .hang .last .0) (c .more .result) (w .hang .ensures) (c .more .ensures) in (
       r .0,
       r .1,
       kept (s .args .at .now) (s .args .m .now) (s .args .next .now) (s .args .tail .now) (s .args .q) (s .args .p) (s .pre .0) (s .pre .1)

@@ -1,6 +1,5 @@
 use borrow.Author.Needs.{needs}
 use native.Mathlib.Omega.{arith}
-use Rattle.rules.specs.Sheet.{floatBytes}
 use Rattle.sheet.proofs.Turns.{pair-put}
 use Rattle.sheet.proofs.pairs.put_pair.Statement.{statement}
 use Rattle.sheet.proofs.pairs.put_pair.Tie as tie

@@ -1,5 +1,4 @@
 use borrow.Author.Needs.{needs}
-use Rattle.slots.specs.Leaf.{hung}
 use Rattle.slots.proofs.Slots.{hung-put}
 use Rattle.slots.proofs.leaf.hang.Statement.{statement}
 use Rattle.slots.proofs.leaf.hang.Tie as tie

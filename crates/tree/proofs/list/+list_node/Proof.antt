@@ -15,8 +15,8 @@ use Rattle.tree.proofs.list.list_node.Kinds as list-node-kinds
 use Rattle.tree.proofs.list.+list_node.Lts-list_node as list-node-lts
 use Rattle.tree.proofs.list.list_leaf.Reads as list-leaf-reads
 use Rattle.tree.proofs.list.put_row.Reads as put-row-reads
-use Rattle.quadtree.proofs.store.children.Reads as children-reads
-use Rattle.quadtree.proofs.store.tag.Reads as tag-reads
+use Rattle.slots.proofs.store.children.Reads as children-reads
+use Rattle.slots.proofs.store.tag.Reads as tag-reads
 use Rattle.tree.proofs.list.+list_node.{statement}
 use Rattle.tree.proofs.list.+list_node.Tie.{close}
 
