@@ -1,6 +1,6 @@
 //! The inputs of the benchmark, the same on every machine.
 
-/// The least alpha, and the cooling that leads from 1 to it in 300 ticks: 1 - 0.001^(1/300).
+/// The least alpha, and the decay that leads from 1 to it in 300 ticks: 1 - 0.001^(1/300).
 pub const LEAST: f64 = 0.001;
 pub const COOLING: f64 = 0.02276277904418933;
 pub const TICKS: u64 = 300;

@@ -88,11 +88,11 @@ impl Call {
 
     fn enter(&self, sheet: &mut [u8], alpha: &mut u64, work: &mut [u64]) -> StepAnswer {
         let Forces { words, numbers, links } = &self.forces;
-        let [target, cooling, decay] = self.settings;
+        let [target, alpha_decay, velocity_decay] = self.settings;
         if let Some((least, budget)) = self.step {
-            return raw::step(sheet, alpha, words, numbers, links, &self.draws, target, cooling, decay, least, budget, work);
+            return raw::step(sheet, alpha, words, numbers, links, &self.draws, target, alpha_decay, velocity_decay, least, budget, work);
         }
-        let counts = raw::tick(sheet, alpha, words, numbers, links, &self.draws, target, cooling, decay, work);
+        let counts = raw::tick(sheet, alpha, words, numbers, links, &self.draws, target, alpha_decay, velocity_decay, work);
         let done = u64::from(counts.refusal.number == 0);
         StepAnswer { refusal: counts.refusal, ticks: done, finished: false, visits: counts.visits, draws: counts.draws }
     }

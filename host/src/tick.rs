@@ -8,9 +8,9 @@ pub struct Settings {
     /// `alpha_target`: where alpha goes.
     pub target: f64,
     /// `alpha_decay`: how much of the way it goes in a tick.
-    pub cooling: f64,
+    pub alpha_decay: f64,
     /// `velocity_decay`: what velocities are multiplied by.
-    pub decay: f64,
+    pub velocity_decay: f64,
 }
 
 /// What a step did.
@@ -34,7 +34,7 @@ pub struct Steps {
 /// let mut sheet = sheet_of(&[Particle::at(0.0, 0.0), Particle::at(2.0, 4.0)]);
 /// let mut slots = [None; 8];
 /// slots[0] = Some(Force::Center { x: 0.0, y: 0.0, strength: 1.0 });
-/// let settings = Settings { target: 0.0, cooling: 0.5, decay: 0.6 };
+/// let settings = Settings { target: 0.0, alpha_decay: 0.5, velocity_decay: 0.6 };
 /// let mut alpha = 1.0;
 /// tick(&mut sheet, &mut alpha, &Forces::new(2, &slots), settings, Lent { draws: &[], work: &mut [] })?;
 /// assert_eq!(alpha, 0.5);
@@ -42,10 +42,10 @@ pub struct Steps {
 /// # Ok::<(), talemiku::Refusal>(())
 /// ```
 pub fn tick(sheet: &mut [u8], alpha: &mut f64, forces: &Forces, settings: Settings, lent: Lent<'_>) -> Result<Counts, Refusal> {
-    let Settings { target, cooling, decay } = settings;
+    let Settings { target, alpha_decay, velocity_decay } = settings;
     let Lent { draws, work } = lent;
     let mut bits = alpha.to_bits();
-    let answer = raw::tick(sheet, &mut bits, &forces.words, &forces.numbers, &forces.links, draws, target, cooling, decay, work);
+    let answer = raw::tick(sheet, &mut bits, &forces.words, &forces.numbers, &forces.links, draws, target, alpha_decay, velocity_decay, work);
     *alpha = f64::from_bits(bits);
     Counts::of(answer)
 }
@@ -56,7 +56,7 @@ pub fn tick(sheet: &mut [u8], alpha: &mut f64, forces: &Forces, settings: Settin
 /// ```
 /// use talemiku::{sheet_of, step, Forces, Lent, Particle, Settings};
 /// let mut sheet = sheet_of(&[Particle { vx: 1.0, ..Particle::at(0.0, 0.0) }]);
-/// let settings = Settings { target: 0.0, cooling: 0.5, decay: 0.6 };
+/// let settings = Settings { target: 0.0, alpha_decay: 0.5, velocity_decay: 0.6 };
 /// let mut alpha = 1.0;
 /// let done = step(&mut sheet, &mut alpha, &Forces::new(1, &[None; 8]), settings, 0.3, 100, Lent { draws: &[], work: &mut [] })?;
 /// assert_eq!((done.ticks, done.finished, alpha), (2, true, 0.25));
@@ -71,11 +71,11 @@ pub fn step(
     budget: u64,
     lent: Lent<'_>,
 ) -> Result<Steps, Refusal> {
-    let Settings { target, cooling, decay } = settings;
+    let Settings { target, alpha_decay, velocity_decay } = settings;
     let Lent { draws, work } = lent;
     let mut bits = alpha.to_bits();
     let answer =
-        raw::step(sheet, &mut bits, &forces.words, &forces.numbers, &forces.links, draws, target, cooling, decay, least, budget, work);
+        raw::step(sheet, &mut bits, &forces.words, &forces.numbers, &forces.links, draws, target, alpha_decay, velocity_decay, least, budget, work);
     *alpha = f64::from_bits(bits);
     let stop = Refusal::of(answer.refusal);
     match stop {

@@ -6,7 +6,7 @@ use talemiku::{particles_of, sheet_of, step, tick, Counts, Force, Forces, Lent, 
 
 const WORK: u64 = 0x7ff4_0000_dead_beef;
 /// Alpha stays as it is.
-const STILL: Settings = Settings { target: 0.0, cooling: 0.0, decay: 0.5 };
+const STILL: Settings = Settings { target: 0.0, alpha_decay: 0.0, velocity_decay: 0.5 };
 
 /// What a call leaves: its reply, the particles, alpha.
 type Left<A> = (A, Vec<Particle>, f64);
@@ -109,9 +109,9 @@ fn a_held_axis_returns_to_tick_entry() {
 
 #[test]
 fn alpha_moves() {
-    let hot = Settings { target: 1e12, cooling: 2.0, decay: 0.5 };
+    let hot = Settings { target: 1e12, alpha_decay: 2.0, velocity_decay: 0.5 };
     assert_eq!(sheet(&[], &[]).tick(&forces(0, &[]), hot), Err(Refusal::Result));
-    let cool = Settings { target: 0.0, cooling: 0.5, decay: 0.5 };
+    let cool = Settings { target: 0.0, alpha_decay: 0.5, velocity_decay: 0.5 };
     assert_eq!(sheet(&[], &[]).tick(&forces(0, &[]), cool), Ok((Counts { visits: 0, draws: 0 }, vec![], 0.5)));
     let odd = Sheet { alpha: f64::from_bits(0xfff4_0000_0000_0bad), ..sheet(&[], &[]) };
     assert_eq!(odd.tick(&forces(0, &[]), cool), Err(Refusal::Number { place: 0 }));
@@ -158,7 +158,7 @@ fn a_step_in_portions_ends_as_one_step() {
     places[2].flags = Particle::FIXED_X;
     let discs = Force::Collide { radii: &[1.0; 5], strength: 0.7, iterations: 2 };
     let forces = forces(5, &[Force::ManyBody { strengths: &[-2.0; 5] }, discs, HOME]);
-    let settings = Settings { target: 0.0, cooling: 0.1, decay: 0.6 };
+    let settings = Settings { target: 0.0, alpha_decay: 0.1, velocity_decay: 0.6 };
     let draws: Vec<f64> = (0..200).map(|k| f64::from(k * 37 % 101 - 50) * 1e-3).collect();
     let run = |portion: u64| {
         let (mut sheet, mut alpha, mut work) = (sheet_of(&places), 1.0, [0; 400 * SLOT_WORDS]);

@@ -17,7 +17,7 @@ use Rattle.rules.specs.Plain.{all, sum}
 use Rattle.rules.specs.Number.{drawRange, placeRange, speedRange}
 use Rattle.rules.specs.Outcome.{Check, done, refused, refusal, fine, require, _then_, refusalOf, checkEach, zeroesWork}
 use Rattle.rules.specs.Refusal.{mostParticles, mostTicks, countCheck, lengthsCheck, drawsCheck, settingsCheck, coordinateCheck, velocityCheck}
-use Rattle.rules.specs.Sheet.{recordSize, countOf, particlesOf, lengthCheck, recordCheck, recordsCheck}
+use Rattle.rules.specs.Sheet.{recordSize, countOf, particlesOf, wholeRecords, recordCheck, recordsCheck}
 use Rattle.rules.specs.Force.{endsOf, endsRange, pushEnds, pushRanges}
 use Rattle.rules.specs.Tick.{SheetInput, Force, empty, push, center, unknown, entryCounts, strengthsRight, numbersNeeded, linksNeeded, entriesOf, forceEnds, forceRanges, count, entries, forces, listLengths, sheetCheck}
 use Rattle.force.specs.Calls.{firstOf}
@@ -78,8 +78,8 @@ check-same sheet alpha forces numbers links draws work ticks settings = refl
 pub prior-count : (most n : ℕ) → Prior (countCheck most n)
 prior-count most n = prior (countCheck most n) (real-count most n)
 
-pub prior-length : (s : List ℕ) → Prior (lengthCheck s)
-unfolding lengthCheck
+pub prior-length : (s : List ℕ) → Prior (wholeRecords s)
+unfolding wholeRecords
 prior-length s = prior-require (eqb (length s % recordSize) 0) 0
 
 prior-record : (i : ℕ) (p : Particle) → Prior (recordCheck i p)
@@ -112,9 +112,9 @@ prior-ranges n es numbers = prior-each (numbersNeeded n) ownRanges real-own es n
 
 pub prior-sizes : (sheet forces : List ℕ) (ticks : ℕ) → Prior (sizesCheck sheet forces ticks)
 prior-sizes sheet forces ticks =
-    prior-then (lengthCheck sheet then countCheck mostParticles (countOf sheet) then countCheck mostTicks ticks) (checkEach (λ _ e. entryCounts e) (entriesOf forces))
-    (prior-then (lengthCheck sheet then countCheck mostParticles (countOf sheet)) (countCheck mostTicks ticks)
-    (prior-then (lengthCheck sheet) (countCheck mostParticles (countOf sheet)) (prior-length sheet) (prior-count mostParticles (countOf sheet)))
+    prior-then (wholeRecords sheet then countCheck mostParticles (countOf sheet) then countCheck mostTicks ticks) (checkEach (λ _ e. entryCounts e) (entriesOf forces))
+    (prior-then (wholeRecords sheet then countCheck mostParticles (countOf sheet)) (countCheck mostTicks ticks)
+    (prior-then (wholeRecords sheet) (countCheck mostParticles (countOf sheet)) (prior-length sheet) (prior-count mostParticles (countOf sheet)))
     (prior-count mostTicks ticks))
     (prior-counts (entriesOf forces))
 
@@ -162,16 +162,16 @@ keeps-slots l ticks settings r e = ⊎-elim (early-keeps r) (ten-keeps r) (early
 -- ---- what it lets pass
 
 pub sizes-passed : (sheet forces : List ℕ) (ticks : ℕ) → sizesCheck sheet forces ticks ≡ fine
-    → (lengthCheck sheet ≡ fine) × (countOf sheet ≤ 4096) × (checkEach (λ _ e. entryCounts e) (entriesOf forces) ≡ fine) × (ticks ≤ 4096)
+    → (wholeRecords sheet ≡ fine) × (countOf sheet ≤ 4096) × (checkEach (λ _ e. entryCounts e) (entriesOf forces) ≡ fine) × (ticks ≤ 4096)
 sizes-passed sheet forces ticks h =
     let few = countCheck mostParticles (countOf sheet) in
-    let a = then-both (lengthCheck sheet then few then countCheck mostTicks ticks) (checkEach (λ _ e. entryCounts e) (entriesOf forces)) h in
-    let b = then-both (lengthCheck sheet then few) (countCheck mostTicks ticks) (a .0) in
-    let c = then-both (lengthCheck sheet) few (b .0) in
+    let a = then-both (wholeRecords sheet then few then countCheck mostTicks ticks) (checkEach (λ _ e. entryCounts e) (entriesOf forces)) h in
+    let b = then-both (wholeRecords sheet then few) (countCheck mostTicks ticks) (a .0) in
+    let c = then-both (wholeRecords sheet) few (b .0) in
     (c .0, count-small 4096 (countOf sheet) (c .1), a .1, count-small 4096 ticks (b .1))
 
 pub passed : (l : SheetInput) (ticks : ℕ) (settings : List Float) → sheetCheck l ticks settings ≡ fine
-    → Fits (count l) (entries l) (l .numbers) (l .links) × (lengthCheck (l .sheet) ≡ fine) × (recordsCheck (particlesOf (l .sheet)) ≡ fine) × (ticks ≤ 4096)
+    → Fits (count l) (entries l) (l .numbers) (l .links) × (wholeRecords (l .sheet) ≡ fine) × (recordsCheck (particlesOf (l .sheet)) ≡ fine) × (ticks ≤ 4096)
 passed l ticks settings h =
     let s = sizes l ticks in
     let a = then-both (rest l s) (settingsCheck settings) (sym (check-is l ticks settings) ∙ h) in

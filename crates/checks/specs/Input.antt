@@ -4,7 +4,7 @@ use Prim.Native.Nat.{ℕ}
 use lib.Ieee.{Float}
 use Rattle.rules.specs.Outcome.{Check, _then_, checkEach}
 use Rattle.rules.specs.Refusal.{mostParticles, mostTicks, countCheck, drawsCheck}
-use Rattle.rules.specs.Sheet.{lengthCheck, countOf, particlesOf, recordsCheck}
+use Rattle.rules.specs.Sheet.{wholeRecords, countOf, particlesOf, recordsCheck}
 use Rattle.rules.specs.Tick.{SheetInput, entryCounts, entriesOf}
 use Rattle.checks.specs.Parts.{endsEach, rangesEach}
 
@@ -15,7 +15,7 @@ lentSheet sheet alpha forces numbers links draws work =
 -- before 2: the sheet's length (10), then 1
 abbrev pub sizesCheck : List ℕ → List ℕ → ℕ → Check
 sizesCheck sheet forces ticks =
-    lengthCheck sheet
+    wholeRecords sheet
     then countCheck mostParticles (countOf sheet)
     then countCheck mostTicks ticks
     then checkEach (λ _ e. entryCounts e) (entriesOf forces)

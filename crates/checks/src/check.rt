@@ -10,8 +10,8 @@ use force::check::first;
 use force::check::setting_check;
 use rules::Refusal;
 use rules::Settings;
-use sheet::length_check;
 use sheet::records_check;
+use sheet::whole_records;
 ghost use mathlib.Core.Path.{_≡_};
 ghost use mathlib.Core.List.{[], _∷_, _++_, map};
 ghost use Prim.Native.Nat.{_*_};
@@ -27,7 +27,7 @@ ghost use Rattle.checks.specs.Input.{lentSheet, sizesCheck, contentsChec
 fn sizes_check(sheet: &[u8], forces: &[u64; 56], ticks: u64) -> Refusal
     ensures { λ r. ⌜ r ≡ refusalOf (sizesCheck (now (sheet .entry)) (now (forces .entry)) ticks) ⌝ }
 {
-    let length = length_check(sheet);
+    let length = whole_records(sheet);
     let particles = count_check(4096, sheet.len() / 40);
     let ticks = count_check(4096, ticks as usize);
     let counts = counts_check(forces);
@@ -80,11 +80,11 @@ pub fn input_check(
 
 // The settings of a tick.
 fn tick_settings(alpha: f64, s: Settings) -> Refusal
-    ensures { λ r. ⌜ r ≡ refusalOf (settingsCheck (alpha ∷ s .target ∷ s .cooling ∷ s .decay ∷ [])) ⌝ }
+    ensures { λ r. ⌜ r ≡ refusalOf (settingsCheck (alpha ∷ s .target ∷ s .«alpha_decay» ∷ s .«velocity_decay» ∷ [])) ⌝ }
 {
     first(
         setting_check(alpha),
-        settings_check(s.target, s.cooling, s.decay),
+        settings_check(s.target, s.alpha_decay, s.velocity_decay),
     )
 }
 
@@ -98,7 +98,7 @@ pub fn tick_check(
     alpha: f64,
     s: Settings,
 ) -> Refusal
-    ensures { λ r. ⌜ r ≡ refusalOf (sheetCheck (lentSheet (now (sheet .entry)) 0 (now (forces .entry)) (now (numbers .entry)) (now (links .entry)) (now (draws .entry)) []) 0 (alpha ∷ s .target ∷ s .cooling ∷ s .decay ∷ [])) ⌝ }
+    ensures { λ r. ⌜ r ≡ refusalOf (sheetCheck (lentSheet (now (sheet .entry)) 0 (now (forces .entry)) (now (numbers .entry)) (now (links .entry)) (now (draws .entry)) []) 0 (alpha ∷ s .target ∷ s .«alpha_decay» ∷ s .«velocity_decay» ∷ [])) ⌝ }
 {
     first(
         input_check(sheet, forces, numbers, links, draws, 0),
@@ -118,7 +118,7 @@ pub fn step_check(
     least: f64,
     budget: u64,
 ) -> Refusal
-    ensures { λ r. ⌜ r ≡ refusalOf (sheetCheck (lentSheet (now (sheet .entry)) 0 (now (forces .entry)) (now (numbers .entry)) (now (links .entry)) (now (draws .entry)) []) budget ((alpha ∷ s .target ∷ s .cooling ∷ s .decay ∷ []) ++ (least ∷ []))) ⌝ }
+    ensures { λ r. ⌜ r ≡ refusalOf (sheetCheck (lentSheet (now (sheet .entry)) 0 (now (forces .entry)) (now (numbers .entry)) (now (links .entry)) (now (draws .entry)) []) budget ((alpha ∷ s .target ∷ s .«alpha_decay» ∷ s .«velocity_decay» ∷ []) ++ (least ∷ []))) ⌝ }
 {
     let settings = first(tick_settings(alpha, s), setting_check(least));
     first(

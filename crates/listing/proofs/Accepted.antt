@@ -15,7 +15,7 @@ use Rattle.rules.specs.declared.Particle.{Particle}
 use Rattle.rules.specs.Plain.{countFrom, upTo}
 use Rattle.rules.specs.Outcome.{Outcome, done, refused, _>>=_, Check, fine, require, _then_, checkFrom}
 use Rattle.rules.specs.Number.{within, placeRange, speedRange, xAt, yAt}
-use Rattle.rules.specs.Sheet.{lengthCheck, recordCheck, recordsCheck, placesOf, particlesOf, recordsFrom, countOf}
+use Rattle.rules.specs.Sheet.{wholeRecords, recordCheck, recordsCheck, placesOf, particlesOf, recordsFrom, countOf}
 use Rattle.rules.specs.Cover.{Square, Covered, nothing, holds, coverAll, coverFirst, extentOf}
 use Rattle.rules.specs.Tree.{Tree, none, leaf, node, depth, nodes, treeIn, treeOf, fitsCheck, treeCheck, chainsOf}
 use Rattle.rules.specs.Calls.{treeOfSheet, coverSheet}
@@ -193,9 +193,9 @@ unfolding treeOfSheet at n
 accepted sheet t e =
     let ps = particlesOf sheet in
     let counts = require (leb (countOf sheet) mostListed) 1 0 in
-    let first = lengthCheck sheet then counts in
+    let first = wholeRecords sheet then counts in
     let d = done-tree (first then fine then recordsCheck ps) (treeCheck (placesOf ps) (countOf sheet) listerSlots) (treeOf (placesOf ps) (countOf sheet)) t e in
     let checks = accepts-then (first then fine) (recordsCheck ps) (d .0) in
-    let count = accepts-then (lengthCheck sheet) counts (accepts-then first fine (checks .0) .0) .1 in
+    let count = accepts-then (wholeRecords sheet) counts (accepts-then first fine (checks .0) .0) .1 in
     subst (λ (u : Tree Extent). Listed (coverSheet sheet) u) (d .1 .1)
     (accepted-tree sheet (checks .1) (leb-true (countOf sheet) mostListed (accepts-require (leb (countOf sheet) mostListed) 1 0 count)) (d .1 .0))

@@ -14,7 +14,7 @@ use Rattle.rules.specs.Sheet.{recordSize, countOf}
 use Rattle.rules.specs.Tree.{Tree, rowsOf, chainsOf}
 use Rattle.rules.specs.Calls.{slotsOf, coverSheet, TreeInput, treeLengths, treeResult, treeAnswer}
 use Rattle.rules.specs.Listing.{ascii, decimal, line, extentLine, rowLines, mostListed, listerSlots, lister}
-use Rattle.tree.specs.Tree.{Ends}
+use Rattle.tree.specs.Tree.{AfterTree}
 use Rattle.listing.specs.Text.{Wrote}
 use Rattle.listing.specs.Told.{SomeTree}
 use Rattle.listing.specs.Input.{keptBytes}
@@ -35,7 +35,7 @@ module _ {l : TreeInput} (h : Lent l) where
   lengths : treeLengths l ≡ fine
   lengths = rw (eq-eqb _ _ (h .rows ∙ sym (ap (λ (n : ℕ). n * 4) slots)), eq-eqb _ _ (h .chains))
 
-  module _ {r : TreeAnswer} {rows chains work : List ℕ} (ends : Ends l (treeResult mostListed l) r rows chains work) where
+  module _ {r : TreeAnswer} {rows chains work : List ℕ} (ends : AfterTree l (treeResult mostListed l) r rows chains work) where
     number : r .refusal .number ≡ refusalOf (treeResult mostListed l) .number
     unfolding treeAnswer
     number = ap (λ (a : TreeAnswer). a .refusal .number) (ends .answer)

@@ -11,7 +11,7 @@ use Rattle.rules.specs.declared.Refusal.{Refusal}
 use Rattle.rules.specs.Plain.{padded}
 use Rattle.rules.specs.Outcome.{Outcome, done, refused, _>>=_, Check, fine, require, _then_, ifDone}
 use Rattle.rules.specs.Refusal.{countCheck}
-use Rattle.rules.specs.Sheet.{recordSize, lengthCheck, countOf, particlesOf, recordsCheck, placesOf}
+use Rattle.rules.specs.Sheet.{recordSize, wholeRecords, countOf, particlesOf, recordsCheck, placesOf}
 use Rattle.rules.specs.Cell.{nowhere}
 use Rattle.rules.specs.Cover.{extentOf}
 use Rattle.rules.specs.Tree.{Tree, nodes, treeOf, treeCheck, rowsOf, flat, chainsOf}
@@ -29,7 +29,7 @@ after sheet whole count lengths slots =
     treeCheck (placesOf (particlesOf sheet)) (countOf sheet) slots >>= λ _.
     done (treeOf (placesOf (particlesOf sheet)) (countOf sheet))
 
-tree-after : (sheet : List ℕ) (most slots : ℕ) (lengths : Check) → treeOfSheet most slots lengths sheet ≡ after sheet (lengthCheck sheet) (countCheck most (countOf sheet)) lengths slots
+tree-after : (sheet : List ℕ) (most slots : ℕ) (lengths : Check) → treeOfSheet most slots lengths sheet ≡ after sheet (wholeRecords sheet) (countCheck most (countOf sheet)) lengths slots
 unfolding treeOfSheet
 tree-after sheet most slots lengths = refl
 
@@ -72,14 +72,14 @@ module _ (l : TreeInput) (slots : slotsOf (l .work) ≡ listerSlots) (lengths : 
 -- ---- a bad length, and else over 512 records
 
 pub lister-bad : (sheet : List ℕ) → (length sheet % recordSize ≡ 0 → ⊥) → lister sheet ≡ line (ascii "refused" ∷ decimal 10 ∷ [])
-unfolding lister lengthCheck
+unfolding lister wholeRecords
 lister-bad sheet bad =
     ap (listing sheet)
     (tree-after sheet mostListed listerSlots fine
     ∙ ap (λ (ok : Bool). after sheet (require ok 10 0) (countCheck mostListed (countOf sheet)) fine listerSlots) (ne-eqb (length sheet % recordSize) 0 bad))
 
 pub lister-many : (sheet : List ℕ) → length sheet % recordSize ≡ 0 → mostListed < countOf sheet → lister sheet ≡ line (ascii "refused" ∷ decimal 1 ∷ [])
-unfolding lister lengthCheck
+unfolding lister wholeRecords
 lister-many sheet whole many =
     ap (listing sheet)
     (tree-after sheet mostListed listerSlots fine

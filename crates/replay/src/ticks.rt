@@ -1,4 +1,4 @@
-// Cases of a tick and of a step. Parts: 1 the answer; 2 alpha, target, cooling, decay, least alpha, budget, alpha after; 3 the sheet and 4 the sheet after; 5 the words of
+// Cases of a tick and of a step. Parts: 1 the answer; 2 alpha, target, alpha_decay, velocity_decay, least alpha, budget, alpha after; 3 the sheet and 4 the sheet after; 5 the words of
 // the force slots; 6 their numbers; 7 their link ends; 8 the draws; 9 and 10 the work slots. A tick has 0 where only a step has a number.
 use crate::lists::read_bytes;
 use crate::lists::read_halves;
@@ -59,8 +59,8 @@ fn call(
     work: &mut [u64],
 ) -> StepAnswer {
     let target = float_of(argument(case, 1));
-    let cooling = float_of(argument(case, 2));
-    let decay = float_of(argument(case, 3));
+    let alpha_decay = float_of(argument(case, 2));
+    let velocity_decay = float_of(argument(case, 3));
     if step {
         let least = float_of(argument(case, 4));
         let budget = argument(case, 5);
@@ -72,8 +72,8 @@ fn call(
             links,
             draws,
             target,
-            cooling,
-            decay,
+            alpha_decay,
+            velocity_decay,
             least,
             budget,
             work,
@@ -87,8 +87,8 @@ fn call(
         links,
         draws,
         target,
-        cooling,
-        decay,
+        alpha_decay,
+        velocity_decay,
         work,
     ))
 }

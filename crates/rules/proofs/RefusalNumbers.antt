@@ -16,7 +16,7 @@ use Rattle.rules.specs.Plain.{branch, all, upTo}
 use Rattle.rules.specs.Outcome.{Outcome, done, refused, refusal}
 use Rattle.rules.specs.Number.{_⊕_, _⊗_, 0·, xAt, yAt, within, finite, distanceRange, drawRange, placeRange, speedRange}
 use Rattle.rules.specs.Refusal.{mostParticles, mostLinks, mostTicks, mostIterations, countCheck, lengthsCheck, coordinateCheck, velocityCheck, settingsCheck, resultCheck}
-use Rattle.rules.specs.Sheet.{recordSize, lengthCheck, recordCheck, recordsCheck, particlesOf, placesOf, speedsOf}
+use Rattle.rules.specs.Sheet.{recordSize, wholeRecords, recordCheck, recordsCheck, particlesOf, placesOf, speedsOf}
 use Rattle.rules.specs.Tree.{Tree, depth, nodes, greatestLevel, treeOf, fitsCheck, treeCheck}
 use Rattle.rules.specs.Walk.{Entry, internal, tip, Counted, counted}
 use Rattle.rules.specs.Flow.{Flow, flow, Gap, length², next, nonzero, shaken}
@@ -57,8 +57,8 @@ velocity-early i vx vy = of-require (speedRange vx vy) 5 i (five i)
 pub settings-early : (l : List Float) → Refuses Early (settingsCheck l)
 settings-early l = of-each (λ _ x. of-require (within x) 5 0 (five 0)) l
 
-pub length-early : (sheet : List ℕ) → Refuses Early (lengthCheck sheet)
-unfolding lengthCheck
+pub length-early : (sheet : List ℕ) → Refuses Early (wholeRecords sheet)
+unfolding wholeRecords
 length-early sheet = of-require (eqb (length sheet % recordSize) 0) 10 0 (ten 0)
 
 pub record-early : (i : ℕ) (p : Particle) → Refuses Early (recordCheck i p)
@@ -285,7 +285,7 @@ unfolding tick
 tick-late s fs slots m =
     alpha-late s m >>=· λ m₁.
     of-stages (force-late slots) m₁ fs >>=· λ m₂.
-    settled-late (closing (s .decay) (m .particles) (m₂ .particles)) m₂
+    settled-late (closing (s .«velocity_decay») (m .particles) (m₂ .particles)) m₂
 
 -- ---- what the ticks of a step end by
 

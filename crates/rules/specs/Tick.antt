@@ -15,7 +15,7 @@ use Rattle.rules.specs.Plain.{branch, all, sum}
 use Rattle.rules.specs.Outcome.{Outcome, done, refused, refusal, Check, fine, require, _then_, _>>=_, checkEach, foldStages, refusalOf, ifDone, workAfter}
 use Rattle.rules.specs.Number.{_⊕_, _⊖_, _⊗_, floatOf, bitsOf, xAt, yAt}
 use Rattle.rules.specs.Refusal.{mostParticles, mostLinks, mostTicks, mostIterations, countCheck, lengthsCheck, drawsCheck, settingsCheck, alphaCheck, resultCheck}
-use Rattle.rules.specs.Sheet.{particle, lengthCheck, countOf, particlesOf, sheetOf, recordsCheck, placesOf, speedsOf}
+use Rattle.rules.specs.Sheet.{particle, wholeRecords, countOf, particlesOf, sheetOf, recordsCheck, placesOf, speedsOf}
 use Rattle.rules.specs.Walk.{counted}
 use Rattle.rules.specs.Flow.{flow}
 use Rattle.rules.specs.Force.{Push, manyBody, collide, link, endsFrom, noneOr, pushEnds, pushRanges, run}
@@ -119,7 +119,7 @@ forceRanges unknown = require false 5 0
 
 -- alpha_target, alpha_decay and velocity_decay
 abbrev pub settings : Float → Float → Float → Settings
-settings target cooling decay = record { target = target; cooling = cooling; decay = decay }
+settings target alphaDecay velocityDecay = record { target = target; «alpha_decay» = alphaDecay; «velocity_decay» = velocityDecay }
 
 -- a sheet, alpha's bits, the words of the force slots (an array of 56), their numbers and link ends, draws, and work slots
 pub record SheetInput : Type 0 where
@@ -150,7 +150,7 @@ module _ (l : SheetInput) where
   -- length (10), then 1, 2, 3, then the first bad record, then the rest of 5: slots 0 to 7, draws, the tick's settings
   unfoldable pub sheetCheck : ℕ → List Float → Check
   sheetCheck ticks settings =
-      lengthCheck (l .sheet)
+      wholeRecords (l .sheet)
       then countCheck mostParticles count
       then countCheck mostTicks ticks
       then checkEach (λ _ e. entryCounts e) entries
@@ -175,7 +175,7 @@ state ps a ds v = record { particles = ps; alpha = a; draws = ds; visits = v }
 
 -- alpha += (target - alpha) * decay
 unfoldable pub nextAlpha : Settings → Float → Float
-nextAlpha s alpha = alpha ⊕ (s .target ⊖ alpha) ⊗ s .cooling
+nextAlpha s alpha = alpha ⊕ (s .target ⊖ alpha) ⊗ s .«alpha_decay»
 
 unfoldable pub alphaStage : Settings → State → Outcome State
 alphaStage s m =
@@ -212,7 +212,7 @@ unfoldable pub tick : Settings → List Force → ℕ → State → Outcome Stat
 tick s forces slots m =
     alphaStage s m >>= λ m₁.
     foldStages (forceStage slots) m₁ forces >>= λ m₂.
-    settled (closing (s .decay) (m .particles) (m₂ .particles)) m₂
+    settled (closing (s .«velocity_decay») (m .particles) (m₂ .particles)) m₂
 
 module _ (l : SheetInput) (s : Settings) where
   abbrev pub begun : State
@@ -220,7 +220,7 @@ module _ (l : SheetInput) (s : Settings) where
 
   -- alpha is the first of the tick's settings; a tick has no number of ticks to test, so 0 stands there
   abbrev pub tickSettings : List Float
-  tickSettings = floatOf (l .alpha) ∷ s .target ∷ s .cooling ∷ s .decay ∷ []
+  tickSettings = floatOf (l .alpha) ∷ s .target ∷ s .«alpha_decay» ∷ s .«velocity_decay» ∷ []
 
   unfoldable pub tickResult : Outcome State
   tickResult = sheetCheck l 0 tickSettings >>= λ _. tick s (forces l) (slotsOf (l .work)) begun

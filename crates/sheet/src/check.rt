@@ -7,10 +7,10 @@ use rules::Refusal;
 ghost use mathlib.Core.Path.{_≡_};
 ghost use Rattle.rules.specs.Outcome.{refusalOf};
 ghost use Rattle.rules.specs.Refusal.{coordinateCheck, velocityCheck};
-ghost use Rattle.rules.specs.Sheet.{lengthCheck, recordCheck, recordsCheck, particlesOf};
+ghost use Rattle.rules.specs.Sheet.{wholeRecords, recordCheck, recordsCheck, particlesOf};
 
-pub fn length_check(s: &[u8]) -> Refusal
-    ensures { λ r. ⌜ r ≡ refusalOf (lengthCheck (now (s .entry))) ⌝ }
+pub fn whole_records(s: &[u8]) -> Refusal
+    ensures { λ r. ⌜ r ≡ refusalOf (wholeRecords (now (s .entry))) ⌝ }
 {
     if s.len() % 40 == 0 {
         return Refusal {

@@ -5,10 +5,10 @@ mod records;
 mod words;
 
 pub use check::coordinate_check;
-pub use check::length_check;
 pub use check::record_check;
 pub use check::records_check;
 pub use check::velocity_check;
+pub use check::whole_records;
 pub use pairs::read_pairs;
 pub use pairs::write_pairs;
 pub use records::read_flags;

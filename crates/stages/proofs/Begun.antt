@@ -12,7 +12,7 @@ use Rattle.rules.specs.declared.Refusal.{Refusal}
 use Rattle.rules.specs.Plain.{all}
 use Rattle.rules.specs.Outcome.{Check, refused, fine, refusalOf}
 use Rattle.rules.specs.Number.{within, floatOf}
-use Rattle.rules.specs.Sheet.{recordSize, lengthCheck, countOf, particlesOf, placesOf}
+use Rattle.rules.specs.Sheet.{recordSize, wholeRecords, countOf, particlesOf, placesOf}
 use Rattle.rules.specs.Tick.{SheetInput, state, entries, count, sheetCheck}
 use Rattle.sheet.proofs.Checked.{records-sound}
 use Rattle.force.proofs.Scans.{stops}
@@ -42,8 +42,8 @@ module _ (l : SheetInput) (ticks : ℕ) (settings : List Float) (q : Refusal) (e
   past z = prior-passes (sheetCheck l ticks settings) q (prior-check l ticks settings) e z
 
 -- whole records
-whole-records : (s : List ℕ) → lengthCheck s ≡ fine → length s ≡ countOf s * 40
-unfolding lengthCheck
+whole-records : (s : List ℕ) → wholeRecords s ≡ fine → length s ≡ countOf s * 40
+unfolding wholeRecords
 whole-records s h = omega (arith, eqb-true (length s % recordSize) 0 (require-true (eqb (length s % recordSize) 0) 10 0 h))
 
 -- what is known where nothing is refused

@@ -17,7 +17,7 @@ use Rattle.steps.specs.declared.Stepped.{Stepped}
 use Rattle.stages.specs.Stage.{stateOf}
 use Rattle.steps.specs.Step.{Steps}
 use Rattle.stages.specs.Columns.{Read}
-use Rattle.step_call.specs.Step.{noTicks, StepSettled, StepEnds}
+use Rattle.step_call.specs.Step.{noTicks, StepSettled, AfterStep}
 use Rattle.stages.proofs.Begun.{begun-is, spent}
 
 -- an accepted step leaves the work slots zero
@@ -28,7 +28,7 @@ none-zeroes = refl
 module _ (l : SheetInput) (s : Settings) (least : Float) (budget : ℕ) where
   -- refused before it begins: nothing changes
   pub step-stopped : (q : Refusal) (r : StepAnswer) → sheetCheck l budget (tickSettings l s ++ (least ∷ [])) ≡ refused q → r ≡ noTicks q
-      → StepEnds l s least budget r (l .sheet) (l .alpha) (l .work)
+      → AfterStep l s least budget r (l .sheet) (l .alpha) (l .work)
   unfolding stepResult stepAnswer sheetAfterStep alphaAfterStep workAfterStep
   step-stopped q r e er = record { answer = er ∙ rw e; sheet = rw e; alpha = rw e; work = rw (e, keeps-slots l budget (tickSettings l s ++ (least ∷ [])) q e) }
 
@@ -46,7 +46,7 @@ module _ (l : SheetInput) (s : Settings) (least : Float) (budget : ℕ) where
 
     -- the ticks ran, and what they left was written
     pub step-ran : (work : List ℕ) (q : StepAnswer) (sheet' : List ℕ) (alpha' : ℕ) (work' : List ℕ) → length work ≡ length (l .work)
-        → StepSettled t least at vs (l .sheet) work q sheet' alpha' work' → StepEnds l s least budget q sheet' alpha' work'
+        → StepSettled t least at vs (l .sheet) work q sheet' alpha' work' → AfterStep l s least budget q sheet' alpha' work'
     unfolding stepAnswer sheetAfterStep alphaAfterStep workAfterStep
     step-ran work q sheet' alpha' work' ew h =
         record {

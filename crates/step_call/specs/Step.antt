@@ -29,7 +29,7 @@ pub record StepSettled (t : Stepped) (least : Float) (places speeds : List Float
   pub slots : work' ≡ zeros work
 
 -- The answer, and all that is lent to be changed, after the call.
-pub record StepEnds (l : SheetInput) (s : Settings) (least : Float) (budget : ℕ) (r : StepAnswer) (sheet' : List ℕ) (alpha' : ℕ) (work' : List ℕ) : Type 0 where
+pub record AfterStep (l : SheetInput) (s : Settings) (least : Float) (budget : ℕ) (r : StepAnswer) (sheet' : List ℕ) (alpha' : ℕ) (work' : List ℕ) : Type 0 where
   pub answer : r ≡ stepAnswer l s least budget
   pub sheet : sheet' ≡ sheetAfterStep l s least budget
   pub alpha : alpha' ≡ alphaAfterStep l s least budget

@@ -16,7 +16,7 @@ ghost use Rattle.rules.specs.Sheet.{countOf};
 ghost use Rattle.rules.specs.Tick.{sheetCheck, tickSettings};
 ghost use Rattle.checks.specs.Input.{lentSheet};
 ghost use Rattle.stages.specs.Columns.{Lists, Writable};
-ghost use Rattle.step_call.specs.Step.{noTicks, StepSettled, StepEnds};
+ghost use Rattle.step_call.specs.Step.{noTicks, StepSettled, AfterStep};
 
 // A refusal's answer: no tick, and all counts zero.
 fn refused_step(refusal: Refusal) -> StepAnswer
@@ -82,7 +82,7 @@ fn on_columns(
         sheetCheck l budget (tickSettings l s ++ (least ∷ [])) ≡ fine) ⌝ }
     requires { ⌜ Lists (countOf (now sheet)) (now places) (now speeds) (now flags) (now home) (now was) (now next) (now tail) ⌝ }
     ensures { λ r. ⌜ (let l = lentSheet (now (sheet .entry)) (now (alpha .entry)) (now (forces .entry)) (now (numbers .entry)) (now (links .entry)) (now (draws .entry)) (now (work .entry)) in
-        StepEnds l s least budget r (now (sheet .exit)) (now (alpha .exit)) (now (work .exit))) ⌝ }
+        AfterStep l s least budget r (now (sheet .exit)) (now (alpha .exit)) (now (work .exit))) ⌝ }
 {
     read_columns(sheet, places, speeds, flags);
     let stepped = step_on(
@@ -122,7 +122,7 @@ fn with_lists(
     requires { ⌜ (let l = lentSheet (now sheet) (now alpha) (now forces) (now numbers) (now links) (now draws) (now work) in
         sheetCheck l budget (tickSettings l s ++ (least ∷ [])) ≡ fine) ⌝ }
     ensures { λ r. ⌜ (let l = lentSheet (now (sheet .entry)) (now (alpha .entry)) (now (forces .entry)) (now (numbers .entry)) (now (links .entry)) (now (draws .entry)) (now (work .entry)) in
-        StepEnds l s least budget r (now (sheet .exit)) (now (alpha .exit)) (now (work .exit))) ⌝ }
+        AfterStep l s least budget r (now (sheet .exit)) (now (alpha .exit)) (now (work .exit))) ⌝ }
 {
     let n = sheet.len() / 40;
     let pairs = n * 2;
@@ -168,7 +168,7 @@ pub fn step(
     work: &mut [u64],
 ) -> StepAnswer
     ensures { λ r. ⌜ (let l = lentSheet (now (sheet .entry)) (now (alpha .entry)) (now (forces .entry)) (now (numbers .entry)) (now (links .entry)) (now (draws .entry)) (now (work .entry)) in
-        StepEnds l s least budget r (now (sheet .exit)) (now (alpha .exit)) (now (work .exit))) ⌝ }
+        AfterStep l s least budget r (now (sheet .exit)) (now (alpha .exit)) (now (work .exit))) ⌝ }
 {
     let r = step_check(
         sheet,

@@ -116,7 +116,7 @@ leaves-stages decay es fs slots m n f e = go (within (m .alpha)) refl (foldStage
 
 module _ (s : Settings) (fs : List Force) (slots : ℕ) (m n : State) (e : tick s fs slots m ≡ done n) where
   leaves : Leaves (state (m .particles) (nextAlpha s (m .alpha)) (m .draws) (m .visits)) n
-  leaves = leaves-stages (s .decay) (m .particles) fs slots (state (m .particles) (nextAlpha s (m .alpha)) (m .draws) (m .visits)) n refl (tick-is s fs slots m ∙ e)
+  leaves = leaves-stages (s .«velocity_decay») (m .particles) fs slots (state (m .particles) (nextAlpha s (m .alpha)) (m .draws) (m .visits)) n refl (tick-is s fs slots m ∙ e)
 
   -- no flag is changed, no particle lost
   pub accepted-flags : flagsOf (n .particles) ≡ flagsOf (m .particles)

@@ -16,10 +16,10 @@ use Rattle.rules.specs.Walk.{Counted}
 use Rattle.rules.specs.Flow.{Flow}
 use Rattle.rules.specs.Calls.{TreeInput, ForceInput}
 use Rattle.rules.specs.Tick.{SheetInput}
-use Rattle.tree.specs.Tree.{Ends}
+use Rattle.tree.specs.Tree.{AfterTree}
 use Rattle.force.specs.Calls as Force
-use Rattle.tick_call.specs.Tick.{TickEnds}
-use Rattle.step_call.specs.Step.{StepEnds}
+use Rattle.tick_call.specs.Tick.{AfterTick}
+use Rattle.step_call.specs.Step.{AfterStep}
 use Rattle.talemiku.specs.Answered.{Answered}
 
 -- The one step behind all of them: what is equal to the same is equal. Floor and root promise such an equation and nothing else.
@@ -28,7 +28,7 @@ same p q = p ∙ sym q
 
 -- The tree call: its answer, both lists and the work slots.
 pub tree-unique : (l : TreeInput) (o : Outcome (Tree Extent)) (r r' : TreeAnswer) (rows chains work rows' chains' work' : List ℕ)
-    → Ends l o r rows chains work → Ends l o r' rows' chains' work' → (r ≡ r') × (rows ≡ rows') × (chains ≡ chains') × (work ≡ work')
+    → AfterTree l o r rows chains work → AfterTree l o r' rows' chains' work' → (r ≡ r') × (rows ≡ rows') × (chains ≡ chains') × (work ≡ work')
 tree-unique l o r r' rows chains work rows' chains' work' e f =
     (same (e .answer) (f .answer), same (e .listed) (f .listed), same (e .chained) (f .chained), same (e .worked) (f .worked))
 
@@ -44,13 +44,13 @@ list-unique o ps r r' after after' e f = (same (e .answer) (f .answer), same (e 
 
 -- A tick: the answer, the sheet, alpha and the work slots.
 pub tick-unique : (l : SheetInput) (s : Settings) (r r' : Counts) (sheet sheet' : List ℕ) (alpha alpha' : ℕ) (work work' : List ℕ)
-    → TickEnds l s r sheet alpha work → TickEnds l s r' sheet' alpha' work' → (r ≡ r') × (sheet ≡ sheet') × (alpha ≡ alpha') × (work ≡ work')
+    → AfterTick l s r sheet alpha work → AfterTick l s r' sheet' alpha' work' → (r ≡ r') × (sheet ≡ sheet') × (alpha ≡ alpha') × (work ≡ work')
 tick-unique l s r r' sheet sheet' alpha alpha' work work' e f =
     (same (e .answer) (f .answer), same (e .sheet) (f .sheet), same (e .alpha) (f .alpha), same (e .work) (f .work))
 
 -- A step: the same.
 pub step-unique : (l : SheetInput) (s : Settings) (least : Float) (budget : ℕ) (r r' : StepAnswer) (sheet sheet' : List ℕ) (alpha alpha' : ℕ) (work work' : List ℕ)
-    → StepEnds l s least budget r sheet alpha work → StepEnds l s least budget r' sheet' alpha' work'
+    → AfterStep l s least budget r sheet alpha work → AfterStep l s least budget r' sheet' alpha' work'
     → (r ≡ r') × (sheet ≡ sheet') × (alpha ≡ alpha') × (work ≡ work')
 step-unique l s least budget r r' sheet sheet' alpha alpha' work work' e f =
     (same (e .answer) (f .answer), same (e .sheet) (f .sheet), same (e .alpha) (f .alpha), same (e .work) (f .work))

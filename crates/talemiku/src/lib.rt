@@ -17,8 +17,8 @@ ghost use Rattle.rules.specs.Refusal.{mostParticles};
 ghost use Rattle.rules.specs.Calls.{treeResult, manyBodyResult, collideResult, linkResult};
 ghost use Rattle.rules.specs.Tick.{settings};
 ghost use Rattle.checks.specs.Input.{lentSheet};
-ghost use Rattle.tick_call.specs.Tick.{TickEnds};
-ghost use Rattle.step_call.specs.Step.{StepEnds};
+ghost use Rattle.tick_call.specs.Tick.{AfterTick};
+ghost use Rattle.step_call.specs.Step.{AfterStep};
 ghost use Rattle.tree.specs.Tree as Tree;
 ghost use Rattle.force.specs.Calls.{lent, Answered};
 
@@ -47,7 +47,7 @@ pub extern "C" fn talemiku_tree(
     work: &mut [u64],
 ) -> TreeAnswer
     ensures { λ r. ⌜ (let l = Tree.lent (now (records .entry)) (now (rows .entry)) (now (chains .entry)) (now (work .entry)) in
-        Tree.Ends l (treeResult mostParticles l) r (now (rows .exit)) (now (chains .exit)) (now (work .exit))) ⌝ }
+        Tree.AfterTree l (treeResult mostParticles l) r (now (rows .exit)) (now (chains .exit)) (now (work .exit))) ⌝ }
 {
     tree::tree(records, rows, chains, work)
 }
@@ -137,22 +137,22 @@ pub extern "C" fn talemiku_tick(
     links: &[u32],
     draws: &[f64],
     target: f64,
-    cooling: f64,
-    decay: f64,
+    alpha_decay: f64,
+    velocity_decay: f64,
     work: &mut [u64],
 ) -> Counts
     ensures { λ r. ⌜ (let l = lentSheet (now (sheet .entry)) (now (alpha .entry)) (now (forces .entry)) (now (numbers .entry)) (now (links .entry)) (now (draws .entry)) (now (work .entry)) in
-        TickEnds l (settings target cooling decay) r (now (sheet .exit)) (now (alpha .exit)) (now (work .exit))) ⌝ }
+        AfterTick l (settings target «alpha_decay» «velocity_decay») r (now (sheet .exit)) (now (alpha .exit)) (now (work .exit))) ⌝ }
 {
     let s = Settings {
         target,
-        cooling,
-        decay,
+        alpha_decay,
+        velocity_decay,
     };
     tick_call::tick(sheet, alpha, forces, numbers, links, draws, s, work)
 }
 
-// Ticks of a sheet while alpha is over `least`, at most `budget`.
+// Ticks of a sheet while alpha is over `alpha_min`, at most `budget`.
 #[no_mangle]
 pub extern "C" fn talemiku_step(
     sheet: &mut [u8],
@@ -162,19 +162,19 @@ pub extern "C" fn talemiku_step(
     links: &[u32],
     draws: &[f64],
     target: f64,
-    cooling: f64,
-    decay: f64,
-    least: f64,
+    alpha_decay: f64,
+    velocity_decay: f64,
+    alpha_min: f64,
     budget: u64,
     work: &mut [u64],
 ) -> StepAnswer
     ensures { λ r. ⌜ (let l = lentSheet (now (sheet .entry)) (now (alpha .entry)) (now (forces .entry)) (now (numbers .entry)) (now (links .entry)) (now (draws .entry)) (now (work .entry)) in
-        StepEnds l (settings target cooling decay) least budget r (now (sheet .exit)) (now (alpha .exit)) (now (work .exit))) ⌝ }
+        AfterStep l (settings target «alpha_decay» «velocity_decay») «alpha_min» budget r (now (sheet .exit)) (now (alpha .exit)) (now (work .exit))) ⌝ }
 {
     let s = Settings {
         target,
-        cooling,
-        decay,
+        alpha_decay,
+        velocity_decay,
     };
     step_call::step(
         sheet,
@@ -184,7 +184,7 @@ pub extern "C" fn talemiku_step(
         links,
         draws,
         s,
-        least,
+        alpha_min,
         budget,
         work,
     )

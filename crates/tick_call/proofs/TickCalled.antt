@@ -23,7 +23,7 @@ use Rattle.ticks.specs.declared.Ticked.{Ticked}
 use Rattle.stages.specs.Stage.{stateOf}
 use Rattle.ticks.specs.Tick.{tickedOf, Ticks}
 use Rattle.stages.specs.Columns.{Read, written}
-use Rattle.tick_call.specs.Tick.{standing, TickSettled, TickEnds}
+use Rattle.tick_call.specs.Tick.{standing, TickSettled, AfterTick}
 use Rattle.stages.proofs.Begun.{begun-is, spent}
 
 -- ---- what stands
@@ -65,7 +65,7 @@ module _ (t : Ticked) (places speeds : List Float) (sheet : List ℕ) (alpha : �
 module _ (l : SheetInput) (s : Settings) where
   -- ---- refused before it begins: nothing changes
 
-  pub tick-stopped : (q : Refusal) (r : Counts) → sheetCheck l 0 (tickSettings l s) ≡ refused q → r ≡ noCounts q → TickEnds l s r (l .sheet) (l .alpha) (l .work)
+  pub tick-stopped : (q : Refusal) (r : Counts) → sheetCheck l 0 (tickSettings l s) ≡ refused q → r ≡ noCounts q → AfterTick l s r (l .sheet) (l .alpha) (l .work)
   unfolding tickResult tickAnswer sheetAfterTick alphaAfterTick workAfterTick
   tick-stopped q r e er = record { answer = er ∙ rw e; sheet = rw e; alpha = rw e; work = rw (e, keeps-slots l 0 (tickSettings l s) q e) }
 
@@ -75,7 +75,7 @@ module _ (l : SheetInput) (s : Settings) where
   settled-ends : (c : Check) (t : Ticked) (at vs : List Float) (flags work : List ℕ) (r : Counts) (sheet' : List ℕ) (alpha' : ℕ) (work' : List ℕ)
       → tickResult l s ≡ c >>= (λ _. done (stateOf at vs flags (t .alpha) (l .draws) (t .used) (t .visits))) → zeroesWork (refusalOf c) ≡ true
       → flags ≡ flagsOf (particlesOf (l .sheet)) → t .used ≤ length (l .draws) → length work ≡ length (l .work)
-      → TickSettled c t at vs (l .sheet) (l .alpha) work r sheet' alpha' work' → TickEnds l s r sheet' alpha' work'
+      → TickSettled c t at vs (l .sheet) (l .alpha) work r sheet' alpha' work' → AfterTick l s r sheet' alpha' work'
   unfolding tickAnswer sheetAfterTick alphaAfterTick workAfterTick
   settled-ends (done u) t at vs flags work r sheet' alpha' work' e z ef hu ew h =
       record {
@@ -100,6 +100,6 @@ module _ (l : SheetInput) (s : Settings) where
         ∙ stands at vs flags (l .draws) t
 
     pub tick-ran : (work : List ℕ) (q : Counts) (sheet' : List ℕ) (alpha' : ℕ) (work' : List ℕ) → length work ≡ length (l .work)
-        → TickSettled (standing t) t at vs (l .sheet) (l .alpha) work q sheet' alpha' work' → TickEnds l s q sheet' alpha' work'
+        → TickSettled (standing t) t at vs (l .sheet) (l .alpha) work q sheet' alpha' work' → AfterTick l s q sheet' alpha' work'
     tick-ran work q sheet' alpha' work' ew h =
         settled-ends (standing t) t at vs flags work q sheet' alpha' work' result-is (stands-late t (k .late)) (r .held) (k .draws .reach) ew h

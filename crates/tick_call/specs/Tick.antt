@@ -27,7 +27,7 @@ pub record TickSettled (c : Check) (t : Ticked) (places speeds : List Float) (sh
   pub slots : work' ≡ zeros work
 
 -- The answer, and all that is lent to be changed, after the call.
-pub record TickEnds (l : SheetInput) (s : Settings) (r : Counts) (sheet' : List ℕ) (alpha' : ℕ) (work' : List ℕ) : Type 0 where
+pub record AfterTick (l : SheetInput) (s : Settings) (r : Counts) (sheet' : List ℕ) (alpha' : ℕ) (work' : List ℕ) : Type 0 where
   pub answer : r ≡ tickAnswer l s
   pub sheet : sheet' ≡ sheetAfterTick l s
   pub alpha : alpha' ≡ alphaAfterTick l s

@@ -16,7 +16,7 @@ ghost use Rattle.rules.specs.Sheet.{countOf};
 ghost use Rattle.rules.specs.Tick.{sheetCheck, tickSettings};
 ghost use Rattle.checks.specs.Input.{lentSheet};
 ghost use Rattle.stages.specs.Columns.{Lists, Writable};
-ghost use Rattle.tick_call.specs.Tick.{standing, TickSettled, TickEnds};
+ghost use Rattle.tick_call.specs.Tick.{standing, TickSettled, AfterTick};
 
 // Sheet and alpha are written only where the tick is not refused. The work slots are zero in any case.
 fn settle(
@@ -70,7 +70,7 @@ fn on_columns(
         sheetCheck l 0 (tickSettings l s) ≡ fine) ⌝ }
     requires { ⌜ Lists (countOf (now sheet)) (now places) (now speeds) (now flags) (now home) (now was) (now next) (now tail) ⌝ }
     ensures { λ r. ⌜ (let l = lentSheet (now (sheet .entry)) (now (alpha .entry)) (now (forces .entry)) (now (numbers .entry)) (now (links .entry)) (now (draws .entry)) (now (work .entry)) in
-        TickEnds l s r (now (sheet .exit)) (now (alpha .exit)) (now (work .exit))) ⌝ }
+        AfterTick l s r (now (sheet .exit)) (now (alpha .exit)) (now (work .exit))) ⌝ }
 {
     read_columns(sheet, places, speeds, flags);
     let ticked = tick_on(
@@ -108,7 +108,7 @@ fn with_lists(
     requires { ⌜ (let l = lentSheet (now sheet) (now alpha) (now forces) (now numbers) (now links) (now draws) (now work) in
         sheetCheck l 0 (tickSettings l s) ≡ fine) ⌝ }
     ensures { λ r. ⌜ (let l = lentSheet (now (sheet .entry)) (now (alpha .entry)) (now (forces .entry)) (now (numbers .entry)) (now (links .entry)) (now (draws .entry)) (now (work .entry)) in
-        TickEnds l s r (now (sheet .exit)) (now (alpha .exit)) (now (work .exit))) ⌝ }
+        AfterTick l s r (now (sheet .exit)) (now (alpha .exit)) (now (work .exit))) ⌝ }
 {
     let n = sheet.len() / 40;
     let pairs = n * 2;
@@ -150,7 +150,7 @@ pub fn tick(
     work: &mut [u64],
 ) -> Counts
     ensures { λ r. ⌜ (let l = lentSheet (now (sheet .entry)) (now (alpha .entry)) (now (forces .entry)) (now (numbers .entry)) (now (links .entry)) (now (draws .entry)) (now (work .entry)) in
-        TickEnds l s r (now (sheet .exit)) (now (alpha .exit)) (now (work .exit))) ⌝ }
+        AfterTick l s r (now (sheet .exit)) (now (alpha .exit)) (now (work .exit))) ⌝ }
 {
     let r = tick_check(sheet, forces, numbers, links, draws, float_of(*alpha), s);
     let number = r.number;

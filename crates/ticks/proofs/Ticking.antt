@@ -85,7 +85,7 @@ module _ (at vs ds : List Float) (flags : List ℕ) (alpha decay : Float) (entry
 
 -- a tick is alpha's step and these
 pub tick-is : (s : Settings) (fs : List Force) (slots : ℕ) (m : State)
-    → stagesFrom (s .decay) (m .particles) fs slots (state (m .particles) (nextAlpha s (m .alpha)) (m .draws) (m .visits)) ≡ tick s fs slots m
+    → stagesFrom (s .«velocity_decay») (m .particles) fs slots (state (m .particles) (nextAlpha s (m .alpha)) (m .draws) (m .visits)) ≡ tick s fs slots m
 unfolding tick alphaStage stagesFrom
 tick-is s fs slots m = go (alphaCheck a)
   where
@@ -96,7 +96,7 @@ tick-is s fs slots m = go (alphaCheck a)
     n = state (m .particles) a (m .draws) (m .visits)
 
     rest : State → Outcome State
-    rest n = foldStages (forceStage slots) n fs >>= λ k. settled (closing (s .decay) (m .particles) (k .particles)) k
+    rest n = foldStages (forceStage slots) n fs >>= λ k. settled (closing (s .«velocity_decay») (m .particles) (k .particles)) k
 
     go : (c : Check) → (c >>= λ _. rest n) ≡ ((c >>= λ _. done n) >>= λ n. rest n)
     go (done t) = refl
@@ -116,7 +116,7 @@ module _ (places speeds : List Float) (flags : List ℕ) (ds : List Float) (r : 
 -- alpha was cooled, `home` copied from the places, and the stages left the columns `at` and vs
 module _ (places speeds ds home at vs : List Float) (flags : List ℕ) (alpha cooled : Float) (s : Settings) (fs : List Force) (slots n used visits : ℕ) (ran : Ran)
     (h : Columns places speeds ds n used) (ec : cooled ≡ nextAlpha s alpha) (eh : home ≡ places)
-    (k : Stages at vs flags cooled ds used (visits + 2 ^ 40) ran (stagesFrom (s .decay) (particlesFrom home speeds flags) fs slots (stateOf places speeds flags cooled ds used visits))) where
+    (k : Stages at vs flags cooled ds used (visits + 2 ^ 40) ran (stagesFrom (s .«velocity_decay») (particlesFrom home speeds flags) fs slots (stateOf places speeds flags cooled ds used visits))) where
   abbrev o : Outcome State
   o = tick s fs slots (stateOf places speeds flags alpha ds used visits)
 

@@ -1,10 +1,10 @@
 // One tick by columns: alpha's step, the force slots, the closing move.
 use force::Ran;
 use force::particle::close_all;
+use force_slots::run_slots;
 use number::within;
 use rules::Refusal;
 use rules::Settings;
-use force_slots::run_slots;
 use stages::stage::settled;
 ghost use mathlib.Core.Path.{_≡_};
 ghost use mathlib.Core.List.{List};
@@ -42,7 +42,7 @@ fn copy(from: &[f64], to: &mut [f64])
 fn next_alpha(s: Settings, alpha: f64) -> f64
     ensures { λ r. ⌜ r ≡ Rule.nextAlpha s alpha ⌝ }
 {
-    alpha + (s.target - alpha) * s.cooling
+    alpha + (s.target - alpha) * s.alpha_decay
 }
 
 // The closing move after forces that ran, and 9 after it; none where they were refused. `home` are the places at tick entry, to which a held axis returns.
@@ -186,7 +186,7 @@ pub fn tick_on(
         speeds,
         flags,
         cooled,
-        s.decay,
+        s.velocity_decay,
         draws,
         used,
         visits,

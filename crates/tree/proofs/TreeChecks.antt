@@ -9,7 +9,7 @@ use lib.ListN.{length}
 use Rattle.rules.specs.declared.Refusal.{Refusal}
 use Rattle.rules.specs.Outcome.{Outcome, done, refused, Check, fine, require, _then_, _>>=_, refusalOf}
 use Rattle.rules.specs.Refusal.{countCheck, lengthsCheck, mostParticles}
-use Rattle.rules.specs.Sheet.{lengthCheck, recordsCheck, countOf, particlesOf}
+use Rattle.rules.specs.Sheet.{wholeRecords, recordsCheck, countOf, particlesOf}
 use Rattle.rules.specs.Calls.{slotsOf, TreeInput, treeLengths, treeOfSheet, treeResult}
 use Rattle.rules.proofs.RefusalLaws.{Refuses, _then·_}
 use Rattle.rules.proofs.RefusalNumbers.{Early, one, two, three, four, five, ten, count-early, lengths-early, length-early, records-early}
@@ -67,17 +67,17 @@ module _ (most : ℕ) (l : TreeInput) where
   abbrev records : Check
   records = recordsCheck (particlesOf (l .sheet))
 
-  stages : treeResult most l ≡ (lengthCheck (l .sheet) >>= λ _. lengths >>= λ _. records >>= λ _. built l)
+  stages : treeResult most l ≡ (wholeRecords (l .sheet) >>= λ _. lengths >>= λ _. records >>= λ _. built l)
   unfolding treeResult treeOfSheet
-  stages = in-order (lengthCheck (l .sheet)) (countCheck most n) (treeLengths l) records (λ _. built l)
+  stages = in-order (wholeRecords (l .sheet)) (countCheck most n) (treeLengths l) records (λ _. built l)
 
   -- r, s and t are what the three checks answered; the first with a number decides
-  pub stop-1 : (r : Refusal) → r ≡ refusalOf (lengthCheck (l .sheet)) → Numbered r → treeResult most l ≡ refused r
-  stop-1 r e h = stages ∙ rw (is-refused (lengthCheck (l .sheet)) r e h)
+  pub stop-1 : (r : Refusal) → r ≡ refusalOf (wholeRecords (l .sheet)) → Numbered r → treeResult most l ≡ refused r
+  stop-1 r e h = stages ∙ rw (is-refused (wholeRecords (l .sheet)) r e h)
 
-  module _ (r : Refusal) (e : r ≡ refusalOf (lengthCheck (l .sheet))) (z : r .number ≡ 0) where
-    a : lengthCheck (l .sheet) ≡ fine
-    a = no-number (lengthCheck (l .sheet)) r (length-early (l .sheet)) e z
+  module _ (r : Refusal) (e : r ≡ refusalOf (wholeRecords (l .sheet))) (z : r .number ≡ 0) where
+    a : wholeRecords (l .sheet) ≡ fine
+    a = no-number (wholeRecords (l .sheet)) r (length-early (l .sheet)) e z
 
     -- the lengths agree or not
     module _ (agreed : Bool) (o : agreed ≡ (eqb (length (l .rows)) (slotsOf (l .work) * 4) && eqb (length (l .chains)) n)) (s : Refusal)
@@ -90,7 +90,7 @@ module _ (most : ℕ) (l : TreeInput) where
 
       module _ (y : s .number ≡ 0) where
         b : lengths ≡ fine
-        b = no-number lengths s (count-early most n then· lengths-early _) f y
+        b = no-number lengths s (count-early most n then· lengths-early (eqb (length (l .rows)) (slotsOf (l .work) * 4) && eqb (length (l .chains)) n)) f y
 
         pub stop-3 : (t : Refusal) → t ≡ refusalOf records → Numbered t → treeResult most l ≡ refused t
         stop-3 t g h = stages ∙ rw (a, b, is-refused records t g h)

@@ -19,7 +19,7 @@ use Rattle.sheet.proofs.Checked.{all-ranged, records-sound}
 use Rattle.sheet.proofs.Columns.{places-of}
 use Rattle.quadtree.specs.declared.Quadtree.{Quadtree}
 use Rattle.tree.specs.List.{Whole}
-use Rattle.tree.specs.Tree.{Ends, refusedTree, refusedWork, built, Ready}
+use Rattle.tree.specs.Tree.{AfterTree, refusedTree, refusedWork, built, Ready}
 use Rattle.quadtree.specs.declared.build.Built.{Built}
 use Rattle.quadtree.specs.declared.build.Built.the-variants.{Refused}
 use Rattle.quadtree.specs.Build.{particles, Lent, Builds}
@@ -44,7 +44,7 @@ refusal-clears r work a b = rw (ne-eqb (r .number) 0 (λ z. omega arith), le-leb
 
 module _ {l : TreeInput} {o : Outcome (Tree Extent)} {a : TreeAnswer} where
   -- a refusal leaves the lists
-  pub ends-refused : {r : Refusal} {work : List ℕ} → o ≡ refused r → a ≡ refusedTree r → work ≡ refusedWork r (l .work) → Ends l o a (l .rows) (l .chains) work
+  pub ends-refused : {r : Refusal} {work : List ℕ} → o ≡ refused r → a ≡ refusedTree r → work ≡ refusedWork r (l .work) → AfterTree l o a (l .rows) (l .chains) work
   unfolding treeAnswer rowsAfter chainsAfter treeWorkAfter
   ends-refused e h w = rw e (record { answer = h; listed = refl; chained = refl; worked = w })
 
@@ -52,7 +52,7 @@ module _ {l : TreeInput} {o : Outcome (Tree Extent)} {a : TreeAnswer} where
   pub ends-listed : {t : Tree Extent} {rows chains work : List ℕ} → o ≡ done t
       → a ≡ record { refusal = refusal 0 0; nodes = nodes t; extent = extentOf (coverFirst (placesOf (particlesOf (l .sheet))) (countOf (l .sheet))) }
       → rows ≡ padded (length (l .rows)) 0 (flat (rowsOf t)) → chains ≡ padded (length (l .chains)) 0 (chainsOf t) → work ≡ replicate (length (l .work)) 0
-      → Ends l o a rows chains work
+      → AfterTree l o a rows chains work
   unfolding treeAnswer rowsAfter chainsAfter treeWorkAfter zeroesWork
   ends-listed e h r c w = rw e (record { answer = h; listed = r; chained = c; worked = w })
 
@@ -95,7 +95,7 @@ module _ {l : TreeInput} {size : ℕ} {at : List Float} {links tails : ℕ} (d :
 
       -- refused on the way
       pub build-refused : {r : Refusal} {a : TreeAnswer} {work : List ℕ} → treeCheck at (particles at) (length m / 8) ≡ refused r → a ≡ refusedTree r
-          → work ≡ refusedWork r m → Ends l (built l) a (l .rows) (l .chains) work
+          → work ≡ refusedWork r m → AfterTree l (built l) a (l .rows) (l .chains) work
       build-refused {r} c f w =
           let g : treeCheck (placesOf (particlesOf (l .sheet))) n (slotsOf (l .work)) ≡ refused r = rw (← read, ← half, ← slots) c in
           ends-refused (rw g) f (w ∙ rw (tree-clears at (particles at) (length m / 8) r c .1, k))
@@ -114,7 +114,7 @@ module _ {l : TreeInput} {size : ℕ} {at : List Float} {links tails : ℕ} (d :
         -- and is
         pub build-listed : {a : TreeAnswer} {rows chains work : List ℕ} → a ≡ record { refusal = refusal 0 0; nodes = q .nodes; extent = q .extent }
             → rows ≡ padded (length (l .rows)) 0 (flat (rowsOf (treeOf at n))) → chains ≡ padded (length (l .chains)) 0 (chainsOf (treeOf at n))
-            → work ≡ replicate (length m) 0 → Ends l (built l) a rows chains work
+            → work ≡ replicate (length m) 0 → AfterTree l (built l) a rows chains work
         build-listed f r c w =
             let places = placesOf (particlesOf (l .sheet)) in
             let g : treeCheck places n (slotsOf (l .work)) ≡ fine = rw (← read, ← half, ← slots) (s .0) in

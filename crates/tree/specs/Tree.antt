@@ -20,7 +20,7 @@ abbrev pub lent : List ℕ → List ℕ → List ℕ → List ℕ → TreeInput
 lent sheet rows chains work = record { sheet = sheet; rows = rows; chains = chains; work = work }
 
 -- the answer and every lent list after the call, if it comes to this
-pub record Ends (l : TreeInput) (o : Outcome (Tree Extent)) (r : TreeAnswer) (rows chains work : List ℕ) : Type 0 where
+pub record AfterTree (l : TreeInput) (o : Outcome (Tree Extent)) (r : TreeAnswer) (rows chains work : List ℕ) : Type 0 where
   pub answer : r ≡ treeAnswer l o
   pub listed : rows ≡ rowsAfter l o
   pub chained : chains ≡ chainsAfter l o

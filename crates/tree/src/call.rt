@@ -7,9 +7,9 @@ use quadtree::store::clear;
 use rules::Extent;
 use rules::Refusal;
 use rules::TreeAnswer;
-use sheet::length_check;
 use sheet::read_pairs;
 use sheet::records_check;
+use sheet::whole_records;
 ghost use mathlib.Core.Path.{_≡_};
 ghost use mathlib.Core.Bool.{_&&_};
 ghost use Prim.Native.Nat.{_*_, _≤_, _<_, _^_};
@@ -18,7 +18,7 @@ ghost use lib.ListN.{length};
 ghost use Rattle.rules.specs.Outcome.{refusalOf, _then_};
 ghost use Rattle.rules.specs.Refusal.{mostParticles, countCheck, lengthsCheck};
 ghost use Rattle.rules.specs.Calls.{treeResult};
-ghost use Rattle.tree.specs.Tree.{lent, Ends, refusedTree, refusedWork, Passed, built, Ready};
+ghost use Rattle.tree.specs.Tree.{lent, AfterTree, refusedTree, refusedWork, Passed, built, Ready};
 
 // Counts zero and no extent. 6 to 9 clear the work slots, any other refusal leaves them as they were.
 fn refuse(work: &mut [u64], refusal: Refusal) -> TreeAnswer
@@ -88,7 +88,7 @@ fn tree_with(
 ) -> TreeAnswer
     requires { ⌜ Ready (lent (now records) (now rows) (now chains) (now work)) (length (now places)) (length (now next)) (length (now tail)) ⌝ }
     ensures { λ r. ⌜ (let l = lent (now (records .entry)) (now (rows .entry)) (now (chains .entry)) (now (work .entry)) in
-        Ends l (built l) r (now (rows .exit)) (now (chains .exit)) (now (work .exit))) ⌝ }
+        AfterTree l (built l) r (now (rows .exit)) (now (chains .exit)) (now (work .exit))) ⌝ }
 {
     read_pairs(records, 40, 0, places);
     match build(places, next, tail, work) {
@@ -114,7 +114,7 @@ fn tree_with(
 fn tree_passed(records: &[u8], rows: &mut [u32], chains: &mut [u32], work: &mut [u64]) -> TreeAnswer
     requires { ⌜ Passed (lent (now records) (now rows) (now chains) (now work)) ⌝ }
     ensures { λ r. ⌜ (let l = lent (now (records .entry)) (now (rows .entry)) (now (chains .entry)) (now (work .entry)) in
-        Ends l (built l) r (now (rows .exit)) (now (chains .exit)) (now (work .exit))) ⌝ }
+        AfterTree l (built l) r (now (rows .exit)) (now (chains .exit)) (now (work .exit))) ⌝ }
 {
     let n = records.len() / 40;
     let pairs = n * 2;
@@ -142,9 +142,9 @@ pub fn tree_within(
 ) -> TreeAnswer
     requires { ⌜ most ≤ mostParticles ⌝ }
     ensures { λ r. ⌜ (let l = lent (now (records .entry)) (now (rows .entry)) (now (chains .entry)) (now (work .entry)) in
-        Ends l (treeResult most l) r (now (rows .exit)) (now (chains .exit)) (now (work .exit))) ⌝ }
+        AfterTree l (treeResult most l) r (now (rows .exit)) (now (chains .exit)) (now (work .exit))) ⌝ }
 {
-    let bad = length_check(records);
+    let bad = whole_records(records);
     let number = bad.number;
     if number != 0 {
         return refuse(work, bad);
@@ -166,7 +166,7 @@ pub fn tree_within(
 
 pub fn tree(records: &[u8], rows: &mut [u32], chains: &mut [u32], work: &mut [u64]) -> TreeAnswer
     ensures { λ r. ⌜ (let l = lent (now (records .entry)) (now (rows .entry)) (now (chains .entry)) (now (work .entry)) in
-        Ends l (treeResult mostParticles l) r (now (rows .exit)) (now (chains .exit)) (now (work .exit))) ⌝ }
+        AfterTree l (treeResult mostParticles l) r (now (rows .exit)) (now (chains .exit)) (now (work .exit))) ⌝ }
 {
     tree_within(Quadtree::MOST_PARTICLES, records, rows, chains, work)
 }

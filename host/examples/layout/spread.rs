@@ -5,7 +5,7 @@ use talemiku::{particles_of, step, Force, Forces, Lent, Links, Refusal, Settings
 /// How many ticks it takes alpha to come down from 1 to `LEAST`.
 pub const TICKS: u64 = 300;
 const LEAST: f64 = 0.001;
-const SETTINGS: Settings = Settings { target: 0.0, cooling: 0.0228, decay: 0.3 };
+const SETTINGS: Settings = Settings { target: 0.0, alpha_decay: 0.0228, velocity_decay: 0.3 };
 
 /// How many ticks go by between two chances to say how far it is.
 const PORTION: u64 = 5;

@@ -23,7 +23,7 @@ answer d =
     let s = start d in
     answered (input s) (s .args .budget) (tickSettings (input s) (s .args .s) ++ (s .args .least ∷ [])) (d .step-check .result)
     (d .step-check .ensures
-    ∙ ap (λ (a : Float). refusalOf (sheetCheck (lentSheet (s .args .sheet .now) 0 (s .args .forces .now) (s .args .numbers .now) (s .args .links .now) (s .args .draws .now) []) (s .args .budget) ((a ∷ s .args .s .target ∷ s .args .s .cooling ∷ s .args .s .decay ∷ []) ++ (s .args .least ∷ []))))
+    ∙ ap (λ (a : Float). refusalOf (sheetCheck (lentSheet (s .args .sheet .now) 0 (s .args .forces .now) (s .args .numbers .now) (s .args .links .now) (s .args .draws .now) []) (s .args .budget) ((a ∷ s .args .s .target ∷ s .args .s .«alpha_decay» ∷ s .args .s .«velocity_decay» ∷ []) ++ (s .args .least ∷ []))))
     (d .before .float-of .ensures))
 
 returns : tie.Need-returns

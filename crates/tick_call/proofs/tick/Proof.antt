@@ -23,7 +23,7 @@ answer d =
     let s = start d in
     answered (input s) 0 (tickSettings (input s) (s .args .s)) (d .tick-check .result)
     (d .tick-check .ensures
-    ∙ ap (λ (a : Float). refusalOf (sheetCheck (lentSheet (s .args .sheet .now) 0 (s .args .forces .now) (s .args .numbers .now) (s .args .links .now) (s .args .draws .now) []) 0 (a ∷ s .args .s .target ∷ s .args .s .cooling ∷ s .args .s .decay ∷ [])))
+    ∙ ap (λ (a : Float). refusalOf (sheetCheck (lentSheet (s .args .sheet .now) 0 (s .args .forces .now) (s .args .numbers .now) (s .args .links .now) (s .args .draws .now) []) 0 (a ∷ s .args .s .target ∷ s .args .s .«alpha_decay» ∷ s .args .s .«velocity_decay» ∷ [])))
     (d .before .float-of .ensures))
 
 returns : tie.Need-returns

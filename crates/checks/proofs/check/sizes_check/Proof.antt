@@ -1,7 +1,7 @@
 use borrow.Author.Needs.{needs}
 use Rattle.rules.specs.Outcome.{checkEach}
 use Rattle.rules.specs.Refusal.{mostParticles, mostTicks, countCheck}
-use Rattle.rules.specs.Sheet.{countOf, lengthCheck}
+use Rattle.rules.specs.Sheet.{countOf, wholeRecords}
 use Rattle.rules.specs.Tick.{entryCounts, entriesOf}
 use Rattle.checks.proofs.Early.{answer-four}
 use Rattle.checks.proofs.Whole.{prior-length, prior-count}
@@ -16,10 +16,10 @@ returns c =
     let l = p .before in
     let a = l .before .before .args in
     let n = countOf (a .sheet .now) in
-    answer-four (lengthCheck (a .sheet .now)) (countCheck mostParticles n) (countCheck mostTicks (a .ticks)) (checkEach (λ _ e. entryCounts e) (entriesOf (a .forces .now)))
-    (l .length-check .result) (p .count-check .result) (t .count-check2 .result) (d .counts-check .result) (c .before .before .first .result) (c .before .first2 .result) (c .first3 .result)
+    answer-four (wholeRecords (a .sheet .now)) (countCheck mostParticles n) (countCheck mostTicks (a .ticks)) (checkEach (λ _ e. entryCounts e) (entriesOf (a .forces .now)))
+    (l .whole-records .result) (p .count-check .result) (t .count-check2 .result) (d .counts-check .result) (c .before .before .first .result) (c .before .first2 .result) (c .first3 .result)
     (prior-length (a .sheet .now)) (prior-count mostParticles n) (prior-count mostTicks (a .ticks))
-    (l .length-check .ensures) (p .count-check .ensures) (t .count-check2 .ensures) (d .counts-check .ensures) (c .before .before .first .ensures) (c .before .first2 .ensures) (c .first3 .ensures)
+    (l .whole-records .ensures) (p .count-check .ensures) (t .count-check2 .ensures) (d .counts-check .ensures) (c .before .before .first .ensures) (c .before .first2 .ensures) (c .first3 .ensures)
 
 pub sizes-check-spec : {M : Type 1} → statement M
 sizes-check-spec =

@@ -14,7 +14,7 @@ returns c =
     let t = e .before in
     let a = t .before .before .before .before .before .args in
     let l = lentSheet (a .sheet .now) 0 (a .forces .now) (a .numbers .now) (a .links .now) (a .draws .now) [] in
-    let four = a .alpha ∷ a .s .target ∷ a .s .cooling ∷ a .s .decay ∷ [] in
+    let four = a .alpha ∷ a .s .target ∷ a .s .«alpha_decay» ∷ a .s .«velocity_decay» ∷ [] in
     answered-settings l (a .budget) (four ++ (a .least ∷ [])) (i .input-check .result) (f .first .result) (c .first2 .result) (i .input-check .ensures)
     (answer-settings four (a .least ∷ []) (t .tick-settings .result) (e .setting-check .result) (f .first .result) (t .tick-settings .ensures) (e .setting-check .ensures) (f .first .ensures))
     (c .first2 .ensures)

@@ -11,7 +11,7 @@ returns c =
     let i = t .before in
     let a = i .before .before .before .before .before .args in
     let l = lentSheet (a .sheet .now) 0 (a .forces .now) (a .numbers .now) (a .links .now) (a .draws .now) [] in
-    answered-settings l 0 (a .alpha ∷ a .s .target ∷ a .s .cooling ∷ a .s .decay ∷ []) (i .input-check .result) (t .tick-settings .result) (c .first .result)
+    answered-settings l 0 (a .alpha ∷ a .s .target ∷ a .s .«alpha_decay» ∷ a .s .«velocity_decay» ∷ []) (i .input-check .result) (t .tick-settings .result) (c .first .result)
     (i .input-check .ensures) (t .tick-settings .ensures) (c .first .ensures)
 
 pub tick-check-spec : {M : Type 1} → statement M

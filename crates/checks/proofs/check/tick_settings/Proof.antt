@@ -9,7 +9,7 @@ returns c =
     let t = c .before in
     let o = t .before in
     let a = o .before .args in
-    answer-settings (a .alpha ∷ []) (a .s .target ∷ a .s .cooling ∷ a .s .decay ∷ []) (o .setting-check .result) (t .settings-check .result) (c .first .result)
+    answer-settings (a .alpha ∷ []) (a .s .target ∷ a .s .«alpha_decay» ∷ a .s .«velocity_decay» ∷ []) (o .setting-check .result) (t .settings-check .result) (c .first .result)
     (o .setting-check .ensures) (t .settings-check .ensures) (c .first .ensures)
 
 pub tick-settings-spec : {M : Type 1} → statement M

@@ -8,25 +8,25 @@ use Rattle.tree.proofs.call.tree_within.Tie as tie
 returns : tie.Need-returns
 returns c =
     let f = c .before .before .refuse .ensures in
-    ends-refused (stop-1 _ _ _ (c .before .before .before .before .before .length-check .ensures) (c .before .before .before .before .if1 .taken)) (f .0) (f .1)
+    ends-refused (stop-1 _ _ _ (c .before .before .before .before .before .whole-records .ensures) (c .before .before .before .before .if1 .taken)) (f .0) (f .1)
 
 returns-2 : tie.Need-returns-2
 returns-2 c =
     let f = c .before .before .refuse2 .ensures in
-    ends-refused (stop-2 _ _ _ (c .before .before .before .before .before .before .before .before .length-check .ensures) (c .before .before .before .before .before .before .before .if1 .left) _ (c .before .before .before .before .before .before .agree .ensures) _ (c .before .before .before .before .before .lent-check .ensures) (c .before .before .before .before .if2 .taken)) (f .0) (f .1)
+    ends-refused (stop-2 _ _ _ (c .before .before .before .before .before .before .before .before .whole-records .ensures) (c .before .before .before .before .before .before .before .if1 .left) _ (c .before .before .before .before .before .before .agree .ensures) _ (c .before .before .before .before .before .lent-check .ensures) (c .before .before .before .before .if2 .taken)) (f .0) (f .1)
 
 returns-3 : tie.Need-returns-3
 returns-3 c =
     let f = c .before .before .refuse3 .ensures in
-    ends-refused (stop-3 _ _ _ (c .before .before .before .before .before .before .before .before .before .before .length-check .ensures) (c .before .before .before .before .before .before .before .before .before .if1 .left) _ (c .before .before .before .before .before .before .before .before .agree .ensures) _ (c .before .before .before .before .before .before .before .lent-check .ensures) (c .before .before .before .before .before .before .if2 .left) _ (c .before .before .before .before .before .records-check .ensures) (c .before .before .before .before .if3 .taken)) (f .0) (f .1)
+    ends-refused (stop-3 _ _ _ (c .before .before .before .before .before .before .before .before .before .before .whole-records .ensures) (c .before .before .before .before .before .before .before .before .before .if1 .left) _ (c .before .before .before .before .before .before .before .before .agree .ensures) _ (c .before .before .before .before .before .before .before .lent-check .ensures) (c .before .before .before .before .before .before .if2 .left) _ (c .before .before .before .before .before .records-check .ensures) (c .before .before .before .before .if3 .taken)) (f .0) (f .1)
 
 tree-passed-requires : tie.Need-tree-passed-requires
-tree-passed-requires c κs = passed _ _ _ (c .before .before .before .before .before .before .before .before .before .length-check .ensures) (c .before .before .before .before .before .before .before .before .if1 .left) _ (c .before .before .before .before .before .before .before .agree .ensures) _ (c .before .before .before .before .before .before .lent-check .ensures) (c .before .before .before .before .before .if2 .left) _ (c .before .before .before .before .records-check .ensures) (c .before .before .before .if3 .left) (c .before .before .before .before .before .before .before .before .before .before .before .before .before .before .pre)
+tree-passed-requires c κs = passed _ _ _ (c .before .before .before .before .before .before .before .before .before .whole-records .ensures) (c .before .before .before .before .before .before .before .before .if1 .left) _ (c .before .before .before .before .before .before .before .agree .ensures) _ (c .before .before .before .before .before .before .lent-check .ensures) (c .before .before .before .before .before .if2 .left) _ (c .before .before .before .before .records-check .ensures) (c .before .before .before .if3 .left) (c .before .before .before .before .before .before .before .before .before .before .before .before .before .before .pre)
 
 returns-4 : tie.Need-returns-4
 returns-4 c =
     let a = c .before .before .before .before .before .before .before .before .before .before .before .before .before .before .before .before .before .before .before .before .before .args in
-    rw (goes-on (a .most) (lent (a .records .now) (a .rows .now) (a .chains .now) (a .work .now)) _ (c .before .before .before .before .before .before .before .before .before .before .before .before .before .before .before .before .length-check .ensures) (c .before .before .before .before .before .before .before .before .before .before .before .before .before .before .before .if1 .left) _ (c .before .before .before .before .before .before .before .before .before .before .before .before .before .before .agree .ensures) _ (c .before .before .before .before .before .before .before .before .before .before .before .before .before .lent-check .ensures) (c .before .before .before .before .before .before .before .before .before .before .before .before .if2 .left) _ (c .before .before .before .before .before .before .before .before .before .before .before .records-check .ensures) (c .before .before .before .before .before .before .before .before .before .before .if3 .left))
+    rw (goes-on (a .most) (lent (a .records .now) (a .rows .now) (a .chains .now) (a .work .now)) _ (c .before .before .before .before .before .before .before .before .before .before .before .before .before .before .before .before .whole-records .ensures) (c .before .before .before .before .before .before .before .before .before .before .before .before .before .before .before .if1 .left) _ (c .before .before .before .before .before .before .before .before .before .before .before .before .before .before .agree .ensures) _ (c .before .before .before .before .before .before .before .before .before .before .before .before .before .lent-check .ensures) (c .before .before .before .before .before .before .before .before .before .before .before .before .if2 .left) _ (c .before .before .before .before .before .before .before .before .before .before .before .records-check .ensures) (c .before .before .before .before .before .before .before .before .before .before .if3 .left))
     (c .before .before .before .before .before .before .tree-passed .ensures)
 
 pub tree-within-spec : {M : Type 1} → statement M
