@@ -7,7 +7,6 @@ use crate::lists::read_words;
 use crate::lists::same_bytes;
 use crate::lists::same_words;
 use crate::sample::argument;
-use crate::sample::lent;
 use number::float_of;
 use rules::Counts;
 
@@ -62,21 +61,14 @@ fn call(
 fn run(
     case: &[u8],
     kind: u64,
-    places: &mut [f64],
-    draws: &mut [f64],
+    places: &[f64],
+    draws: &[f64],
     buffer: &mut [u8],
     work: &mut [u64],
-    links: &mut [u32],
-    strengths: &mut [f64],
-    distances: &mut [f64],
+    links: &[u32],
+    strengths: &[f64],
+    distances: &[f64],
 ) -> bool {
-    read_numbers(case, 3, places);
-    read_numbers(case, 4, draws);
-    read_bytes(case, 5, buffer);
-    read_words(case, 7, work);
-    read_halves(case, 9, links);
-    read_numbers(case, 10, strengths);
-    read_numbers(case, 11, distances);
     let a = call(
         case,
         kind,
@@ -100,22 +92,22 @@ pub fn force_is_right(case: &[u8], kind: u64) -> bool {
     let mut links = [0u32; 16386];
     let mut strengths = [0.0f64; 8193];
     let mut distances = [0.0f64; 8193];
-    let places_lent = lent(case, 3, 8194);
-    let draws_lent = lent(case, 4, 64);
-    let buffer_lent = lent(case, 5, 65536);
-    let work_lent = lent(case, 7, 648);
-    let links_lent = lent(case, 9, 16386);
-    let strengths_lent = lent(case, 10, 8193);
-    let distances_lent = lent(case, 11, 8193);
+    let places_lent = read_numbers(case, 3, &mut places);
+    let draws_lent = read_numbers(case, 4, &mut draws);
+    let buffer_lent = read_bytes(case, 5, &mut buffer);
+    let work_lent = read_words(case, 7, &mut work);
+    let links_lent = read_halves(case, 9, &mut links);
+    let strengths_lent = read_numbers(case, 10, &mut strengths);
+    let distances_lent = read_numbers(case, 11, &mut distances);
     run(
         case,
         kind,
-        &mut places[..places_lent],
-        &mut draws[..draws_lent],
+        &places[..places_lent],
+        &draws[..draws_lent],
         &mut buffer[..buffer_lent],
         &mut work[..work_lent],
-        &mut links[..links_lent],
-        &mut strengths[..strengths_lent],
-        &mut distances[..distances_lent],
+        &links[..links_lent],
+        &strengths[..strengths_lent],
+        &distances[..distances_lent],
     )
 }

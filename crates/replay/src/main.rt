@@ -1,19 +1,19 @@
 // Runs a stored sample of the Rust's answers through the entries: a case is right if the answer and every lent buffer after the call are what the sample
 // says. Writes, kind by kind, how many of how many are right. beside/pack makes the sample and says how it is laid out.
-ghost use Prim.Native.Nat.{_≤_};
+ghost use Prim.Native.Nat.{_<_, _≤_};
 ghost use lib.ListN.{length};
 use crate::forces::force_is_right;
 use crate::numbers::floor_is_right;
 use crate::numbers::root_is_right;
 use crate::sample::word_of;
-use crate::ticks::sheet_is_right;
+use crate::sheets::sheet_is_right;
 use crate::trees::tree_is_right;
 
 mod forces;
 mod lists;
 mod numbers;
 mod sample;
-mod ticks;
+mod sheets;
 mod trees;
 
 const KINDS: usize = 8;
@@ -80,23 +80,26 @@ fn replay(space: &mut [u8], right: &mut [u64; KINDS], all: &mut [u64; KINDS]) {
     }
 }
 
-fn report(kind: &[u8], right: u64, all: u64) {
-    io::write_all(1, kind);
-    io::print_decimal(1, right);
+// How many of all cases of a kind are right.
+fn report(name: &[u8], right: &[u64; KINDS], all: &[u64; KINDS], kind: usize)
+    requires { ⌜ kind < 8 ⌝ }
+{
+    io::write_all(1, name);
+    io::print_decimal(1, right[kind]);
     io::write_all(1, b" of ");
-    io::print_decimal(1, all);
+    io::print_decimal(1, all[kind]);
     io::write_all(1, b"\n");
 }
 
 fn report_all(right: &[u64; KINDS], all: &[u64; KINDS]) {
-    report(b"floors ", right[0], all[0]);
-    report(b"roots ", right[1], all[1]);
-    report(b"trees ", right[2], all[2]);
-    report(b"Link ", right[3], all[3]);
-    report(b"ManyBody ", right[4], all[4]);
-    report(b"Collide ", right[5], all[5]);
-    report(b"ticks ", right[6], all[6]);
-    report(b"steps ", right[7], all[7]);
+    report(b"floors ", right, all, 0);
+    report(b"roots ", right, all, 1);
+    report(b"trees ", right, all, 2);
+    report(b"Link ", right, all, 3);
+    report(b"ManyBody ", right, all, 4);
+    report(b"Collide ", right, all, 5);
+    report(b"ticks ", right, all, 6);
+    report(b"steps ", right, all, 7);
 }
 
 // A case in the sample has fewer than 4,096 bytes.

@@ -4,7 +4,6 @@ use crate::lists::read_halves;
 use crate::lists::read_words;
 use crate::lists::same_halves;
 use crate::lists::same_words;
-use crate::sample::lent;
 use number::bits_of;
 use rules::TreeAnswer;
 
@@ -26,17 +25,7 @@ fn ended_right(case: &[u8], a: TreeAnswer, rows: &[u32], chains: &[u32], work: &
         && same_words(case, 8, work)
 }
 
-fn run(
-    case: &[u8],
-    sheet: &mut [u8],
-    rows: &mut [u32],
-    chains: &mut [u32],
-    work: &mut [u64],
-) -> bool {
-    read_bytes(case, 2, sheet);
-    read_halves(case, 3, rows);
-    read_halves(case, 5, chains);
-    read_words(case, 7, work);
+fn run(case: &[u8], sheet: &[u8], rows: &mut [u32], chains: &mut [u32], work: &mut [u64]) -> bool {
     let a = talemiku::talemiku_tree(sheet, rows, chains, work);
     ended_right(case, a, rows, chains, work)
 }
@@ -47,13 +36,13 @@ pub fn tree_is_right(case: &[u8]) -> bool {
     let mut rows = [0u32; 324];
     let mut chains = [0u32; 4097];
     let mut work = [0u64; 648];
-    let sheet_lent = lent(case, 2, 163880);
-    let rows_lent = lent(case, 3, 324);
-    let chains_lent = lent(case, 5, 4097);
-    let work_lent = lent(case, 7, 648);
+    let sheet_lent = read_bytes(case, 2, &mut sheet);
+    let rows_lent = read_halves(case, 3, &mut rows);
+    let chains_lent = read_halves(case, 5, &mut chains);
+    let work_lent = read_words(case, 7, &mut work);
     run(
         case,
-        &mut sheet[..sheet_lent],
+        &sheet[..sheet_lent],
         &mut rows[..rows_lent],
         &mut chains[..chains_lent],
         &mut work[..work_lent],

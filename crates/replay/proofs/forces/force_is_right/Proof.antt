@@ -1,6 +1,5 @@
 use borrow.Author.Needs.{needs}
-use mathlib.Core.Path.{sym}
-use Rattle.quadtree.proofs.Fill.{room}
+use Rattle.replay.proofs.Room.{has-room, lent-part}
 use Rattle.replay.proofs.forces.force_is_right.Statement.{statement}
 use Rattle.replay.proofs.forces.force_is_right.Tie as tie
 
@@ -8,26 +7,33 @@ pub force-is-right-spec : {M : Type 1} → statement M
 force-is-right-spec =
     tie.close
     (tie.spec
-    (λ c κs. search needs)
-    (λ c κs. search needs)
-    (λ c κs. search needs)
-    (λ c κs. search needs)
-    (λ c κs. search needs)
-    (λ c κs. search needs)
+    (λ c. search needs)
     (λ c κs. search needs)
     (λ c. search needs)
-    (λ c. sym (room _ _ _ (c .before .before .before .before .before .before .before .lent .ensures)))
+    (λ c κs. search needs)
     (λ c. search needs)
-    (λ c. sym (room _ _ _ (c .before .before .before .before .before .before .before .lent2 .ensures)))
+    (λ c κs. search needs)
     (λ c. search needs)
-    (λ c. sym (room _ _ _ (c .before .before .before .before .before .before .before .lent3 .ensures)))
+    (λ c κs. search needs)
     (λ c. search needs)
-    (λ c. sym (room _ _ _ (c .before .before .before .before .before .before .before .lent4 .ensures)))
+    (λ c κs. search needs)
     (λ c. search needs)
-    (λ c. sym (room _ _ _ (c .before .before .before .before .before .before .before .lent5 .ensures)))
+    (λ c κs. search needs)
     (λ c. search needs)
-    (λ c. sym (room _ _ _ (c .before .before .before .before .before .before .before .lent6 .ensures)))
-    (λ c. search needs)
-    (λ c. sym (room _ _ _ (c .before .before .before .before .before .before .before .lent7 .ensures)))
+    (λ c κs. search needs)
+    (λ c. has-room _ (c .before .before .before .before .before .before .before .before .before .before .before .before .before .before .before .before .before .before .before .read-numbers .last .1 .1 .0) _ (c .before .before .before .before .before .before .before .before .before .before .before .before .before .before .before .before .before .before .before .read-numbers .kept .1 .1 .0) (c .before .before .before .before .before .before .before .before .before .before .before .before .before .before .before .before .before .before .before .read-numbers .ensures))
+    (λ c. lent-part _ (c .before .before .before .before .before .before .before .before .before .before .before .before .before .before .before .before .before .before .before .before .read-numbers .last .1 .1 .0) _ (c .before .before .before .before .before .before .before .before .before .before .before .before .before .before .before .before .before .before .before .before .read-numbers .kept .1 .1 .0) (c .before .before .before .before .before .before .before .before .before .before .before .before .before .before .before .before .before .before .before .before .read-numbers .ensures))
+    (λ c. has-room _ (c .before .before .before .before .before .before .before .before .before .before .before .before .before .before .before .before .before .read-numbers2 .last .1 .1 .0) _ (c .before .before .before .before .before .before .before .before .before .before .before .before .before .before .before .before .before .read-numbers2 .kept .1 .1 .0) (c .before .before .before .before .before .before .before .before .before .before .before .before .before .before .before .before .before .read-numbers2 .ensures))
+    (λ c. lent-part _ (c .before .before .before .before .before .before .before .before .before .before .before .before .before .before .before .before .before .before .read-numbers2 .last .1 .1 .0) _ (c .before .before .before .before .before .before .before .before .before .before .before .before .before .before .before .before .before .before .read-numbers2 .kept .1 .1 .0) (c .before .before .before .before .before .before .before .before .before .before .before .before .before .before .before .before .before .before .read-numbers2 .ensures))
+    (λ c. has-room _ (c .before .before .before .before .before .before .before .before .before .before .before .before .before .before .before .read-bytes .last .1 .1 .0) _ (c .before .before .before .before .before .before .before .before .before .before .before .before .before .before .before .read-bytes .kept .1 .1 .0) (c .before .before .before .before .before .before .before .before .before .before .before .before .before .before .before .read-bytes .ensures))
+    (λ c. lent-part _ (c .before .before .before .before .before .before .before .before .before .before .before .before .before .before .before .before .read-bytes .last .1 .1 .0) _ (c .before .before .before .before .before .before .before .before .before .before .before .before .before .before .before .before .read-bytes .kept .1 .1 .0) (c .before .before .before .before .before .before .before .before .before .before .before .before .before .before .before .before .read-bytes .ensures))
+    (λ c. has-room _ (c .before .before .before .before .before .before .before .before .before .before .before .before .before .read-words .last .1 .1 .0) _ (c .before .before .before .before .before .before .before .before .before .before .before .before .before .read-words .kept .1 .1 .0) (c .before .before .before .before .before .before .before .before .before .before .before .before .before .read-words .ensures))
+    (λ c. lent-part _ (c .before .before .before .before .before .before .before .before .before .before .before .before .before .before .read-words .last .1 .1 .0) _ (c .before .before .before .before .before .before .before .before .before .before .before .before .before .before .read-words .kept .1 .1 .0) (c .before .before .before .before .before .before .before .before .before .before .before .before .before .before .read-words .ensures))
+    (λ c. has-room _ (c .before .before .before .before .before .before .before .before .before .before .before .read-halves .last .1 .1 .0) _ (c .before .before .before .before .before .before .before .before .before .before .before .read-halves .kept .1 .1 .0) (c .before .before .before .before .before .before .before .before .before .before .before .read-halves .ensures))
+    (λ c. lent-part _ (c .before .before .before .before .before .before .before .before .before .before .before .before .read-halves .last .1 .1 .0) _ (c .before .before .before .before .before .before .before .before .before .before .before .before .read-halves .kept .1 .1 .0) (c .before .before .before .before .before .before .before .before .before .before .before .before .read-halves .ensures))
+    (λ c. has-room _ (c .before .before .before .before .before .before .before .before .before .read-numbers3 .last .1 .1 .0) _ (c .before .before .before .before .before .before .before .before .before .read-numbers3 .kept .1 .1 .0) (c .before .before .before .before .before .before .before .before .before .read-numbers3 .ensures))
+    (λ c. lent-part _ (c .before .before .before .before .before .before .before .before .before .before .read-numbers3 .last .1 .1 .0) _ (c .before .before .before .before .before .before .before .before .before .before .read-numbers3 .kept .1 .1 .0) (c .before .before .before .before .before .before .before .before .before .before .read-numbers3 .ensures))
+    (λ c. has-room _ (c .before .before .before .before .before .before .before .read-numbers4 .last .1 .1 .0) _ (c .before .before .before .before .before .before .before .read-numbers4 .kept .1 .1 .0) (c .before .before .before .before .before .before .before .read-numbers4 .ensures))
+    (λ c. lent-part _ (c .before .before .before .before .before .before .before .before .read-numbers4 .last .1 .1 .0) _ (c .before .before .before .before .before .before .before .before .read-numbers4 .kept .1 .1 .0) (c .before .before .before .before .before .before .before .before .read-numbers4 .ensures))
     (λ c κs. search needs)
     (λ c. search needs))

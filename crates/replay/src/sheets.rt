@@ -7,7 +7,6 @@ use crate::lists::read_words;
 use crate::lists::same_bytes;
 use crate::lists::same_words;
 use crate::sample::argument;
-use crate::sample::lent;
 use number::float_of;
 use rules::Counts;
 use rules::StepAnswer;
@@ -97,18 +96,12 @@ fn run(
     case: &[u8],
     step: bool,
     sheet: &mut [u8],
-    forces: &mut [u64; 56],
-    numbers: &mut [f64],
-    links: &mut [u32],
-    draws: &mut [f64],
+    forces: &[u64; 56],
+    numbers: &[f64],
+    links: &[u32],
+    draws: &[f64],
     work: &mut [u64],
 ) -> bool {
-    read_bytes(case, 3, sheet);
-    read_words(case, 5, forces);
-    read_numbers(case, 6, numbers);
-    read_halves(case, 7, links);
-    read_numbers(case, 8, draws);
-    read_words(case, 9, work);
     let mut alpha = argument(case, 0);
     let a = call(
         case,
@@ -132,19 +125,20 @@ pub fn sheet_is_right(case: &[u8], step: bool) -> bool {
     let mut links = [0u32; 256];
     let mut draws = [0.0f64; 64];
     let mut work = [0u64; 648];
-    let sheet_lent = lent(case, 3, 163880);
-    let numbers_lent = lent(case, 6, 256);
-    let links_lent = lent(case, 7, 256);
-    let draws_lent = lent(case, 8, 64);
-    let work_lent = lent(case, 9, 648);
+    let sheet_lent = read_bytes(case, 3, &mut sheet);
+    read_words(case, 5, &mut forces);
+    let numbers_lent = read_numbers(case, 6, &mut numbers);
+    let links_lent = read_halves(case, 7, &mut links);
+    let draws_lent = read_numbers(case, 8, &mut draws);
+    let work_lent = read_words(case, 9, &mut work);
     run(
         case,
         step,
         &mut sheet[..sheet_lent],
-        &mut forces,
-        &mut numbers[..numbers_lent],
-        &mut links[..links_lent],
-        &mut draws[..draws_lent],
+        &forces,
+        &numbers[..numbers_lent],
+        &links[..links_lent],
+        &draws[..draws_lent],
         &mut work[..work_lent],
     )
 }
