@@ -3,8 +3,8 @@ use checks::entry::entry_at;
 use checks::entry::links_needed;
 use checks::entry::numbers_needed;
 use force::Ran;
-use rules::Refusal;
 use stages::stage::stage;
+use stages::stage::untouched;
 ghost use Prim.Native.Nat.{_+_, _/_, _<_, _^_};
 ghost use lib.ListN.{length};
 ghost use Rattle.rules.specs.Outcome.{foldStages};
@@ -66,12 +66,5 @@ pub fn run_slots(
         b = b + links_needed(e) * 2;
         i = i + 1;
     }
-    Ran {
-        refusal: Refusal {
-            number: 0,
-            place: 0,
-        },
-        used: spent,
-        visits: seen,
-    }
+    untouched(spent, seen)
 }

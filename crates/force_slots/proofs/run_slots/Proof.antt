@@ -126,8 +126,9 @@ loop-again c =
 returns-2 : tie.Need-returns-2 Inv-loop μ-loop
 unfolding stagedOf standing zeroesWork
 returns-2 c =
-    let l = c .before .loop in
-    let a = c .before .before .before .before .before .before .before .before .before .before .before .args in
+    rw (c .untouched .ensures)
+    (let l = c .before .before .loop in
+    let a = c .before .before .before .before .before .before .before .before .before .before .before .before .args in
     record {
       is =
           sym (l .inv .10 ∙ ap (foldStages (forceStage (length (a .work .now) / 8)) _) (left-none (length (a .flags .now)) (a .forces .now) (a .numbers .now) (a .links .now) (l .i) (l .a) (l .b) (omega arith)));
@@ -135,7 +136,7 @@ returns-2 c =
       late = refl;
       few = λ _. omega (arith, l .inv .9, l .inv .0 .some);
       ranged = λ _. l .inv .1 .ranged;
-    }
+    })
 
 pub run-slots-spec : {M : Type 1} → statement M
 run-slots-spec =
@@ -168,9 +169,10 @@ run-slots-spec =
     (λ c. omega arith)
     (λ c. omega arith)
     loop-again
-    (λ c. c .before .loop .inv .3)
-    (λ c. c .before .loop .inv .4)
-    (λ c. c .before .loop .inv .5)
-    (λ c. c .before .loop .inv .6)
-    (λ c. c .before .loop .inv .7)
+    (λ c κs. tt)
+    (λ c. c .before .before .loop .inv .3)
+    (λ c. c .before .before .loop .inv .4)
+    (λ c. c .before .before .loop .inv .5)
+    (λ c. c .before .before .loop .inv .6)
+    (λ c. c .before .before .loop .inv .7)
     returns-2)
