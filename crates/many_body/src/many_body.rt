@@ -75,8 +75,7 @@ fn pull(
         count += 1;
         let r = meet(t, at, vs, strengths, alpha, i, next, m, s, c, draws, spent);
         spent = r.used;
-        let dry = r.dry;
-        if dry {
+        if r.dry {
             return Ran {
                 refusal: Refusal {
                     number: 8,
