@@ -2,9 +2,8 @@
 
 use crate::case::{Force, Record};
 use crate::fence::Fenced;
-use crate::lent::{expect, few, lengths_rule, refused, require, same, zeroes_work, Layout, Line, WORK};
+use crate::lent::{expect, lengths_rule, refused, require, same, zeroes_work, Layout, Line, WORK};
 use talemiku::raw::{self, Counts};
-use talemiku::SLOT_WORDS;
 
 #[derive(Clone, Copy, PartialEq)]
 enum Kind {
@@ -113,9 +112,9 @@ impl Call {
         Ok(Left { counts, buffer })
     }
 
-    /// The same with lengths that disagree: a part that reaches past the buffer, a place or a link's end without its other. None comes so far that it would want slots.
+    /// The same with lengths that disagree: a part that reaches past the buffer, a place or a link's end without its other.
     fn varied(&self) -> Vec<Call> {
-        let mut all = vec![Call { work: few(&self.work, SLOT_WORDS), ..self.clone() }; 5];
+        let mut all = vec![self.clone(); 5];
         all[0].places.push(0.5);
         all[1].start = usize::MAX - self.iterations % 40;
         all[2].start = self.buffer.len() + 1;

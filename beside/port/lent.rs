@@ -47,11 +47,6 @@ impl Layout {
     }
 }
 
-/// Some of a list's first elements.
-pub fn few<A: Clone>(list: &[A], count: usize) -> Vec<A> {
-    list.iter().take(count).cloned().collect()
-}
-
 pub fn refused(refusal: Refusal) -> String {
     format!("refused {} {}", refusal.number, refusal.place)
 }

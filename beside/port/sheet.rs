@@ -2,10 +2,10 @@
 
 use crate::case::{Force, Tick};
 use crate::fence::Fenced;
-use crate::lent::{expect, few, lengths_rule, refused, require, same, zeroes_work, Layout, Line, BAD_LENGTH, WORK};
+use crate::lent::{expect, lengths_rule, refused, require, same, zeroes_work, Layout, Line, BAD_LENGTH, WORK};
 use crate::tree::sheet;
 use talemiku::raw::{self, StepAnswer};
-use talemiku::{particles_of, Forces, Links, RECORD_BYTES, SLOT_WORDS};
+use talemiku::{particles_of, Forces, Links, RECORD_BYTES};
 
 /// What a tick or a step is lent.
 #[derive(Clone)]
@@ -133,9 +133,9 @@ impl Call {
         require(sheet == self.sheet && alpha == self.alpha.to_bits(), "sheet or alpha are changed", number)
     }
 
-    /// The same with lengths that disagree; the first two are bad lengths of the sheet. None comes so far that it would want slots.
+    /// The same with lengths that disagree; the first two are bad lengths of the sheet.
     fn varied(&self) -> Vec<Call> {
-        let mut all = vec![Call { work: few(&self.work, SLOT_WORDS), ..self.clone() }; 4];
+        let mut all = vec![self.clone(); 4];
         all[0].sheet.push(0);
         all[1].sheet.extend(vec![0; 39]);
         all[2].forces.links.resize(self.forces.links.len() / 2 * 2 + 1, 0);

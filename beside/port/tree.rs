@@ -2,9 +2,9 @@
 
 use crate::case::Record;
 use crate::fence::Fenced;
-use crate::lent::{expect, few, lengths_rule, refused, require, zeroes_work, Layout, Line, BAD_LENGTH, RESULT, WORK};
+use crate::lent::{expect, lengths_rule, refused, require, zeroes_work, Layout, Line, BAD_LENGTH, RESULT, WORK};
 use talemiku::raw::{self, TreeAnswer};
-use talemiku::{Particle, ROW_NUMBERS, SLOT_WORDS};
+use talemiku::{Particle, ROW_NUMBERS};
 
 /// What the call is lent.
 #[derive(Clone)]
@@ -53,11 +53,9 @@ impl Call {
         Ok(Left { answer, rows, chains })
     }
 
-    /// The same with one slot and its row, and lengths that disagree; the first two are bad lengths of the sheet.
+    /// The same with lengths that disagree; the first two are bad lengths of the sheet.
     fn varied(&self) -> Vec<Call> {
-        let slots = 1.min(self.work.len() / SLOT_WORDS);
-        let small = Call { rows: few(&self.rows, slots * ROW_NUMBERS), work: few(&self.work, slots * SLOT_WORDS), ..self.clone() };
-        let mut all = vec![small; 6];
+        let mut all = vec![self.clone(); 6];
         all[0].sheet.push(0);
         all[1].sheet.extend(vec![0; 39]);
         all[2].rows.push(RESULT);
@@ -65,8 +63,8 @@ impl Call {
         all[4].chains.push(RESULT);
         all[5].work.extend([WORK; 8]);
         if !self.chains.is_empty() {
-            let mut shorter = all[4].clone();
-            shorter.chains.truncate(self.chains.len() - 1);
+            let mut shorter = self.clone();
+            shorter.chains.pop();
             all.push(shorter);
         }
         all
