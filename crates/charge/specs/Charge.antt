@@ -5,8 +5,8 @@ use lib.ListN.{length}
 use lib.Ieee.{Float}
 use Rattle.rules.specs.ManyBody as Rule
 use Rattle.rules.specs.ManyBody.{charge, leafCharge, nodeCharge}
-use Rattle.quadtree.specs.declared.Quadtree.{Quadtree}
-use Rattle.quadtree.specs.Slots.{value, putValue}
+use Rattle.slots.specs.declared.Quadtree.{Quadtree}
+use Rattle.slots.specs.Trees.{value, putValue}
 use Rattle.walk.specs.Walk.{EachBelow, ChainFrom}
 use Rattle.walk.specs.WalkAfter.{Valued}
 use Rattle.charge.specs.declared.Charge.{Charge}

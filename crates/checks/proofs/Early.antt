@@ -15,9 +15,9 @@ use Rattle.rules.specs.Number.{within, distanceRange}
 use Rattle.rules.specs.Outcome.{Check, done, refused, fine, require, _then_, _>>=_, refusalOf, checkFrom}
 use Rattle.rules.specs.Refusal.{mostLinks, mostIterations, countCheck, strengthsCheck, distancesCheck, settingsCheck}
 use Rattle.rules.specs.Tick.{byKind, entryCounts}
-use Rattle.force.specs.Calls.{firstOf}
-use Rattle.force.proofs.Scans.{Early, Real, real-require, real-then, real-all}
-use Rattle.force.proofs.Called.{real-settings}
+use Rattle.lists.specs.Checks.{firstOf}
+use Rattle.lists.proofs.Scans.{Early, Real, real-require, real-then, real-all}
+use Rattle.lists.proofs.Checks.{real-settings}
 use Rattle.checks.specs.Parts.{ownRanges}
 
 -- ---- a check that refuses by 1 to 5, or by 10

@@ -14,7 +14,7 @@ use Rattle.rules.specs.Outcome.{Check, done, refused, fine, _then_, _>>=_, chec
 use Rattle.rules.specs.Refusal.{mostLinks, mostIterations, countCheck}
 use Rattle.rules.specs.Force.{noneOr}
 use Rattle.rules.specs.Tick.{entryAt, entriesFrom, entriesOf, entryCounts, strengthsRight, numbersNeeded, linksNeeded}
-use Rattle.force.proofs.Called.{then-both, require-true, and-both}
+use Rattle.lists.proofs.Checks.{then-both, require-true, and-both}
 
 -- the entries from slot i on
 abbrev pub entriesLeft : List ℕ → ℕ → List ForceEntry

@@ -15,7 +15,7 @@ use Rattle.rules.specs.Link.{Ends}
 use Rattle.rules.specs.Force.{endsFrom, endsOf, endsRange}
 use Rattle.rules.specs.Tick.{entryAt, entriesOf, numbersNeeded, linksNeeded, forceOf, forcesFrom, forceEnds, forceRanges}
 use Rattle.sheet.proofs.Checked.{then-stays}
-use Rattle.force.proofs.Scans.{Real, passes}
+use Rattle.lists.proofs.Scans.{Real, passes}
 use Rattle.checks.specs.Parts.{eachPart, ownEnds, ownRanges, endsEach, rangesEach}
 use Rattle.checks.proofs.Entries.{entriesLeft, entries-left, entries-none, Summed, summed-start, summed-fits, summed-on, bind-then}
 

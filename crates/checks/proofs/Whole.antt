@@ -20,9 +20,9 @@ use Rattle.rules.specs.Refusal.{mostParticles, mostTicks, countCheck, lengthsCh
 use Rattle.rules.specs.Sheet.{recordSize, countOf, particlesOf, wholeRecords, recordCheck, recordsCheck}
 use Rattle.rules.specs.Force.{endsOf, endsRange, pushEnds, pushRanges}
 use Rattle.rules.specs.Tick.{SheetInput, Force, empty, push, center, unknown, entryCounts, strengthsRight, numbersNeeded, linksNeeded, entriesOf, forceEnds, forceRanges, count, entries, forces, listLengths, sheetCheck}
-use Rattle.force.specs.Calls.{firstOf}
-use Rattle.force.proofs.Scans.{Early, Real, real-require, real-all, stops}
-use Rattle.force.proofs.Called.{then-both, require-true, and-both, early-keeps, real-settings, real-ends, real-ranges}
+use Rattle.lists.specs.Checks.{firstOf}
+use Rattle.lists.proofs.Scans.{Early, Real, real-require, real-all, stops}
+use Rattle.lists.proofs.Checks.{then-both, require-true, and-both, early-keeps, real-settings, real-ends, real-ranges}
 use Rattle.checks.specs.Fits.{Fits}
 use Rattle.checks.specs.Parts.{ownEnds, ownRanges, eachPart, endsEach, rangesEach}
 use Rattle.checks.specs.Input.{lentSheet, sizesCheck, contentsCheck}

@@ -1,7 +1,7 @@
 // 1: too many iterations of one force, or too many links.
 use crate::entry::entry_at;
-use force::check::count_check;
-use force::check::first;
+use lists::count_check;
+use lists::first;
 use rules::ForceEntry;
 use rules::Refusal;
 ghost use mathlib.Core.Path.{_≡_};

@@ -1,7 +1,7 @@
 // 3: a link with an end that is not a particle.
 use crate::entry::entry_at;
 use crate::entry::links_needed;
-use force::check::ends_check;
+use lists::ends_check;
 use rules::Refusal;
 ghost use mathlib.Core.Path.{_≡_};
 ghost use mathlib.Core.List.{map};

@@ -1,10 +1,10 @@
 // 5, of the force slots: their numbers, then their settings.
 use crate::entry::entry_at;
 use crate::entry::numbers_needed;
-use force::check::distances_check;
-use force::check::first;
-use force::check::setting_check;
-use force::check::strengths_check;
+use lists::distances_check;
+use lists::first;
+use lists::setting_check;
+use lists::strengths_check;
 use rules::ForceEntry;
 use rules::Refusal;
 ghost use mathlib.Core.Path.{_≡_};

@@ -15,8 +15,8 @@ use Rattle.rules.specs.Walk.{Counted}
 use Rattle.rules.specs.Flow.{Flow}
 use Rattle.rules.specs.Collide.{radiusTree, collideOnce, runCollide}
 use Rattle.rules.proofs.CellRule.{tree-nodes}
-use Rattle.quadtree.specs.declared.Quadtree.{Quadtree}
-use Rattle.quadtree.proofs.AddHold.{cells-depth, cells-nodes}
+use Rattle.slots.specs.declared.Quadtree.{Quadtree}
+use Rattle.slots.proofs.Trees.{cells-depth, cells-nodes}
 use Rattle.walk.proofs.WalkTurns.{nodes-seen}
 use Rattle.collide.specs.Radius.{Rounded}
 use Rattle.collide.specs.Collide.{Bounded, walkAll, walkTimes}

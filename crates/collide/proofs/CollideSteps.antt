@@ -14,10 +14,10 @@ use Rattle.rules.specs.Number.{_⊕_}
 use Rattle.rules.specs.Walk.{internal, tip, Counted, after, stopIf}
 use Rattle.rules.specs.Flow.{Flow, flow}
 use Rattle.rules.specs.Collide.{radiusOf, radiusTree, away, meetFirst, collideStep}
-use Rattle.quadtree.specs.declared.Quadtree.{Quadtree}
+use Rattle.slots.specs.declared.Quadtree.{Quadtree}
 use Rattle.walk.specs.declared.visit.Walk.{Walk}
 use Rattle.walk.specs.declared.visit.Waiting.{Waiting}
-use Rattle.quadtree.specs.Slots.{Follows, first}
+use Rattle.slots.specs.Trees.{Follows, first}
 use Rattle.walk.specs.Walk.{stackOf, Sized, lay, seen, EachBelow}
 use Rattle.walk.proofs.Walking.{Walking, Turn, start}
 use Rattle.walk.proofs.WalkStands.{chains-below, found}

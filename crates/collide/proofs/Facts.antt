@@ -20,7 +20,7 @@ use Rattle.rules.specs.Collide.{leafRadius, nodeRadius, radiusTree, collideStep
 use Rattle.rules.proofs.CellCount.{distinct, length-upTo}
 use Rattle.rules.proofs.CellRule.{grow-leaf}
 use Rattle.walk.proofs.WalkTheorems.{counts-few}
-use Rattle.force.proofs.Visits.{nodes-valued, accepted-nodes, stages-few}
+use Rattle.quadtree.proofs.Visits.{nodes-valued, accepted-nodes, stages-few}
 use Rattle.collide.specs.Collide.{walkFor, walkAll, walkTimes}
 use Rattle.collide.proofs.CollideRun.{run-none, run-walked}
 

@@ -11,7 +11,7 @@ use lib.Ieee.Bits.{ofBits-fits}
 use Rattle.rules.specs.Plain.{foldl}
 use Rattle.rules.specs.Number.{0·, plainZero}
 use Rattle.rules.specs.Collide.{greater, radiusOf, leafRadius, nodeRadius}
-use Rattle.quadtree.specs.Slots.{kid, kids, Follows, first}
+use Rattle.slots.specs.Trees.{kid, kids, Follows, first}
 use Rattle.walk.specs.Walk.{EachBelow, ChainFrom}
 use Rattle.walk.specs.WalkAfter.{valuesAt, kidValues}
 use Rattle.walk.proofs.WalkAfter.{values-some, fold-children}

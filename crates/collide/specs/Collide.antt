@@ -9,8 +9,8 @@ use Rattle.rules.specs.Walk.{Counted, counted, walk}
 use Rattle.rules.specs.Flow.{Flow, flow}
 use Rattle.rules.specs.Collide.{radiusTree, collideStep}
 use Rattle.force.specs.declared.Ran.{Ran}
-use Rattle.quadtree.specs.declared.Quadtree.{Quadtree}
-use Rattle.quadtree.specs.Slots.{Stands}
+use Rattle.slots.specs.declared.Quadtree.{Quadtree}
+use Rattle.slots.specs.Trees.{Stands}
 
 -- at most 4,096 particles and 64 iterations, and few nodes handed out so far
 pub record Bounded (n iterations visits : ℕ) : Type 0 where

@@ -4,8 +4,8 @@ use Prim.Native.Nat.{ℕ}
 use lib.ListN.{length}
 use lib.Ieee.{Float}
 use Rattle.rules.specs.Collide.{leafRadius, nodeRadius}
-use Rattle.quadtree.specs.declared.Quadtree.{Quadtree}
-use Rattle.quadtree.specs.Slots.{value, Stands}
+use Rattle.slots.specs.declared.Quadtree.{Quadtree}
+use Rattle.slots.specs.Trees.{value, Stands}
 use Rattle.walk.specs.WalkAfter.{Valued}
 
 -- value 0 of a node

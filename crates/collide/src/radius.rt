@@ -2,8 +2,8 @@
 use contact::radius_of;
 use force::index;
 use force::wide;
-use quadtree::Quadtree;
-use quadtree::store;
+use slots::Quadtree;
+use slots::store;
 use walk::visit_after;
 use walk::visit_after::Path;
 ghost use mathlib.Core.Path.{_≡_};

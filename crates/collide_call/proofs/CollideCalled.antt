@@ -17,10 +17,11 @@ use Rattle.rules.specs.Flow.{Flow}
 use Rattle.rules.specs.Collide.{runCollide}
 use Rattle.rules.specs.Force.{collide, run}
 use Rattle.rules.specs.Calls.{ForceInput, count, inputLengths}
-use Rattle.force.specs.Checks.{coordinatesCheck, velocitiesCheck}
-use Rattle.force.specs.Calls.{firstOf, lentCheck, numbersCheck}
-use Rattle.force.proofs.Scans.{real-require, real-then, real-all, real-coordinates, real-velocities, first-then}
-use Rattle.force.proofs.Called.{Lent, then-fine, require-true, real-ranges, first-three}
+use Rattle.lists.specs.Checks.{coordinatesCheck, velocitiesCheck, firstOf}
+use Rattle.force_call.specs.Calls.{lentCheck, numbersCheck}
+use Rattle.lists.proofs.Scans.{real-require, real-then, real-all, real-coordinates, real-velocities, first-then}
+use Rattle.force_call.proofs.Called.{Lent}
+use Rattle.lists.proofs.Checks.{then-fine, require-true, real-ranges, first-three}
 use Rattle.contact.specs.Contact.{Spread}
 
 -- ---- 2

@@ -1,15 +1,15 @@
 // Collide called alone, on plain lists.
 use collide::collide::collide;
-use force::call::input_lengths;
-use force::call::refused;
-use force::call::settle;
-use force::check::count_check;
-use force::check::distances_check;
-use force::check::draws_check;
-use force::check::first;
-use force::check::lengths_check;
-use force::check::points_check;
-use force::check::setting_check;
+use force_call::input_lengths;
+use force_call::refused;
+use force_call::settle;
+use lists::count_check;
+use lists::distances_check;
+use lists::draws_check;
+use lists::first;
+use lists::lengths_check;
+use lists::points_check;
+use lists::setting_check;
 use rules::Counts;
 use rules::Refusal;
 ghost use mathlib.Core.Path.{_≡_};
@@ -22,7 +22,7 @@ ghost use Rattle.rules.specs.Number.{0·};
 ghost use Rattle.rules.specs.Outcome.{fine, refusalOf};
 ghost use Rattle.rules.specs.Force as Force;
 ghost use Rattle.rules.specs.Calls.{inputLengths, collideResult};
-ghost use Rattle.force.specs.Calls.{lent, lentCheck, numbersCheck, Answered};
+ghost use Rattle.force_call.specs.Calls.{lent, lentCheck, numbersCheck, Answered};
 
 // Whole pairs of places, velocities within the buffer, and a radius for each particle.
 fn lengths_agree(places: &[f64], buffer: &[u8], start: usize, radii: &[f64]) -> bool

@@ -6,8 +6,8 @@ use force::push_on;
 use force::shaken;
 use number::plain_zero;
 use number::root;
-use quadtree::store;
 use rules::Extent;
+use slots::store;
 ghost use mathlib.Core.Path.{_≡_};
 ghost use mathlib.Core.Bool.{cond};
 ghost use mathlib.Core.List.{[], _∷_};
@@ -17,7 +17,7 @@ ghost use lib.Ieee.{nan, eq};
 ghost use Rattle.rules.specs.Number.{_⊕_, _⊖_, _⊗_, 0·};
 ghost use Rattle.rules.specs.Flow.{flow, gap};
 ghost use Rattle.rules.specs.Collide as Collide;
-ghost use Rattle.quadtree.specs.Slots.{word, value};
+ghost use Rattle.slots.specs.Trees.{word, value};
 ghost use Rattle.force.specs.Draws.{spentOf, From};
 ghost use Rattle.contact.specs.Contact.{Spread};
 

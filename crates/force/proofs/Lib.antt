@@ -1,11 +1,3 @@
 pub mod Drawing
-pub mod Pairs
-pub mod Scans
-pub mod Centring
-pub mod Closing
 pub mod Stages
-pub mod Told
-pub mod Called
-pub mod CalledTree
-pub mod Visits
-pub mod Facts
+pub mod Standing

@@ -1,9 +1,5 @@
-// What the forces share: the lent draws, a push on a velocity, the checks of their lists, how a call ends. Center and the closing move stand here too.
-pub mod call;
-pub mod center;
-pub mod check;
+// What the forces share: the lent draws, a push on a velocity, and how a force ends.
 mod draws;
-pub mod particle;
 mod push;
 
 pub use draws::Drawn;

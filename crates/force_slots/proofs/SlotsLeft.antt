@@ -14,7 +14,7 @@ use Rattle.rules.specs.Plain.{all, sum}
 use Rattle.rules.specs.Outcome.{Check, fine, _>>=_, foldStages, checkFrom, checkEach}
 use Rattle.rules.specs.Tick.{State, Force, entryAt, entriesOf, entryCounts, strengthsRight, numbersNeeded, linksNeeded, forceOf, forcesFrom, forceEnds, forceStage}
 use Rattle.force.specs.declared.Ran.{Ran}
-use Rattle.force.proofs.Called.{then-both, and-both}
+use Rattle.lists.proofs.Checks.{then-both, and-both}
 use Rattle.checks.specs.Fits.{Fits}
 use Rattle.checks.proofs.Entries.{entriesLeft, entries-left, entries-none, bind-then}
 use Rattle.stages.specs.Stage.{SlotFits, stateOf, stagedOf}

@@ -19,8 +19,8 @@ use Rattle.force.specs.declared.draws.Jiggled.{Jiggled}
 use Rattle.force.specs.declared.draws.Spent.{Spent}
 use Rattle.force.specs.Draws.{shakenOf, spentOf}
 use Rattle.tally.specs.Tally.{strengthOr}
-use Rattle.force.specs.Checks.{endsAt}
-use Rattle.force.proofs.Scans.{endsLeft, ends-first, ends-left, ends-none, count-left}
+use Rattle.lists.specs.Checks.{endsAt}
+use Rattle.lists.proofs.Scans.{endsLeft, ends-first, ends-left, ends-none, count-left}
 
 -- ---- strengths
 

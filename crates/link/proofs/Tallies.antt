@@ -14,10 +14,10 @@ use lib.Ieee.{Float}
 use Rattle.rules.specs.Plain.{countFrom, upTo}
 use Rattle.rules.specs.Link.{Ends, ends, countEnds}
 use Rattle.rules.specs.Force.{endsFrom, endsOf}
-use Rattle.quadtree.proofs.Fill.{room}
+use Rattle.slots.proofs.Fill.{room}
 use Rattle.tally.specs.Tally.{counted}
 use Rattle.link.specs.Links.{EndsLent, Ready, tallies}
-use Rattle.force.specs.Checks.{endsAt}
+use Rattle.lists.specs.Checks.{endsAt}
 
 -- ---- numbers one after the other
 

@@ -23,7 +23,7 @@ ghost use Rattle.rules.specs.Force.{endsOf};
 ghost use Rattle.force.specs.Draws.{spentOf, From};
 ghost use Rattle.force.specs.Ran.{Runs, visited};
 ghost use Rattle.link.specs.Links.{EndsLent, ListsLent, Ready, tallies};
-ghost use Rattle.force.specs.Checks.{endsAt};
+ghost use Rattle.lists.specs.Checks.{endsAt};
 
 // How many ends each particle has, from counts that are all zero.
 fn count_ends(links: &[u32], counts: &mut [u32])

@@ -18,12 +18,13 @@ use Rattle.rules.specs.Link.{Ends, runLink}
 use Rattle.rules.specs.Force.{link, endsOf, endsRange, noneOr, pushLengths, run}
 use Rattle.rules.specs.Calls.{ForceInput, count, inputLengths}
 use Rattle.force.specs.Ran.{visited}
-use Rattle.force.specs.Checks.{coordinatesCheck, velocitiesCheck}
-use Rattle.force.specs.Calls.{firstOf, lentCheck, numbersCheck}
+use Rattle.lists.specs.Checks.{coordinatesCheck, velocitiesCheck, firstOf}
+use Rattle.force_call.specs.Calls.{lentCheck, numbersCheck}
 use Rattle.link.specs.Links.{EndsLent, ListsLent}
 use Rattle.link.proofs.EndsRange.{ends-count, ends-range}
-use Rattle.force.proofs.Scans.{real-require, real-then, real-all, real-coordinates, real-velocities, first-then}
-use Rattle.force.proofs.Called.{Lent, and-both, then-both, require-true, first-four}
+use Rattle.lists.proofs.Scans.{real-require, real-then, real-all, real-coordinates, real-velocities, first-then}
+use Rattle.force_call.proofs.Called.{Lent}
+use Rattle.lists.proofs.Checks.{and-both, then-both, require-true, first-four}
 
 -- ---- 2
 

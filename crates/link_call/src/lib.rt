@@ -1,17 +1,17 @@
 // Link called alone, on plain lists.
-use force::call::input_lengths;
-use force::call::refused;
-use force::call::settle;
-use force::check::count_check;
-use force::check::distances_check;
-use force::check::draws_check;
-use force::check::ends_check;
-use force::check::first;
-use force::check::lengths_check;
-use force::check::points_check;
-use force::check::setting_check;
-use force::check::strengths_check;
+use force_call::input_lengths;
+use force_call::refused;
+use force_call::settle;
 use link::link::link;
+use lists::count_check;
+use lists::distances_check;
+use lists::draws_check;
+use lists::ends_check;
+use lists::first;
+use lists::lengths_check;
+use lists::points_check;
+use lists::setting_check;
+use lists::strengths_check;
 use rules::Counts;
 use rules::Refusal;
 ghost use mathlib.Core.Path.{_≡_};
@@ -24,7 +24,7 @@ ghost use Rattle.rules.specs.Outcome.{fine, refusalOf};
 ghost use Rattle.rules.specs.Force as Force;
 ghost use Rattle.rules.specs.Force.{endsOf, pushLengths};
 ghost use Rattle.rules.specs.Calls.{inputLengths, linkResult};
-ghost use Rattle.force.specs.Calls.{lent, lentCheck, numbersCheck, Answered};
+ghost use Rattle.force_call.specs.Calls.{lent, lentCheck, numbersCheck, Answered};
 
 // Whole pairs of places and of ends, velocities within the buffer, a distance for each link, and a strength for each or none.
 fn lengths_agree(

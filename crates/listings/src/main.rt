@@ -1,32 +1,65 @@
-// Writes the listings of stored sheets, each behind its name.
+// Writes the listings of sheets, each behind its name: most are zeros but for a pair of words.
 ghost use mathlib.Core.Path.{_≡_};
 ghost use Prim.Native.Nat.{_+_, _≤_, min};
 ghost use lib.ListN.{length};
 use number::bits_of;
 use sheet::put_word;
 
-mod sheets;
+// The room for a sheet: 512 records.
+const ROOM: usize = 20480;
 
-// The first words of a sheet.
-fn put_words(sheet: &mut [u8], words: &[u64])
-    requires { ⌜ (length (now sheet) ≡ 20480) × (length (now words) ≤ 2560) ⌝ }
+// Where pairs of words of the second record stand: its place, its velocity, and its vy and flags.
+const PLACE: usize = 40;
+
+const VELOCITY: usize = 56;
+
+const VY_AND_FLAGS: usize = 64;
+
+// Numbers as bits.
+const MINUS_HALF: u64 = 0xbfe0_0000_0000_0000;
+
+const THREE: u64 = 0x4008_0000_0000_0000;
+
+const TWO_TO_MINUS_50: u64 = 0x3cd0_0000_0000_0000;
+
+const TWO_TO_MINUS_64: u64 = 0x3bf0_0000_0000_0000;
+
+const TWO_TO_MINUS_65: u64 = 0x3be0_0000_0000_0000;
+
+const INFINITE: u64 = 0x7ff0_0000_0000_0000;
+
+const NAN: u64 = 0x7ff8_0000_0000_0000;
+
+fn show(name: &[u8], kept: &[u8], total: usize)
+    requires { ⌜ length (now kept) ≡ min total 20480 ⌝ }
 {
-    let mut i: usize = 0;
-    while i < words.len() {
-        put_word(sheet, 8 * i, words[i]);
-        i += 1;
-    }
+    let mut out = [0u8; 16384];
+    io::write_all(1, name);
+    let size = listing::list_sheet(kept, total, &mut out);
+    io::write_all(1, &out[..size]);
 }
 
-// A particle at rest.
-fn put_point(sheet: &mut [u8], at: usize, x: u64, y: u64)
-    requires { ⌜ at + 40 ≤ length (now sheet) ⌝ }
+// The sheet's first bytes.
+fn show_first(name: &[u8], sheet: &[u8], total: usize)
+    requires { ⌜ (total ≤ 20480) × (length (now sheet) ≡ 20480) ⌝ }
 {
-    put_word(sheet, at, x);
-    put_word(sheet, at + 8, y);
-    put_word(sheet, at + 16, 0);
-    put_word(sheet, at + 24, 0);
-    put_word(sheet, at + 32, 0);
+    show(name, &sheet[..total], total);
+}
+
+fn put_two(sheet: &mut [u8], at: usize, first: u64, second: u64)
+    requires { ⌜ at + 16 ≤ length (now sheet) ⌝ }
+{
+    put_word(sheet, at, first);
+    put_word(sheet, at + 8, second);
+}
+
+// A sheet of so many bytes, all zeros but for two words from a byte on.
+fn show_two(name: &[u8], total: usize, at: usize, first: u64, second: u64)
+    requires { ⌜ (total ≤ 20480) × (at + 16 ≤ 20480) ⌝ }
+{
+    let mut sheet = [0u8; ROOM];
+    put_two(&mut sheet, at, first, second);
+    show_first(name, &sheet, total);
 }
 
 // (4i, 0) and (4i, 2^-50) for i below 22: each pair takes some fifty nodes of its own.
@@ -36,79 +69,30 @@ fn put_pairs(sheet: &mut [u8])
     let mut x = 0.0;
     let mut i: usize = 0;
     while i < 22 {
-        put_point(sheet, 80 * i, bits_of(x), 0);
-        put_point(sheet, 80 * i + 40, bits_of(x), 0x3cd0_0000_0000_0000);
+        let bits = bits_of(x);
+        put_two(sheet, 80 * i, bits, 0);
+        put_two(sheet, 80 * i + 40, bits, TWO_TO_MINUS_50);
         x = x + 4.0;
         i += 1;
     }
 }
 
-fn show(name: &[u8], kept: &[u8], total: usize, out: &mut [u8])
-    requires { ⌜ (length (now kept) ≡ min total 20480) × (length (now out) ≡ 16384) ⌝ }
-{
-    io::write_all(1, name);
-    let size = listing::list_sheet(kept, total, out);
-    io::write_all(1, &out[..size]);
-}
-
-// The sheet's first bytes.
-fn show_first(name: &[u8], total: usize, sheet: &[u8], out: &mut [u8])
-    requires { ⌜ (total ≤ 20480) × (length (now sheet) ≡ 20480) × (length (now out) ≡ 16384) ⌝ }
-{
-    show(name, &sheet[..total], total, out);
-}
-
-fn show_words(name: &[u8], words: &[u64], sheet: &mut [u8], out: &mut [u8])
-    requires { ⌜ (length (now words) ≤ 2560) × (length (now sheet) ≡ 20480) × (length (now out) ≡ 16384) ⌝ }
-{
-    put_words(sheet, words);
-    show_first(name, 8 * words.len(), sheet, out);
-}
-
-fn show_trees(sheet: &mut [u8], out: &mut [u8])
-    requires { ⌜ (length (now sheet) ≡ 20480) × (length (now out) ≡ 16384) ⌝ }
-{
-    show_first(b"no points\n", 0, sheet, out);
-    let sample = sheets::SAMPLE;
-    show_words(b"sample\n", &sample, sheet, out);
-    let minus = sheets::MINUS;
-    show_words(b"minus\n", &minus, sheet, out);
-    let deepest = sheets::DEEPEST;
-    show_words(b"deepest\n", &deepest, sheet, out);
-}
-
-fn show_limits(sheet: &mut [u8], out: &mut [u8])
-    requires { ⌜ (length (now sheet) ≡ 20480) × (length (now out) ≡ 16384) ⌝ }
-{
-    show_first(b"one byte\n", 1, sheet, out);
-    show(b"513 records\n", sheet, 20520, out);
-    put_pairs(sheet);
-    show_first(b"too many nodes\n", 1760, sheet, out);
-    let deeper = sheets::DEEPER;
-    show_words(b"too deep\n", &deeper, sheet, out);
-}
-
-fn show_records(sheet: &mut [u8], out: &mut [u8])
-    requires { ⌜ (length (now sheet) ≡ 20480) × (length (now out) ≡ 16384) ⌝ }
-{
-    let nan = sheets::NAN;
-    show_words(b"NaN\n", &nan, sheet, out);
-    let fast = sheets::FAST;
-    show_words(b"infinite velocity\n", &fast, sheet, out);
-    let flag = sheets::FLAG;
-    show_words(b"unknown flag\n", &flag, sheet, out);
-}
-
-fn show_all(sheet: &mut [u8], out: &mut [u8])
-    requires { ⌜ (length (now sheet) ≡ 20480) × (length (now out) ≡ 16384) ⌝ }
-{
-    show_trees(sheet, out);
-    show_limits(sheet, out);
-    show_records(sheet, out);
+fn show_limits() {
+    let mut sheet = [0u8; ROOM];
+    show(b"513 records\n", &sheet, 20520);
+    put_pairs(&mut sheet);
+    show_first(b"too many nodes\n", &sheet, 1760);
 }
 
 fn main() {
-    let mut sheet = [0u8; 20480];
-    let mut out = [0u8; 16384];
-    show_all(&mut sheet, &mut out);
+    show_two(b"no points\n", 0, 0, 0, 0);
+    show_two(b"sample\n", 120, PLACE, THREE, THREE);
+    show_two(b"minus\n", 40, 0, MINUS_HALF, 0);
+    show_two(b"deepest\n", 80, PLACE, TWO_TO_MINUS_64, 0);
+    show_two(b"one byte\n", 1, 0, 0, 0);
+    show_limits();
+    show_two(b"too deep\n", 80, PLACE, TWO_TO_MINUS_65, 0);
+    show_two(b"NaN\n", 80, PLACE, 0, NAN);
+    show_two(b"infinite velocity\n", 80, VELOCITY, INFINITE, 0);
+    show_two(b"unknown flag\n", 80, VY_AND_FLAGS, 0, 4);
 }

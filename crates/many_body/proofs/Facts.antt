@@ -23,7 +23,7 @@ use Rattle.rules.specs.Force.{manyBody, run}
 use Rattle.rules.specs.Calls.{ForceInput, slotsOf, speeds, forceCheck, forceResult, forceAnswer, manyBodyResult}
 use Rattle.rules.proofs.CellCount.{distinct, length-upTo}
 use Rattle.walk.proofs.WalkTheorems.{counts-few}
-use Rattle.force.proofs.Visits.{nodes-valued, accepted-nodes, stages-few}
+use Rattle.quadtree.proofs.Visits.{nodes-valued, accepted-nodes, stages-few}
 use Rattle.many_body.specs.ManyBody.{pulledAll}
 use Rattle.many_body.proofs.OwnLeaf.{own-length, square-unsigned, never-far}
 

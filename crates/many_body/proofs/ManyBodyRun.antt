@@ -14,9 +14,9 @@ use Rattle.rules.specs.Walk.{Counted}
 use Rattle.rules.specs.Flow.{Flow}
 use Rattle.rules.specs.ManyBody.{runManyBody}
 use Rattle.rules.proofs.CellRule.{tree-nodes}
-use Rattle.quadtree.specs.declared.Quadtree.{Quadtree}
-use Rattle.quadtree.specs.Slots.{Stands}
-use Rattle.quadtree.proofs.AddHold.{cells-depth, cells-nodes}
+use Rattle.slots.specs.declared.Quadtree.{Quadtree}
+use Rattle.slots.specs.Trees.{Stands}
+use Rattle.slots.proofs.Trees.{cells-depth, cells-nodes}
 use Rattle.quadtree.proofs.Refusals.{tree-clears}
 use Rattle.force.specs.Ran.{Runs}
 use Rattle.force.proofs.Stages.{ran-refused}

@@ -13,10 +13,10 @@ use Rattle.rules.specs.Tree.{Tree, nodes}
 use Rattle.rules.specs.Walk.{Entry, internal, tip, Counted, counted, After, walk}
 use Rattle.rules.specs.Flow.{flow}
 use Rattle.rules.specs.ManyBody.{Charge, chargedTree, manyBodyStep}
-use Rattle.quadtree.specs.declared.Quadtree.{Quadtree}
+use Rattle.slots.specs.declared.Quadtree.{Quadtree}
 use Rattle.walk.specs.declared.visit.Walk.{Walk}
 use Rattle.walk.specs.declared.visit.Waiting.{Waiting}
-use Rattle.quadtree.specs.Slots.{word, Follows, first}
+use Rattle.slots.specs.Trees.{word, Follows, first}
 use Rattle.walk.specs.Walk.{stackOf, Sized, lay, seen}
 use Rattle.walk.proofs.Walking.{Walking, Turn, start, turn-refused, turn-refused-leaf}
 use Rattle.walk.proofs.WalkStands.{found, nodes-stands}

@@ -17,10 +17,10 @@ use Rattle.rules.specs.Flow.{Flow}
 use Rattle.rules.specs.ManyBody.{standard, runManyBody}
 use Rattle.rules.specs.Force.{manyBody, pushLengths, run}
 use Rattle.rules.specs.Calls.{ForceInput, count, inputLengths}
-use Rattle.force.specs.Checks.{coordinatesCheck, velocitiesCheck}
-use Rattle.force.specs.Calls.{firstOf, lentCheck, numbersCheck}
-use Rattle.force.proofs.Scans.{real-require, real-then, real-all, real-coordinates, real-velocities, first-then}
-use Rattle.force.proofs.Called.{then-fine, first-four}
+use Rattle.lists.specs.Checks.{coordinatesCheck, velocitiesCheck, firstOf}
+use Rattle.force_call.specs.Calls.{lentCheck, numbersCheck}
+use Rattle.lists.proofs.Scans.{real-require, real-then, real-all, real-coordinates, real-velocities, first-then}
+use Rattle.lists.proofs.Checks.{then-fine, first-four}
 
 -- ---- the answers
 

@@ -1,14 +1,14 @@
 // ManyBody called alone, on plain lists.
-use force::call::input_lengths;
-use force::call::refused;
-use force::call::settle;
-use force::check::count_check;
-use force::check::draws_check;
-use force::check::first;
-use force::check::lengths_check;
-use force::check::points_check;
-use force::check::setting_check;
-use force::check::strengths_check;
+use force_call::input_lengths;
+use force_call::refused;
+use force_call::settle;
+use lists::count_check;
+use lists::draws_check;
+use lists::first;
+use lists::lengths_check;
+use lists::points_check;
+use lists::setting_check;
+use lists::strengths_check;
 use many_body::many_body::many_body;
 use many_body::standard;
 use rules::Counts;
@@ -21,7 +21,7 @@ ghost use lib.ListN.{length};
 ghost use Rattle.rules.specs.Outcome.{fine, refusalOf};
 ghost use Rattle.rules.specs.Force.{manyBody, pushLengths};
 ghost use Rattle.rules.specs.Calls.{inputLengths, manyBodyResult};
-ghost use Rattle.force.specs.Calls.{lent, lentCheck, numbersCheck, Answered};
+ghost use Rattle.force_call.specs.Calls.{lent, lentCheck, numbersCheck, Answered};
 
 // Whole pairs of places, velocities within the buffer, and a strength for each particle.
 fn lengths_agree(places: &[f64], buffer: &[u8], start: usize, strengths: &[f64]) -> bool

@@ -18,7 +18,7 @@ use Rattle.rules.specs.Number.{_⊕_, _⊗_, _⊘_}
 use Rattle.rules.specs.Walk.{internal, tip, After, after}
 use Rattle.rules.specs.Flow.{Flow, flow, Gap, gap, Shaken, shaken, length², lengthened, pushed}
 use Rattle.rules.specs.ManyBody.{Charge, far, softened, others, alone, strengthOf, pullWhole, pullMember, pullMembers, acted, actFar, actNear, meetNode, gapTo, manyBodyStep}
-use Rattle.quadtree.specs.Slots.{Follows, first}
+use Rattle.slots.specs.Trees.{Follows, first}
 use Rattle.force.specs.declared.draws.Jiggled.{Jiggled}
 use Rattle.force.specs.declared.draws.Spent.{Spent}
 use Rattle.node_pull.specs.declared.Aim.{Aim}

@@ -21,21 +21,22 @@ use Rattle.rules.proofs.CellCount.{upTo-snoc}
 use Rattle.rules.proofs.CellInside.{Inside}
 use Rattle.rules.proofs.CellIs.{Is, grow-none}
 use Rattle.rules.proofs.CellChain.{EachLeaf, Chain}
-use Rattle.quadtree.specs.declared.Quadtree.{Quadtree}
+use Rattle.slots.specs.declared.Quadtree.{Quadtree}
 use Rattle.cells.specs.declared.cover.Covered.{Covered}
-use Rattle.quadtree.specs.declared.add.Inserted.the-variants.{Done, Deep, Full}
-use Rattle.quadtree.specs.Slots.{inCells, Follows as Chained, Stands}
+use Rattle.placing.specs.declared.Inserted.the-variants.{Done, Deep, Full}
+use Rattle.slots.specs.Trees.{inCells, Follows as Chained, Stands}
 use Rattle.cells.specs.Cover.{squareOf, Reachable, Near, CoveredTo}
-use Rattle.slots.specs.Chain.{Linked}
-use Rattle.quadtree.specs.Add.{lead, Holds, Ranged, Placed, Inserts}
+use Rattle.leaves.specs.Chain.{Linked}
+use Rattle.placing.specs.Add.{lead, Holds, Ranged, Placed, Inserts}
 use Rattle.quadtree.specs.declared.build.Built.the-variants as Built
 use Rattle.quadtree.specs.Build.{particles, Builds, Follows, Extends}
 use Rattle.cells.proofs.CoverLaws as Laws
-use Rattle.quadtree.proofs.SlotsTree.{stored-leads}
-use Rattle.quadtree.proofs.AddChain.{chain-follows}
-use Rattle.quadtree.proofs.AddHold.{cells-depth, cells-nodes, holds-is, holds-chains}
+use Rattle.placing.proofs.SlotsTree.{stored-leads}
+use Rattle.placing.proofs.AddChain.{chain-follows}
+use Rattle.slots.proofs.Trees.{cells-depth, cells-nodes}
+use Rattle.placing.proofs.AddHold.{holds-is, holds-chains}
 use Rattle.quadtree.proofs.AddInsert.{is-T}
-use Rattle.quadtree.proofs.AddPlaced.{ranged-points}
+use Rattle.placing.proofs.AddPlaced.{ranged-points}
 
 -- ---- members of 0, 1, .. , n - 1
 

@@ -22,25 +22,25 @@ use Rattle.rules.proofs.CellInsert.{insertT}
 use Rattle.rules.proofs.CellIs.{Is}
 use Rattle.rules.proofs.CellCount.{upTo-snoc}
 use Rattle.rules.proofs.CellRule.{insert-tree, insert-none}
-use Rattle.quadtree.specs.declared.Quadtree.{Quadtree}
+use Rattle.slots.specs.declared.Quadtree.{Quadtree}
 use Rattle.cells.specs.declared.cover.Doubled.{Doubled}
 use Rattle.cells.specs.declared.cover.Covered.{Covered}
-use Rattle.quadtree.specs.declared.add.Inserted.{Inserted}
-use Rattle.quadtree.specs.declared.add.Inserted.the-variants.{Done, Deep, Full}
-use Rattle.slots.specs.Slots.{word, putInternal}
-use Rattle.quadtree.specs.Slots.{inCells}
+use Rattle.placing.specs.declared.Inserted.{Inserted}
+use Rattle.placing.specs.declared.Inserted.the-variants.{Done, Deep, Full}
+use Rattle.slots.specs.Slots.{word, putInternal, childless}
+use Rattle.slots.specs.Trees.{inCells}
 use Rattle.cells.specs.Cover.{squareOf, Near, DoubledTo}
-use Rattle.slots.specs.Chain.{Linked}
-use Rattle.slots.specs.Leaf.{childless}
-use Rattle.quadtree.specs.Add.{lead, Stored, Holds, Ranged, Seeks, Puts, Alone, Grown, Placed, Covers, Wraps, Wrapped, Planted}
+use Rattle.leaves.specs.Chain.{Linked}
+use Rattle.placing.specs.Add.{lead, Stored, Holds, Ranged, Seeks, Puts, Alone, Grown, Placed, Covers, Wraps, Wrapped, Planted}
 use Rattle.cells.proofs.CoverEnds.{doubled-square}
 use Rattle.cells.proofs.CoverLaws.{Lies, covered-grows}
 use Rattle.slots.proofs.Slots.{internal-length, internal-tag, leaf-length, leaf-tag}
-use Rattle.quadtree.proofs.SlotsTree.{lead-le}
-use Rattle.quadtree.proofs.AddChain.{upTo-in, in-upTo, begin-linked}
-use Rattle.quadtree.proofs.AddHold.{cells-depth, cells-nodes, holds-is}
+use Rattle.placing.proofs.SlotsTree.{lead-le}
+use Rattle.placing.proofs.AddChain.{upTo-in, in-upTo, begin-linked}
+use Rattle.slots.proofs.Trees.{cells-depth, cells-nodes}
+use Rattle.placing.proofs.AddHold.{holds-is}
 use Rattle.quadtree.proofs.AddWrap.{grows-none, inExtent, Internal, leaf-regrown, wrappedIn, wrap-holds, next-near, next-within, next-less, wrap-deep, wrap-full}
-use Rattle.quadtree.proofs.AddPlaced.{few, placed, kept}
+use Rattle.placing.proofs.AddPlaced.{few, placed, kept}
 
 pub is-T : (b : Bool) → b ≡ true → T b
 is-T b e = subst T (sym e) tt

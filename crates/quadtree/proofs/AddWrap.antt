@@ -25,19 +25,20 @@ use Rattle.rules.proofs.CellInsert.{insertT, insert-none}
 use Rattle.rules.proofs.CellSize.{childAt, node-nodes, node-depth}
 use Rattle.rules.proofs.CellWrap.{onlyAt, wrapT}
 use Rattle.rules.proofs.CellRule.{tree-grown, tree-passes, tree-more, insert-tree, wrapped}
-use Rattle.quadtree.specs.declared.Quadtree.{Quadtree}
+use Rattle.slots.specs.declared.Quadtree.{Quadtree}
 use Rattle.cells.specs.declared.cover.Doubled.{Doubled}
-use Rattle.slots.specs.Slots.{kids, putInternal}
-use Rattle.quadtree.specs.Slots.{EachSlot, Apart, Once, inCells}
+use Rattle.slots.specs.Slots.{kids, putInternal, childless}
+use Rattle.slots.specs.Trees.{EachSlot, Apart, Once, inCells}
 use Rattle.cells.specs.Cover.{squareOf, Reachable, Near, DoubledTo}
-use Rattle.slots.specs.Leaf.{childless, side}
-use Rattle.quadtree.specs.Add.{lead, Stored, Holds}
+use Rattle.leaves.specs.Leaf.{side}
+use Rattle.placing.specs.Add.{lead, Stored, Holds}
 use Rattle.cells.proofs.CoverEnds.{doubled-to, doubled-square}
 use Rattle.cells.proofs.CoverLaws.{Lies, inside-lies, doubled-lies, other-quadrant}
 use Rattle.slots.proofs.Slots.{Small, internal-length, internal-same, internal-tag, internal-kids}
-use Rattle.quadtree.proofs.SlotsTree.{each-map, each-true, lead-le, over, upd, bare, leads, upd-below, each-over, stored-over, leads-upd, leads-small, depth-upd, nodes-upd, once-over, pair-upd, frame}
-use Rattle.quadtree.proofs.AddWay.{side-lt}
-use Rattle.quadtree.proofs.AddHold.{cells-depth, holds-is}
+use Rattle.slots.proofs.Trees.{each-map, cells-depth}
+use Rattle.placing.proofs.SlotsTree.{each-true, lead-le, over, upd, bare, leads, upd-below, each-over, stored-over, leads-upd, leads-small, depth-upd, nodes-upd, once-over, pair-upd, frame}
+use Rattle.placing.proofs.AddWay.{side-lt}
+use Rattle.placing.proofs.AddHold.{holds-is}
 
 -- no doubling: the point is inside already
 pub grows-none : (x y : ℤ) {n : ℕ} {s t : Square} → Grows x y n s t → n ≡ 0 → (s ≡ t) × (inside t x y ≡ true)

@@ -1,12 +1,6 @@
-pub mod Fill
-pub mod SlotsTree
-pub mod AddWay
-pub mod AddSplit
-pub mod AddChain
-pub mod AddHold
 pub mod AddWrap
-pub mod AddTurns
-pub mod AddPlaced
 pub mod AddInsert
 pub mod AddBuild
 pub mod Refusals
+pub mod Told
+pub mod Visits

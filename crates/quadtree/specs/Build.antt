@@ -7,12 +7,12 @@ use lib.Ieee.{Float}
 use Rattle.rules.specs.Cover.{coverFirst, extentOf}
 use Rattle.rules.specs.Outcome.{refused, fine}
 use Rattle.rules.specs.Tree.{treeCheck}
-use Rattle.quadtree.specs.declared.Quadtree.{Quadtree}
+use Rattle.slots.specs.declared.Quadtree.{Quadtree}
 use Rattle.cells.specs.declared.cover.Covered.{Covered}
 use Rattle.quadtree.specs.declared.build.Built.{Built}
 use Rattle.quadtree.specs.declared.build.Built.the-variants.{Tree, Refused}
-use Rattle.quadtree.specs.Slots.{Stands}
-use Rattle.quadtree.specs.Add.{Ranged, Covers}
+use Rattle.slots.specs.Trees.{Stands}
+use Rattle.placing.specs.Add.{Ranged, Covers}
 
 -- how many particles have their places in the list
 abbrev pub particles : List Float → ℕ

@@ -2,14 +2,14 @@
 ghost use mathlib.Core.Path.{_≡_};
 ghost use Prim.Native.Nat.{_+_, _*_, _≤_};
 ghost use Rattle.quadtree.specs.Build.{Lent, Builds, Follows, Extends};
-use crate::Quadtree;
 use crate::add;
-use crate::add::Inserted;
 use cells::cover;
 use cells::cover::Covered;
+use leaves::point;
+use placing::Inserted;
 use rules::Extent;
 use rules::Refusal;
-use slots::point;
+use slots::Quadtree;
 
 // The tree, or refusal 6 or 7 with the particle's number as its place.
 pub enum Built {

@@ -19,4 +19,3 @@ pub mod Calls
 pub mod Tick
 pub mod Listing
 pub mod Opened
-pub mod Table

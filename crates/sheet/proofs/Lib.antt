@@ -4,3 +4,4 @@ pub mod Checked
 pub mod Sheets
 pub mod Columns
 pub mod Turns
+pub mod PairLists

@@ -1,12 +1,11 @@
 -- Laws of the slots: what a word, the children and a tree are after a write.
-use mathlib.Core.Path.{_≡_, refl, ap, ap₂, _∙_}
+use mathlib.Core.Path.{_≡_, refl, ap₂, _∙_}
 use mathlib.Core.List.{List, [], _∷_}
 use Prim.Native.Nat.{ℕ, _+_, _*_, _/_, _%_, _^_, _≤_, _<_}
 use native.Mathlib.Omega.{arith}
-use lib.ListN.{length, getD, set, length-set}
+use lib.ListN.{length, getD, length-set}
 use lib.Seq.{getD-set-same, getD-set-other}
 use Rattle.slots.specs.Slots.{word, put, kids, putInternal, putLeaf}
-use Rattle.slots.specs.Leaf.{childless, hung, forked}
 
 -- ---- words
 
@@ -107,12 +106,3 @@ module _ (m : List ℕ) (s : ℕ) where
   pub internal-put : (ks : List ℕ) {l r : ℕ} {u v w : List ℕ} → l ≡ getD ks 0 0 + getD ks 1 0 * 2 ^ 32 → r ≡ getD ks 2 0 + getD ks 3 0 * 2 ^ 32 → u ≡ put m s 0 0 → v ≡ put u s 1 l → w ≡ put v s 2 r → w ≡ putInternal m s ks
   unfolding putInternal
   internal-put ks el er eu ev ew = ew ∙ rw (ev, eu, el, er)
-
-  -- a leaf of p, as one child more
-  pub hung-put : (p k x : ℕ) {ks v w : List ℕ} → ks ≡ kids m s → v ≡ putInternal m s (set ks k (x + 1)) → w ≡ putLeaf v x p → w ≡ hung p m s k x
-  unfolding hung
-  hung-put p k x ek ev ew = ew ∙ rw (ev, ek)
-
-  -- two leaves below one node
-  pub forked-put : (f p j k x : ℕ) {ks u v w : List ℕ} → ks ≡ set childless j (x + 1) → u ≡ putInternal m s (set ks k (x + 2)) → v ≡ putLeaf u x f → w ≡ putLeaf v (x + 1) p → w ≡ forked f p m s j k x
-  forked-put f p j k x ek eu ev ew = ew ∙ rw (ev, eu, ek)

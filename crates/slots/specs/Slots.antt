@@ -21,6 +21,10 @@ kid m s (suc (suc (suc q))) = word m s 2 / 2 ^ 32
 abbrev pub kids : List ℕ → ℕ → List ℕ
 kids m s = kid m s 0 ∷ kid m s 1 ∷ kid m s 2 ∷ kid m s 3 ∷ []
 
+-- no child
+abbrev pub childless : List ℕ
+childless = 0 ∷ 0 ∷ 0 ∷ 0 ∷ []
+
 -- an internal node with these children
 unfoldable pub putInternal : List ℕ → ℕ → List ℕ → List ℕ
 putInternal m s ks = put (put (put m s 0 0) s 1 (getD ks 0 0 + getD ks 1 0 * 2 ^ 32)) s 2 (getD ks 2 0 + getD ks 3 0 * 2 ^ 32)

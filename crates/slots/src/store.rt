@@ -3,8 +3,7 @@
 ghost use mathlib.Core.Path.{_≡_};
 ghost use Prim.Native.Nat.{_+_, _*_, _/_, _%_, _^_, _≤_, _<_};
 ghost use lib.ListN.{length, set, replicate};
-ghost use Rattle.slots.specs.Leaf.{childless};
-ghost use Rattle.slots.specs.Slots.{word, put, kids, value, putInternal, putLeaf, putValue};
+ghost use Rattle.slots.specs.Slots.{word, put, childless, kids, value, putInternal, putLeaf, putValue};
 
 const WORDS: usize = 8;
 

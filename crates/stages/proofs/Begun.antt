@@ -15,8 +15,8 @@ use Rattle.rules.specs.Number.{within, floatOf}
 use Rattle.rules.specs.Sheet.{recordSize, wholeRecords, countOf, particlesOf, placesOf}
 use Rattle.rules.specs.Tick.{SheetInput, state, entries, count, sheetCheck}
 use Rattle.sheet.proofs.Checked.{records-sound}
-use Rattle.force.proofs.Scans.{stops}
-use Rattle.force.proofs.Called.{require-true}
+use Rattle.lists.proofs.Scans.{stops}
+use Rattle.lists.proofs.Checks.{require-true}
 use Rattle.checks.specs.Fits.{Fits}
 use Rattle.checks.specs.Input.{lentSheet}
 use Rattle.checks.proofs.Early.{prior-passes}

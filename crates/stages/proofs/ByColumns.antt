@@ -12,8 +12,8 @@ use Rattle.rules.proofs.CellCount.{length-upTo}
 use Rattle.sheet.specs.Columns.{flagsOf, putPairs}
 use Rattle.sheet.proofs.Bytes.{Bytes}
 use Rattle.sheet.proofs.Columns.{places-of, speeds-of, sheet-of-columns}
-use Rattle.force.specs.Columns.{particleAt, particlesFrom}
-use Rattle.force.proofs.Closing.{places-back, speeds-back, flags-back}
+use Rattle.moves.specs.Columns.{particleAt, particlesFrom}
+use Rattle.moves.proofs.Closing.{places-back, speeds-back, flags-back}
 use Rattle.stages.specs.Columns.{Read, Writable, written}
 
 -- ---- reading

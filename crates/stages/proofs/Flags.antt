@@ -9,8 +9,8 @@ use Rattle.rules.specs.Sheet.{placesOf, speedsOf}
 use Rattle.rules.specs.Particle.{shifted, centered, moved, closing}
 use Rattle.rules.specs.Tick.{withSpeedsFrom, withSpeeds}
 use Rattle.sheet.specs.Columns.{flagsOf}
-use Rattle.force.specs.Columns.{particlesFrom}
-use Rattle.force.proofs.Closing.{particles-back}
+use Rattle.moves.specs.Columns.{particlesFrom}
+use Rattle.moves.proofs.Closing.{particles-back}
 
 speeds-flags : (vs : List Float) (i : ℕ) (ps : List Particle) → flagsOf (withSpeedsFrom i vs ps) ≡ flagsOf ps
 speeds-flags vs i [] = refl

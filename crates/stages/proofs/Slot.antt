@@ -15,7 +15,7 @@ use Rattle.rules.specs.Force.{manyBody, collide, link, endsFrom, endsOf, endsRa
 use Rattle.rules.specs.Tick.{State, Force, push, center, byKind, entryCounts, numbersNeeded, forceOf, forceStage}
 use Rattle.link.specs.Links.{EndsLent, ListsLent}
 use Rattle.link.proofs.EndsRange.{ends-range}
-use Rattle.force.proofs.Called.{then-both, require-true}
+use Rattle.lists.proofs.Checks.{then-both, require-true}
 use Rattle.checks.proofs.Parts.{first-ends}
 use Rattle.stages.specs.Stage.{SlotFits}
 

@@ -24,10 +24,10 @@ use Rattle.sheet.proofs.Checked.{all-ranged}
 use Rattle.quadtree.specs.Build as Build
 use Rattle.force.specs.declared.Ran.{Ran}
 use Rattle.force.specs.Ran.{standing, ranOf, Runs, visited}
-use Rattle.force.specs.Columns.{particleAt, particlesFrom}
-use Rattle.force.proofs.Called.{late-clears, standing-refused, standing-fine}
-use Rattle.force.proofs.Centring.{centered-speeds}
-use Rattle.force.proofs.Closing.{places-back, speeds-back, flags-back, closing-entry}
+use Rattle.moves.specs.Columns.{particleAt, particlesFrom}
+use Rattle.force.proofs.Standing.{late-clears, standing-refused, standing-fine}
+use Rattle.moves.proofs.Centring.{centered-speeds}
+use Rattle.moves.proofs.Closing.{places-back, speeds-back, flags-back, closing-entry}
 use Rattle.stages.specs.Stage.{Columns, Chains, stateOf, idle, settledRan, stagedOf, Stages}
 use Rattle.stages.proofs.Flags.{centered-flags, closing-flags, columns-of}
 

@@ -6,7 +6,7 @@ use lib.ListN.{length}
 use lib.Ieee.{Float}
 use Rattle.rules.specs.Sheet.{countOf, particlesOf, sheetOf, placesOf, speedsOf}
 use Rattle.sheet.specs.Columns.{flagsOf}
-use Rattle.force.specs.Columns.{particlesFrom}
+use Rattle.moves.specs.Columns.{particlesFrom}
 
 -- of n particles: places and speeds in pairs, flags, places and speeds as a tick finds them, links and tails of chains
 pub record Lists (n : ℕ) (places speeds : List Float) (flags : List ℕ) (home was : List Float) (next tail : List ℕ) : Type 0 where

@@ -14,7 +14,7 @@ use Rattle.rules.specs.Tick.{State, state, entryCounts, strengthsRight, numbers
 use Rattle.force.specs.declared.Ran.{Ran}
 use Rattle.force.specs.Draws.{From}
 use Rattle.force.specs.Ran.{standing}
-use Rattle.force.specs.Columns.{particlesFrom}
+use Rattle.moves.specs.Columns.{particlesFrom}
 
 -- n particles, at most 4,096 and none further than 2 ^ 40 from zero: places and speeds in pairs; and no draw used past the last
 pub record Columns (at vs ds : List Float) (n used : ℕ) : Type 0 where

@@ -1,12 +1,12 @@
 // One force slot of a tick: the force of its kind runs, then 9 is tested.
 use collide::collide::collide;
 use force::Ran;
-use force::center::center_all;
-use force::check::result_check;
 use force::index;
 use link::link::link;
+use lists::result_check;
 use many_body::many_body::many_body;
 use many_body::standard;
+use moves::center::center_all;
 use rules::ForceEntry;
 use rules::Refusal;
 ghost use mathlib.Core.Path.{_≡_};

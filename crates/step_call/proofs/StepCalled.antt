@@ -13,11 +13,12 @@ use Rattle.rules.specs.Number.{floatOf}
 use Rattle.rules.specs.Calls.{slotsOf}
 use Rattle.rules.specs.Tick.{SheetInput, ranFor, count, entries, forces, forcesFrom, sheetCheck, begun, tickSettings, ticksFrom, stepResult, stepAnswer, sheetAfterStep, alphaAfterStep, workAfterStep}
 use Rattle.checks.proofs.Whole.{keeps-slots}
-use Rattle.steps.specs.declared.Stepped.{Stepped}
+use Rattle.tick_ends.specs.declared.Stepped.{Stepped}
 use Rattle.stages.specs.Stage.{stateOf}
 use Rattle.steps.specs.Step.{Steps}
 use Rattle.stages.specs.Columns.{Read}
-use Rattle.step_call.specs.Step.{noTicks, StepSettled, AfterStep}
+use Rattle.tick_ends.specs.Settled.{noTicks, StepSettled}
+use Rattle.step_call.specs.Step.{AfterStep}
 use Rattle.stages.proofs.Begun.{begun-is, spent}
 
 -- an accepted step leaves the work slots zero

@@ -1,62 +1,20 @@
 // A step of many ticks, called on a sheet.
 use checks::step_check;
-use number::bits_of;
 use number::float_of;
-use rules::Refusal;
 use rules::Settings;
 use rules::StepAnswer;
 use stages::columns::read_columns;
-use stages::columns::write_columns;
-use steps::Stepped;
 use steps::step_on;
+use tick_ends::settle::refused_step;
+use tick_ends::settle::settle_step;
 ghost use mathlib.Core.Path.{_≡_};
 ghost use mathlib.Core.List.{[], _∷_, _++_};
 ghost use Rattle.rules.specs.Outcome.{fine};
 ghost use Rattle.rules.specs.Sheet.{countOf};
 ghost use Rattle.rules.specs.Tick.{sheetCheck, tickSettings};
 ghost use Rattle.checks.specs.Input.{lentSheet};
-ghost use Rattle.stages.specs.Columns.{Lists, Writable};
-ghost use Rattle.step_call.specs.Step.{noTicks, StepSettled, AfterStep};
-
-// A refusal's answer: no tick, and all counts zero.
-fn refused_step(refusal: Refusal) -> StepAnswer
-    ensures { λ r. ⌜ r ≡ noTicks refusal ⌝ }
-{
-    StepAnswer {
-        refusal,
-        ticks: 0,
-        finished: false,
-        visits: 0,
-        draws: 0,
-    }
-}
-
-// What the ticks left is written, also where one that was refused ended them. The work slots are zero in any case.
-fn settle(
-    sheet: &mut [u8],
-    alpha: &mut u64,
-    places: &[f64],
-    speeds: &[f64],
-    stepped: Stepped,
-    least: f64,
-    work: &mut [u64],
-) -> StepAnswer
-    requires { ⌜ Writable (now sheet) (now places) (now speeds) ⌝ }
-    ensures { λ r. ⌜ StepSettled stepped least (now (places .entry)) (now (speeds .entry)) (now (sheet .entry)) (now (work .entry)) r (now (sheet .exit)) (now (alpha .exit)) (now (work .exit)) ⌝ }
-{
-    quadtree::store::clear(work);
-    write_columns(sheet, places, speeds);
-    let heat = stepped.alpha;
-    *alpha = bits_of(heat);
-    let refusal = stepped.refusal;
-    StepAnswer {
-        refusal,
-        ticks: stepped.ticks,
-        finished: heat <= least,
-        visits: stepped.visits,
-        draws: stepped.used as u64,
-    }
-}
+ghost use Rattle.stages.specs.Columns.{Lists};
+ghost use Rattle.step_call.specs.Step.{AfterStep};
 
 // With lists for the particles by columns and for the trees. Every check is past.
 fn on_columns(
@@ -103,7 +61,7 @@ fn on_columns(
         tail,
         work,
     );
-    settle(sheet, alpha, places, speeds, stepped, least, work)
+    settle_step(sheet, alpha, places, speeds, stepped, least, work)
 }
 
 // The same with lists of its own.

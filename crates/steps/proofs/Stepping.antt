@@ -10,11 +10,12 @@ use Rattle.rules.specs.declared.Refusal.{Refusal}
 use Rattle.rules.specs.declared.Settings.{Settings}
 use Rattle.rules.specs.Outcome.{Outcome, done, refused, refusal, zeroesWork}
 use Rattle.rules.specs.Tick.{State, Force, tick, Run, ranFor, ticksFrom}
-use Rattle.ticks.specs.declared.Ticked.{Ticked}
-use Rattle.steps.specs.declared.Stepped.{Stepped}
+use Rattle.tick_ends.specs.declared.Ticked.{Ticked}
+use Rattle.tick_ends.specs.declared.Stepped.{Stepped}
 use Rattle.stages.specs.Stage.{Columns, stateOf}
 use Rattle.ticks.specs.Tick.{Ticks}
-use Rattle.steps.specs.Step.{unrefused, Steps}
+use Rattle.tick_ends.specs.Ends.{unrefused}
+use Rattle.steps.specs.Step.{Steps}
 
 module _ (s : Settings) (least : Float) (fs : List Force) (slots budget : ℕ) where
   -- the ticks from number t on

@@ -9,12 +9,8 @@ use Rattle.rules.specs.Plain.{all}
 use Rattle.rules.specs.Outcome.{refusal, zeroesWork}
 use Rattle.rules.specs.Number.{within}
 use Rattle.rules.specs.Tick.{Run, ranFor}
-use Rattle.steps.specs.declared.Stepped.{Stepped}
+use Rattle.tick_ends.specs.declared.Stepped.{Stepped}
 use Rattle.stages.specs.Stage.{stateOf}
-
--- no tick was refused
-abbrev pub unrefused : ℕ → Float → ℕ → ℕ → Stepped
-unrefused ticks alpha used visits = record { ticks = ticks; refusal = refusal 0 0; alpha = alpha; used = used; visits = visits }
 
 -- The ticks ran as o, and left these columns. A tick that ended them refused by none but 6 to 9.
 pub record Steps (places speeds : List Float) (flags : List ℕ) (ds : List Float) (budget : ℕ) (r : Stepped) (o : Run) : Type 0 where

@@ -1,6 +1,7 @@
 // Many ticks by columns, until alpha is low or the budget is spent.
-use rules::Refusal;
 use rules::Settings;
+use tick_ends::Stepped;
+use tick_ends::ended;
 use ticks::tick_on;
 ghost use mathlib.Core.Path.{_≡_};
 ghost use Prim.Native.Nat.{_*_, _/_, _≤_};
@@ -8,32 +9,7 @@ ghost use lib.ListN.{length};
 ghost use Rattle.rules.specs.Tick.{entriesOf, forcesFrom, ticksFrom};
 ghost use Rattle.checks.specs.Fits.{Fits};
 ghost use Rattle.stages.specs.Stage.{Columns, Chains, stateOf};
-ghost use Rattle.steps.specs.Step.{unrefused, Steps};
-
-// How a step ended: the ticks done, the refusal of the tick that ended it or number 0, and what they left.
-pub struct Stepped {
-    pub ticks: u64,
-    pub refusal: Refusal,
-    pub alpha: f64,
-    pub used: usize,
-    pub visits: u64,
-}
-
-// Ended by no tick: alpha is low, or the budget is spent.
-fn ended(ticks: u64, alpha: f64, used: usize, visits: u64) -> Stepped
-    ensures { λ r. ⌜ r ≡ unrefused ticks alpha used visits ⌝ }
-{
-    Stepped {
-        ticks,
-        refusal: Refusal {
-            number: 0,
-            place: 0,
-        },
-        alpha,
-        used,
-        visits,
-    }
-}
+ghost use Rattle.steps.specs.Step.{Steps};
 
 // No draw is used and no node handed out before it. A refused tick leaves what the ticks before it left.
 pub fn step_on(

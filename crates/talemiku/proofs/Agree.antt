@@ -16,10 +16,10 @@ use Rattle.rules.specs.Particle.{shifted, centered, moved, closing}
 use Rattle.rules.specs.Calls.{listResult, listAnswer, centerResult, closingResult}
 use Rattle.sheet.specs.Columns.{flagsOf}
 use Rattle.sheet.proofs.Checked.{record-fine}
-use Rattle.force.specs.Columns.{particlesFrom}
-use Rattle.force.proofs.Called.{result-fine}
-use Rattle.force.proofs.Closing.{particles-back}
-use Rattle.force.proofs.Centring.{centered-speeds}
+use Rattle.moves.specs.Columns.{particlesFrom}
+use Rattle.lists.proofs.Checks.{result-fine}
+use Rattle.moves.proofs.Closing.{particles-back}
+use Rattle.moves.proofs.Centring.{centered-speeds}
 use Rattle.talemiku.specs.Answered.{Answered}
 use Rattle.talemiku.proofs.Passes.{count-fine, settings-fine, closing-each, centered-each}
 

@@ -18,7 +18,7 @@ use Rattle.rules.specs.Outcome.{refused, Check, fine, require, _>>=_, refusalOf
 use Rattle.rules.specs.Refusal.{countCheck, settingsCheck, resultCheck}
 use Rattle.rules.specs.Sheet.{particle, placesOf, speedsOf}
 use Rattle.rules.specs.Particle.{offset, shifted, centered, moved, closing}
-use Rattle.force.proofs.Scans.{real-require, real-from, passes}
+use Rattle.lists.proofs.Scans.{real-require, real-from, passes}
 use Rattle.talemiku.specs.declared.centring.Pair.{Pair}
 use Rattle.talemiku.specs.Pass.{resultOf, pair, addedTo, offsetsOf}
 

@@ -17,7 +17,7 @@ use Rattle.rules.specs.Flow.{Flow}
 use Rattle.rules.specs.Calls.{TreeInput, ForceInput}
 use Rattle.rules.specs.Tick.{SheetInput}
 use Rattle.tree.specs.Tree.{AfterTree}
-use Rattle.force.specs.Calls as Force
+use Rattle.force_call.specs.Calls as Force
 use Rattle.tick_call.specs.Tick.{AfterTick}
 use Rattle.step_call.specs.Step.{AfterStep}
 use Rattle.talemiku.specs.Answered.{Answered}

@@ -1,8 +1,8 @@
 // particle.rs: the closing move.
 use crate::check::result_check;
-use force::check::count_check;
-use force::check::setting_check;
-use force::particle::moved;
+use lists::count_check;
+use lists::setting_check;
+use moves::particle::moved;
 use rules::Particle;
 use rules::Refusal;
 use sheet::record_check;

@@ -20,7 +20,7 @@ ghost use Rattle.checks.specs.Input.{lentSheet};
 ghost use Rattle.tick_call.specs.Tick.{AfterTick};
 ghost use Rattle.step_call.specs.Step.{AfterStep};
 ghost use Rattle.tree.specs.Tree as Tree;
-ghost use Rattle.force.specs.Calls.{lent, Answered};
+ghost use Rattle.force_call.specs.Calls.{lent, Answered};
 
 // The floor as a whole number, or refusal 4.
 #[no_mangle]

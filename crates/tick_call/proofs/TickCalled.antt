@@ -3,7 +3,6 @@ use mathlib.Core.Path.{_≡_, refl, sym, ap, _∙_}
 use mathlib.Core.Bool.{Bool, true, false, cond}
 use mathlib.Core.List.{List}
 use Prim.Native.Nat.{ℕ, _≤_}
-use borrow.Author.Tests.{eq-eqb, ne-eqb}
 use lib.Dec.{eqb}
 use lib.ListN.{length}
 use lib.Ieee.{Float}
@@ -11,19 +10,19 @@ use Rattle.rules.specs.declared.Refusal.{Refusal}
 use Rattle.rules.specs.declared.Counts.{Counts}
 use Rattle.rules.specs.declared.Settings.{Settings}
 use Rattle.rules.specs.Outcome.{Check, done, refused, fine, _>>=_, refusalOf, zeroesWork}
-use Rattle.rules.specs.Plain.{zeros}
-use Rattle.rules.specs.Number.{floatOf, bitsOf}
+use Rattle.rules.specs.Number.{floatOf}
 use Rattle.rules.specs.Sheet.{particlesOf}
 use Rattle.rules.specs.Calls.{slotsOf}
 use Rattle.rules.specs.Tick.{SheetInput, State, count, entries, forces, forcesFrom, sheetCheck, tick, begun, tickSettings, tickResult, tickAnswer, sheetAfterTick, alphaAfterTick, workAfterTick}
 use Rattle.sheet.specs.Columns.{flagsOf}
-use Rattle.force.specs.Calls.{noCounts, countsAfter}
+use Rattle.force_call.specs.Calls.{noCounts}
 use Rattle.checks.proofs.Whole.{keeps-slots}
-use Rattle.ticks.specs.declared.Ticked.{Ticked}
+use Rattle.tick_ends.specs.declared.Ticked.{Ticked}
 use Rattle.stages.specs.Stage.{stateOf}
 use Rattle.ticks.specs.Tick.{tickedOf, Ticks}
-use Rattle.stages.specs.Columns.{Read, written}
-use Rattle.tick_call.specs.Tick.{standing, TickSettled, AfterTick}
+use Rattle.stages.specs.Columns.{Read}
+use Rattle.tick_ends.specs.Settled.{standing, TickSettled}
+use Rattle.tick_call.specs.Tick.{AfterTick}
 use Rattle.stages.proofs.Begun.{begun-is, spent}
 
 -- ---- what stands
@@ -48,19 +47,6 @@ stands-late t h = go (eqb (t .refusal .number) 0) h
     go : (b : Bool) → zeroesWork (t .refusal) ≡ true → zeroesWork (refusalOf (cond b fine (refused (t .refusal)))) ≡ true
     go true h = refl
     go false h = h
-
--- ---- how a tick t is settled
-
-module _ (t : Ticked) (places speeds : List Float) (sheet : List ℕ) (alpha : ℕ) (work work' : List ℕ) where
-  pub settled-refused : (r : Counts) → (t .refusal .number ≡ 0 → ⊥) → r ≡ noCounts (t .refusal) → work' ≡ zeros work
-      → TickSettled (standing t) t places speeds sheet alpha work r sheet alpha work'
-  unfolding standing
-  settled-refused r h er ew = let e = ne-eqb (t .refusal .number) 0 h in record { answer = er ∙ rw e; bytes = rw e; heat = rw e; slots = ew }
-
-  pub settled-done : (sheet' : List ℕ) (alpha' : ℕ) → t .refusal .number ≡ 0 → sheet' ≡ written sheet places speeds → alpha' ≡ bitsOf (t .alpha) → work' ≡ zeros work
-      → TickSettled (standing t) t places speeds sheet alpha work (countsAfter fine (t .visits) (t .used)) sheet' alpha' work'
-  unfolding standing
-  settled-done sheet' alpha' h es ea ew = let e = eq-eqb (t .refusal .number) 0 h in record { answer = rw e; bytes = es ∙ rw e; heat = ea ∙ rw e; slots = ew }
 
 module _ (l : SheetInput) (s : Settings) where
   -- ---- refused before it begins: nothing changes

@@ -1,52 +1,19 @@
 // One tick, called on a sheet.
 use checks::tick_check;
-use force::call::refused;
-use number::bits_of;
+use force_call::refused;
 use number::float_of;
 use rules::Counts;
-use rules::Refusal;
 use rules::Settings;
 use stages::columns::read_columns;
-use stages::columns::write_columns;
-use ticks::Ticked;
+use tick_ends::settle::settle_tick;
 use ticks::tick_on;
 ghost use mathlib.Core.Path.{_≡_};
 ghost use Rattle.rules.specs.Outcome.{fine};
 ghost use Rattle.rules.specs.Sheet.{countOf};
 ghost use Rattle.rules.specs.Tick.{sheetCheck, tickSettings};
 ghost use Rattle.checks.specs.Input.{lentSheet};
-ghost use Rattle.stages.specs.Columns.{Lists, Writable};
-ghost use Rattle.tick_call.specs.Tick.{standing, TickSettled, AfterTick};
-
-// Sheet and alpha are written only where the tick is not refused. The work slots are zero in any case.
-fn settle(
-    sheet: &mut [u8],
-    alpha: &mut u64,
-    places: &[f64],
-    speeds: &[f64],
-    ticked: Ticked,
-    work: &mut [u64],
-) -> Counts
-    requires { ⌜ Writable (now sheet) (now places) (now speeds) ⌝ }
-    ensures { λ r. ⌜ TickSettled (standing ticked) ticked (now (places .entry)) (now (speeds .entry)) (now (sheet .entry)) (now (alpha .entry)) (now (work .entry)) r (now (sheet .exit)) (now (alpha .exit)) (now (work .exit)) ⌝ }
-{
-    quadtree::store::clear(work);
-    let refusal = ticked.refusal;
-    let number = refusal.number;
-    if number != 0 {
-        return refused(refusal);
-    }
-    write_columns(sheet, places, speeds);
-    *alpha = bits_of(ticked.alpha);
-    Counts {
-        refusal: Refusal {
-            number: 0,
-            place: 0,
-        },
-        visits: ticked.visits,
-        draws: ticked.used as u64,
-    }
-}
+ghost use Rattle.stages.specs.Columns.{Lists};
+ghost use Rattle.tick_call.specs.Tick.{AfterTick};
 
 // With lists for the particles by columns and for the trees. Every check is past.
 fn on_columns(
@@ -91,7 +58,7 @@ fn on_columns(
         tail,
         work,
     );
-    settle(sheet, alpha, places, speeds, ticked, work)
+    settle_tick(sheet, alpha, places, speeds, ticked, work)
 }
 
 // The same with lists of its own.

@@ -15,11 +15,11 @@ use Rattle.rules.specs.Refusal.{alphaCheck}
 use Rattle.rules.specs.Particle.{closing}
 use Rattle.rules.specs.Tick.{State, state, Force, nextAlpha, alphaStage, settled, forceStage, tick}
 use Rattle.force.specs.declared.Ran.{Ran}
-use Rattle.force.specs.Columns.{particlesFrom}
-use Rattle.ticks.specs.declared.Ticked.{Ticked}
-use Rattle.force.proofs.Called.{standing-fine}
-use Rattle.stages.specs.Stage.{Columns, stateOf, idle, settledRan, stagedOf, Stages}
-use Rattle.ticks.specs.Tick.{closed, stagesFrom, tickedOf, EndsTick, Ticks}
+use Rattle.moves.specs.Columns.{particlesFrom}
+use Rattle.tick_ends.specs.declared.Ticked.{Ticked}
+use Rattle.stages.specs.Stage.{Columns, stateOf, stagedOf, Stages}
+use Rattle.tick_ends.specs.Ends.{closed, EndsTick}
+use Rattle.ticks.specs.Tick.{stagesFrom, tickedOf, Ticks}
 use Rattle.stages.proofs.Staged.{staged-refused, staged-done}
 
 -- ---- from alpha's test on
@@ -56,32 +56,6 @@ module _ (places speeds ds : List Float) (flags : List ℕ) (alpha decay : Float
       → Stages at vs flags alpha ds used most r (stagesFrom decay entry fs slots (stateOf places speeds flags alpha ds used visits))
   cool-stages w at vs most r k =
       record { is = k .is ∙ stages-cool decay entry fs slots (stateOf places speeds flags alpha ds used visits) w; draws = k .draws; late = k .late; few = k .few; ranged = k .ranged }
-
--- ---- the closing move
-
--- where forces refused nothing 9 is tested as after none
-pub settled-same : (places speeds : List Float) (ran : Ran) → ran .refusal .number ≡ 0 → settledRan places speeds ran ≡ settledRan places speeds (idle (ran .used) (ran .visits))
-settled-same places speeds ran z = rw (standing-fine ran z, standing-fine (idle (ran .used) (ran .visits)) refl)
-
--- the forces came to o, left these columns, and `ran` was answered
-module _ (at vs ds : List Float) (flags : List ℕ) (alpha decay : Float) (entry : List Particle) (used most : ℕ) (ran : Ran) (o : Outcome State) (h : Stages at vs flags alpha ds used most ran o) where
-  pub stopped-stages : (ran .refusal .number ≡ 0 → ⊥) → Stages at vs flags alpha ds used most ran (closed decay entry o)
-  stopped-stages n =
-      let e = staged-refused at vs flags alpha ds ran n in
-      record { is = e ∙ rw (sym (h .is) ∙ e); draws = h .draws; late = h .late; few = h .few; ranged = h .ranged }
-
-  -- and the closing move these
-  pub moved-stages : (at' vs' : List Float) (r : Ran) → ran .refusal .number ≡ 0
-      → Stages at' vs' flags alpha ds (ran .used) (ran .visits) r (settled (closing decay entry (particlesFrom at vs flags)) (stateOf at vs flags alpha ds (ran .used) (ran .visits)))
-      → Stages at' vs' flags alpha ds used most r (closed decay entry o)
-  moved-stages at' vs' r z k =
-      record {
-        is = k .is ∙ rw (sym (h .is) ∙ staged-done at vs flags alpha ds ran z);
-        draws = omega (arith, h .draws, k .draws);
-        late = k .late;
-        few = λ z'. omega (arith, h .few z, k .few z');
-        ranged = k .ranged;
-      }
 
 -- a tick is alpha's step and these
 pub tick-is : (s : Settings) (fs : List Force) (slots : ℕ) (m : State)

@@ -10,16 +10,11 @@ use Rattle.rules.specs.Plain.{all}
 use Rattle.rules.specs.Outcome.{Outcome, done, refused, _>>=_, foldStages, zeroesWork}
 use Rattle.rules.specs.Number.{within}
 use Rattle.rules.specs.Refusal.{alphaCheck}
-use Rattle.rules.specs.Particle.{closing}
-use Rattle.rules.specs.Tick.{State, Force, settled, forceStage}
-use Rattle.force.specs.declared.Ran.{Ran}
+use Rattle.rules.specs.Tick.{State, Force, forceStage}
 use Rattle.force.specs.Draws.{From}
-use Rattle.ticks.specs.declared.Ticked.{Ticked}
+use Rattle.tick_ends.specs.declared.Ticked.{Ticked}
+use Rattle.tick_ends.specs.Ends.{closed}
 use Rattle.stages.specs.Stage.{stateOf}
-
--- after what the forces came to: the closing move, beside the particles at tick entry, and 9
-abbrev pub closed : Float → List Particle → Outcome State → Outcome State
-closed decay entry o = o >>= λ m. settled (closing decay entry (m .particles)) m
 
 -- the stages of a tick from alpha's test on, beside the particles at tick entry
 unfoldable pub stagesFrom : Float → List Particle → List Force → ℕ → State → Outcome State
@@ -36,11 +31,6 @@ pub record Unmoved (places speeds places' speeds' : List Float) (alpha : Float) 
   pub heat : r .alpha ≡ alpha
   pub draw : r .used ≡ used
   pub visit : r .visits ≡ visits
-
--- How a tick ends whose stages ended as `ran`: what they left is its end, or, refused, it has put back `home` and `was`.
-pub record EndsTick (ran : Ran) (home was places speeds : List Float) (alpha cooled : Float) (used visits : ℕ) (r : Ticked) (places' speeds' : List Float) : Type 0 where
-  pub accepted : ran .refusal .number ≡ 0 → (r ≡ record { refusal = ran .refusal; alpha = cooled; used = ran .used; visits = ran .visits }) × (places' ≡ places) × (speeds' ≡ speeds)
-  pub putBack : (ran .refusal .number ≡ 0 → ⊥) → (r ≡ record { refusal = ran .refusal; alpha = alpha; used = used; visits = visits }) × (places' ≡ home) × (speeds' ≡ was)
 
 -- The tick ended as o. It refuses by none but 6 to 9, and then leaves everything as it was; places are in range in any case, so that a tick may follow.
 pub record Ticks (places speeds places' speeds' : List Float) (flags : List ℕ) (alpha : Float) (ds : List Float) (used visits : ℕ) (r : Ticked) (o : Outcome State) : Type 0 where

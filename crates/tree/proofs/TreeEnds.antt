@@ -17,13 +17,13 @@ use Rattle.rules.specs.Tree.{Tree, nodes, treeOf, treeCheck, rowsOf, flat, chai
 use Rattle.rules.specs.Calls.{slotsOf, TreeInput, treeAnswer, rowsAfter, chainsAfter, treeWorkAfter}
 use Rattle.sheet.proofs.Checked.{all-ranged, records-sound}
 use Rattle.sheet.proofs.Columns.{places-of}
-use Rattle.quadtree.specs.declared.Quadtree.{Quadtree}
-use Rattle.tree.specs.List.{Whole}
+use Rattle.slots.specs.declared.Quadtree.{Quadtree}
+use Rattle.rows.specs.List.{Whole}
 use Rattle.tree.specs.Tree.{AfterTree, refusedTree, refusedWork, built, Ready}
 use Rattle.quadtree.specs.declared.build.Built.{Built}
 use Rattle.quadtree.specs.declared.build.Built.the-variants.{Refused}
 use Rattle.quadtree.specs.Build.{particles, Lent, Builds}
-use Rattle.quadtree.proofs.AddHold.{cells-nodes}
+use Rattle.slots.proofs.Trees.{cells-nodes}
 use Rattle.quadtree.proofs.Refusals.{tree-clears}
 
 -- ---- which refusals clear the work slots

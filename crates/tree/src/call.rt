@@ -1,15 +1,15 @@
 // The tree call: every check in its order, then the tree is built in the lent slots and listed.
-use crate::list::list;
-use quadtree::Quadtree;
 use quadtree::build::Built;
 use quadtree::build::build;
-use quadtree::store::clear;
+use rows::list;
 use rules::Extent;
 use rules::Refusal;
 use rules::TreeAnswer;
 use sheet::read_pairs;
 use sheet::records_check;
 use sheet::whole_records;
+use slots::Quadtree;
+use slots::store::clear;
 ghost use mathlib.Core.Path.{_≡_};
 ghost use mathlib.Core.Bool.{_&&_};
 ghost use Prim.Native.Nat.{_*_, _≤_, _<_, _^_};

@@ -1,6 +1,5 @@
 // The tree call: a sheet's tree, listed parent first with its chains.
 mod call;
-mod list;
 
 pub use call::tree;
 pub use call::tree_within;

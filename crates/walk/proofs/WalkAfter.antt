@@ -8,10 +8,10 @@ use lib.Ieee.{Float}
 use Rattle.rules.specs.Plain.{foldl}
 use Rattle.rules.specs.Tree.{Tree, none, leaf, node, nodes}
 use Rattle.rules.specs.Walk.{Entry, internal, tip, valued, parentLast}
-use Rattle.quadtree.specs.declared.Quadtree.{Quadtree}
+use Rattle.slots.specs.declared.Quadtree.{Quadtree}
 use Rattle.walk.specs.declared.visit_after.Path.{Path}
 use Rattle.walk.specs.declared.visit_after.Handed.{Handed}
-use Rattle.quadtree.specs.Slots.{word, kid, kids, Follows, first, Stands}
+use Rattle.slots.specs.Trees.{word, kid, kids, Follows, first, Stands}
 use Rattle.walk.specs.Walk.{EachChain, ChainFrom}
 use Rattle.walk.specs.WalkAfter.{Step, stepsAt, stepsOf, rooted, Steps, Climbs, Climbing, EntryAt, First, Descends, Lent, KidsLent, EachTip, valuesAt, kidValues, Valued}
 use Rattle.walk.proofs.WalkClimb.{climb-start, climb-end}

@@ -7,7 +7,7 @@ use native.Mathlib.Omega.{arith}
 use lib.ListN.{length}
 use Rattle.rules.specs.Tree.{Tree, none, leaf, node, depth}
 use Rattle.rules.specs.Walk.{Entry, internal, tip, parentLast}
-use Rattle.quadtree.specs.Slots.{word, kid, Follows, first, Leads, EachSlot}
+use Rattle.slots.specs.Trees.{word, kid, Follows, first, Leads, EachSlot}
 use Rattle.walk.specs.WalkAfter.{Step, rooted, remaining, remainingAll, Steps, Climbs, Lent, KidsLent}
 
 -- ---- what remains of a tree

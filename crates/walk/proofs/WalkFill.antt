@@ -8,10 +8,10 @@ use Rattle.rules.specs.declared.Extent.{Extent}
 use Rattle.rules.specs.Cell.{quarter}
 use Rattle.rules.specs.Tree.{Tree, none, leaf, node}
 use Rattle.rules.specs.Walk.{Entry, internal, tip, valued, present, parentLast}
-use Rattle.quadtree.specs.Slots.{word, kid, Leads, EachSlot, Apart, Once, inCells}
+use Rattle.slots.specs.Trees.{word, kid, Leads, EachSlot, Apart, Once, inCells}
 use Rattle.walk.specs.Walk.{seen, EachChain}
 use Rattle.walk.specs.WalkAfter.{valuesAt, kidValues}
-use Rattle.quadtree.proofs.SlotsTree.{each-map}
+use Rattle.slots.proofs.Trees.{each-map}
 use Rattle.walk.proofs.WalkValues.{Alike, alike-refl, alike-trans, leads-alike, Writes}
 
 module _ {B : Type 0} (read : List ℕ → ℕ → B) where

@@ -10,8 +10,8 @@ use Rattle.rules.specs.declared.Extent.{Extent}
 use Rattle.rules.specs.Plain.{keep, countFrom, upTo, branch}
 use Rattle.rules.specs.Cell.{quarter}
 use Rattle.rules.specs.Tree.{Tree, none, leaf, node, nodes, inQuarter, pointsIn, alike, grow, treeIn, treeOf}
-use Rattle.quadtree.specs.declared.Quadtree.{Quadtree}
-use Rattle.quadtree.specs.Slots.{EachSlot, inCells, Stands}
+use Rattle.slots.specs.declared.Quadtree.{Quadtree}
+use Rattle.slots.specs.Trees.{EachSlot, inCells, Stands}
 use Rattle.walk.specs.Walk.{seen, EachChain, EachBelow}
 use Rattle.walk.proofs.WalkTurns.{Found, nodes-seen}
 

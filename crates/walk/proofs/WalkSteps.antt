@@ -7,7 +7,7 @@ use native.Mathlib.Omega.{arith}
 use lib.ListN.{length, getD, set, length-set}
 use lib.Seq.{getD-set-same, getD-set-other}
 use Rattle.rules.specs.Walk.{Entry, internal, tip}
-use Rattle.quadtree.specs.Slots.{word, kid, kids}
+use Rattle.slots.specs.Trees.{word, kid, kids}
 use Rattle.walk.specs.WalkAfter.{stepsAt, rooted, Climbs, First}
 use Rattle.walk.proofs.WalkClimb.{climb-lent, climb-leaf, climb-node, climb-past, climb-down}
 

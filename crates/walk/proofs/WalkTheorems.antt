@@ -14,9 +14,9 @@ use Rattle.rules.specs.Cell.{quarter}
 use Rattle.rules.specs.Tree.{Tree, none, leaf, node, nodes, depth, treeOf}
 use Rattle.rules.specs.Walk.{Entry, internal, tip, Counted, counted, After, after, unlessSkip, walk, parentLast}
 use Rattle.rules.proofs.CellRule.{tree-nodes}
-use Rattle.quadtree.specs.declared.Quadtree.{Quadtree}
+use Rattle.slots.specs.declared.Quadtree.{Quadtree}
 use Rattle.walk.specs.declared.visit.Walk.{Walk}
-use Rattle.quadtree.specs.Slots.{Stands, inCells}
+use Rattle.slots.specs.Trees.{Stands, inCells}
 use Rattle.walk.specs.Walk.{seen}
 use Rattle.walk.proofs.Walking as walking
 use Rattle.walk.proofs.WalkTurns.{nodes-seen}

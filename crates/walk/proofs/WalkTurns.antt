@@ -17,7 +17,7 @@ use Rattle.rules.specs.Cell.{quarter}
 use Rattle.rules.specs.Tree.{Tree, none, leaf, node, nodes, depth}
 use Rattle.rules.specs.Walk.{Entry, internal, tip, Counted, counted, After, after, walk}
 use Rattle.walk.specs.declared.visit.Waiting.{Waiting}
-use Rattle.quadtree.specs.Slots.{word, kid, Follows, first, Leads, EachSlot}
+use Rattle.slots.specs.Trees.{word, kid, Follows, first, Leads, EachSlot}
 use Rattle.walk.specs.Walk.{lay, layKids, seen, EachChain, ChainFrom}
 
 -- ---- what follows what was done

@@ -11,7 +11,7 @@ use lib.Ieee.Bits.{ofBits-toBits}
 use Rattle.rules.specs.Number.{floatOf, bitsOf}
 use Rattle.rules.specs.Tree.{Tree, none, leaf, node}
 use Rattle.slots.specs.Slots.{word, put, kid, value, putValue}
-use Rattle.quadtree.specs.Slots.{Leads}
+use Rattle.slots.specs.Trees.{Leads}
 use Rattle.slots.proofs.Slots.{put-same, put-other, put-word, put-length, Same, same-words}
 
 -- ---- what a tree sees

@@ -9,7 +9,7 @@ use Rattle.rules.specs.Cell.{cell, quarter}
 use Rattle.rules.specs.Tree.{Tree, none, leaf, node}
 use Rattle.walk.specs.declared.visit.Walk.{Walk}
 use Rattle.walk.specs.declared.visit.Waiting.{Waiting}
-use Rattle.quadtree.specs.Slots.{kid, Follows, first}
+use Rattle.slots.specs.Trees.{kid, Follows, first}
 
 -- ---- what waits
 

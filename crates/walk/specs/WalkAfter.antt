@@ -6,10 +6,10 @@ use lib.ListN.{length, getD}
 use lib.Ieee.{Float}
 use Rattle.rules.specs.Tree.{Tree, none, leaf, node, depth, treeOf}
 use Rattle.rules.specs.Walk.{Entry, internal, tip, valued, parentLast}
-use Rattle.quadtree.specs.declared.Quadtree.{Quadtree}
+use Rattle.slots.specs.declared.Quadtree.{Quadtree}
 use Rattle.walk.specs.declared.visit_after.Path.{Path}
 use Rattle.walk.specs.declared.visit_after.Handed.{Handed}
-use Rattle.quadtree.specs.Slots.{word, kid, Follows, first, Leads, EachSlot, Stands}
+use Rattle.slots.specs.Trees.{word, kid, Follows, first, Leads, EachSlot, Stands}
 use Rattle.walk.specs.Walk.{seen}
 
 -- ---- the path

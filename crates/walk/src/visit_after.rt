@@ -3,7 +3,7 @@ ghost use mathlib.Core.Path.{_≡_};
 ghost use lib.ListN.{length};
 ghost use Rattle.walk.specs.WalkAfter.{stepsOf, rooted, Climbing, Descends};
 use crate::visit;
-use quadtree::store;
+use slots::store;
 
 // At most 65 slots from the root down, each beside the quadrant that is next there.
 pub struct Path {

@@ -7,10 +7,10 @@ use lib.ListN.{length}
 use lib.Ieee.{Float}
 use Rattle.rules.specs.Tree.{Tree}
 use Rattle.rules.specs.ManyBody.{Charge, leafCharge, nodeCharge}
-use Rattle.quadtree.specs.declared.Quadtree.{Quadtree}
+use Rattle.slots.specs.declared.Quadtree.{Quadtree}
 use Rattle.walk.specs.declared.visit_after.Path.{Path}
 use Rattle.walk.specs.declared.visit_after.Handed.{Handed}
-use Rattle.quadtree.specs.Slots.{word, Stands}
+use Rattle.slots.specs.Trees.{word, Stands}
 use Rattle.walk.specs.WalkAfter.{stepsOf, rooted}
 use Rattle.walk.proofs.WalkAfter.{Filling, Taken, start, climbing, reach, kids-lent, chain, turn-node, turn-leaf, finish}
 use Rattle.charge.specs.Charge.{readCharge, putCharge, Few, Chain}

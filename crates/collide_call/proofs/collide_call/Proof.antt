@@ -9,8 +9,9 @@ use Rattle.rules.specs.Number.{0·}
 use Rattle.rules.specs.Outcome.{fine}
 use Rattle.rules.specs.Force.{Push, collide}
 use Rattle.rules.specs.Calls.{ForceInput}
-use Rattle.force.specs.Calls.{lent, lentCheck}
-use Rattle.force.proofs.Called.{Lent, lent-all, real-lent, stopped, passed, result-lent, answered-refused, part-size, lent-part, result-part, answered-part}
+use Rattle.force_call.specs.Calls.{lent, lentCheck}
+use Rattle.force_call.proofs.Called.{Lent, lent-all, real-lent, result-lent, answered-refused, part-size, lent-part, result-part, answered-part}
+use Rattle.lists.proofs.Checks.{stopped, passed}
 use Rattle.collide_call.proofs.collide_call.Statement.{statement}
 use Rattle.collide_call.proofs.collide_call.Tie as tie
 

@@ -1,6 +1,6 @@
 use mathlib.Core.List.{[]}
 use borrow.Author.Needs.{needs}
-use Rattle.force.specs.Calls.{lent}
+use Rattle.force_call.specs.Calls.{lent}
 use Rattle.collide_call.proofs.CollideCalled.{lent-answer}
 use Rattle.collide_call.proofs.lent_check.Statement.{statement}
 use Rattle.collide_call.proofs.lent_check.Tie as tie

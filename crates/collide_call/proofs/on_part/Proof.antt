@@ -11,9 +11,10 @@ use Rattle.rules.specs.Outcome.{fine}
 use Rattle.rules.specs.Force.{Push, collide}
 use Rattle.rules.specs.Calls.{ForceInput, slotsOf, speeds}
 use Rattle.force.specs.Ran.{ranOf}
-use Rattle.force.specs.Calls.{lent, numbersCheck}
-use Rattle.force.proofs.Called.{Lent, lent-all, real-numbers, stopped, passed, result-numbers, result-ran, answered-refused, answered-ran, settled-slots}
-use Rattle.force.proofs.CalledTree.{can-build}
+use Rattle.force_call.specs.Calls.{lent, numbersCheck}
+use Rattle.force_call.proofs.Called.{Lent, lent-all, real-numbers, result-numbers, result-ran, answered-refused, answered-ran, settled-slots}
+use Rattle.lists.proofs.Checks.{stopped, passed}
+use Rattle.force_call.proofs.CalledTree.{can-build}
 use Rattle.collide.specs.Collide.{begun}
 use Rattle.collide_call.proofs.CollideCalled.{times, spread, collide-runs}
 use Rattle.collide_call.proofs.on_part.Statement.{statement}

@@ -1,6 +1,6 @@
 use mathlib.Core.List.{[]}
 use borrow.Author.Needs.{needs}
-use Rattle.force.specs.Calls.{lent}
+use Rattle.force_call.specs.Calls.{lent}
 use Rattle.link_call.proofs.LinkCalled.{lent-answer}
 use Rattle.link_call.proofs.lent_check.Statement.{statement}
 use Rattle.link_call.proofs.lent_check.Tie as tie

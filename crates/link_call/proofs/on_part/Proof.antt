@@ -11,8 +11,9 @@ use Rattle.rules.specs.Force.{Push, link, endsOf}
 use Rattle.rules.specs.Calls.{ForceInput, slotsOf, speeds}
 use Rattle.force.specs.Ran.{ranOf}
 use Rattle.link.specs.Links.{EndsLent}
-use Rattle.force.specs.Calls.{lent, numbersCheck}
-use Rattle.force.proofs.Called.{Lent, lent-all, real-numbers, stopped, passed, result-numbers, result-ran, answered-refused, answered-ran}
+use Rattle.force_call.specs.Calls.{lent, numbersCheck}
+use Rattle.force_call.proofs.Called.{Lent, lent-all, real-numbers, result-numbers, result-ran, answered-refused, answered-ran}
+use Rattle.lists.proofs.Checks.{stopped, passed}
 use Rattle.link_call.proofs.LinkCalled.{ends-lent, lists-lent, link-runs}
 use Rattle.link_call.proofs.on_part.Statement.{statement}
 use Rattle.link_call.proofs.on_part.Tie as tie

@@ -20,12 +20,11 @@ put-pairs-spec =
     Inv-loop
     μ-loop
     (λ c. omega arith)
-    (λ c. omega arith)
     (λ c κs. search needs)
+    (λ c. omega arith)
     (λ c κs. omega arith)
     (λ c. omega arith)
     (λ c. omega arith)
-    (λ c κs. search needs)
     (λ c κs. omega arith)
     (λ c. omega arith)
     (λ c. omega arith)

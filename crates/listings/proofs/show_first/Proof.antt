@@ -7,7 +7,7 @@ use Rattle.listings.proofs.show_first.Statement.{statement}
 use Rattle.listings.proofs.show_first.Tie as tie
 
 show-requires : tie.Need-show-requires
-show-requires c κs = (length-take-le _ _ (omega arith) ∙ sym (min-eq-left (omega arith)), omega arith)
+show-requires c κs = length-take-le _ _ (omega arith) ∙ sym (min-eq-left (omega arith))
 
 pub show-first-spec : {M : Type 1} → statement M
-show-first-spec = tie.close (tie.spec (λ c. sym (length-take-le _ _ (omega arith))) show-requires (λ c. search needs) (λ c. search needs))
+show-first-spec = tie.close (tie.spec (λ c. sym (length-take-le _ _ (omega arith))) show-requires (λ c. search needs))

@@ -1,6 +1,6 @@
 use mathlib.Core.List.{[]}
 use borrow.Author.Needs.{needs}
-use Rattle.force.specs.Calls.{lent}
+use Rattle.force_call.specs.Calls.{lent}
 use Rattle.many_body_call.proofs.ManyBodyCalled.{lent-answer}
 use Rattle.many_body_call.proofs.lent_check.Statement.{statement}
 use Rattle.many_body_call.proofs.lent_check.Tie as tie

@@ -8,8 +8,9 @@ use lib.ListN.{length}
 use Rattle.rules.specs.Outcome.{fine}
 use Rattle.rules.specs.Force.{Push, manyBody}
 use Rattle.rules.specs.Calls.{ForceInput}
-use Rattle.force.specs.Calls.{lent, lentCheck}
-use Rattle.force.proofs.Called.{Lent, lent-all, real-lent, stopped, passed, result-lent, answered-refused, part-size, lent-part, result-part, answered-part}
+use Rattle.force_call.specs.Calls.{lent, lentCheck}
+use Rattle.force_call.proofs.Called.{Lent, lent-all, real-lent, result-lent, answered-refused, part-size, lent-part, result-part, answered-part}
+use Rattle.lists.proofs.Checks.{stopped, passed}
 use Rattle.many_body_call.proofs.many_body_call.Statement.{statement}
 use Rattle.many_body_call.proofs.many_body_call.Tie as tie
 

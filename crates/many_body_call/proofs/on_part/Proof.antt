@@ -13,9 +13,10 @@ use Rattle.rules.specs.Flow.{flow}
 use Rattle.rules.specs.Force.{Push, manyBody}
 use Rattle.rules.specs.Calls.{ForceInput, slotsOf, speeds}
 use Rattle.force.specs.Ran.{ranOf}
-use Rattle.force.specs.Calls.{lent, numbersCheck}
-use Rattle.force.proofs.Called.{Lent, lent-all, real-numbers, stopped, passed, result-numbers, result-ran, answered-refused, answered-ran, settled-slots}
-use Rattle.force.proofs.CalledTree.{can-build}
+use Rattle.force_call.specs.Calls.{lent, numbersCheck}
+use Rattle.force_call.proofs.Called.{Lent, lent-all, real-numbers, result-numbers, result-ran, answered-refused, answered-ran, settled-slots}
+use Rattle.lists.proofs.Checks.{stopped, passed}
+use Rattle.force_call.proofs.CalledTree.{can-build}
 use Rattle.many_body_call.proofs.ManyBodyCalled.{many-body-runs}
 use Rattle.many_body_call.proofs.on_part.Statement.{statement}
 use Rattle.many_body_call.proofs.on_part.Tie as tie

@@ -5,7 +5,7 @@ use native.Mathlib.Omega.{arith}
 use borrow.Author.Needs.{needs}
 use lib.ListN.{length, drop}
 use Rattle.rules.specs.Flow.{flow}
-use Rattle.quadtree.specs.Slots.{word}
+use Rattle.slots.specs.Trees.{word}
 use Rattle.force.specs.Draws.{spentOf}
 use Rattle.charge.specs.Charge.{chargeOf, readCharge, Chain}
 use Rattle.node_pull.proofs.NodePullLaws.{far-inner, far-leaf, near-inner, near-leaf}

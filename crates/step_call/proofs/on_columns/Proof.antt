@@ -41,8 +41,8 @@ step-on-requires c κs =
       ),
     )
 
-settle-requires : tie.Need-settle-requires
-settle-requires c κs =
+settle-step-requires : tie.Need-settle-step-requires
+settle-step-requires c κs =
     let t = c .before .before .before .before .before .before .before .before .before .before .before .before .before .before .before .before .before .before .before in
     let d = t .before .before .before .before .before .before .before .before .before .before .before .before .before .before .before .before .before in
     record { whole = known (start d) .whole; at = t .step-on .kept .1 .1 .1 .0 ∙ lists d .at; fast = t .step-on .kept .1 .1 .1 .1 .0 ∙ lists d .fast }
@@ -62,7 +62,7 @@ returns c =
     let t = e .before .before .before .before .before .before .before .before .before .before .before .before .before .before .before .before .before .before .before .before in
     let d = t .before .before .before .before .before .before .before .before .before .before .before .before .before .before .before .before .before in
     let s = start d in
-    step-ran (input s) (s .args .s) (s .args .least) (s .args .budget) (s .pre .0) _ _ _ _ _ _ _ (d .read-columns .ensures) (lists d .held) (t .before .before .before .before .before .before .float-of .ensures) (t .step-on .ensures) _ _ _ _ _ (t .step-on .kept .1 .1 .1 .1 .1 .1 .1 .1 .1 .1 .1 .1 .1 .1 .1 .0) (e .settle .ensures)
+    step-ran (input s) (s .args .s) (s .args .least) (s .args .budget) (s .pre .0) _ _ _ _ _ _ _ (d .read-columns .ensures) (lists d .held) (t .before .before .before .before .before .before .float-of .ensures) (t .step-on .ensures) _ _ _ _ _ (t .step-on .kept .1 .1 .1 .1 .1 .1 .1 .1 .1 .1 .1 .1 .1 .1 .1 .0) (e .settle-step .ensures)
 
 pub on-columns-spec : {M : Type 1} → statement M
 on-columns-spec =
@@ -71,7 +71,7 @@ on-columns-spec =
     (λ c κs. search needs)
     (λ c κs. search needs)
     step-on-requires
-    settle-requires
+    settle-step-requires
     (λ c. search needs)
     same-length-2
     same-length-3

@@ -45,8 +45,8 @@ tick-on-requires c κs =
       ),
     )
 
-settle-requires : tie.Need-settle-requires
-settle-requires c κs =
+settle-tick-requires : tie.Need-settle-tick-requires
+settle-tick-requires c κs =
     let t = c .before .before .before .before .before .before .before .before .before .before .before .before .before .before .before .before .before .before .before in
     let d = t .before .before .before .before .before .before .before .before .before .before .before .before .before .before .before .before .before in
     record { whole = known (start d) .whole; at = t .tick-on .kept .1 .1 .1 .0 ∙ lists d .at; fast = t .tick-on .kept .1 .1 .1 .1 .0 ∙ lists d .fast }
@@ -66,7 +66,7 @@ returns c =
     let t = e .before .before .before .before .before .before .before .before .before .before .before .before .before .before .before .before .before .before .before .before in
     let d = t .before .before .before .before .before .before .before .before .before .before .before .before .before .before .before .before .before in
     let s = start d in
-    tick-ran (input s) (s .args .s) (s .pre .0) _ _ _ _ _ _ _ (d .read-columns .ensures) (lists d .held) (t .before .before .before .before .before .before .float-of .ensures) (t .tick-on .ensures) _ _ _ _ _ (t .tick-on .kept .1 .1 .1 .1 .1 .1 .1 .1 .1 .1 .1 .1 .1 .1 .1 .0) (e .settle .ensures)
+    tick-ran (input s) (s .args .s) (s .pre .0) _ _ _ _ _ _ _ (d .read-columns .ensures) (lists d .held) (t .before .before .before .before .before .before .float-of .ensures) (t .tick-on .ensures) _ _ _ _ _ (t .tick-on .kept .1 .1 .1 .1 .1 .1 .1 .1 .1 .1 .1 .1 .1 .1 .1 .0) (e .settle-tick .ensures)
 
 pub on-columns-spec : {M : Type 1} → statement M
 on-columns-spec =
@@ -75,7 +75,7 @@ on-columns-spec =
     (λ c κs. search needs)
     (λ c κs. search needs)
     tick-on-requires
-    settle-requires
+    settle-tick-requires
     (λ c. search needs)
     same-length-2
     same-length-3

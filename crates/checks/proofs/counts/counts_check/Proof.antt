@@ -5,7 +5,7 @@ use borrow.Author.Needs.{needs}
 use Rattle.rules.specs.declared.ForceEntry.{ForceEntry}
 use Rattle.rules.specs.Outcome.{Check, refusalOf, checkEach, checkFrom}
 use Rattle.rules.specs.Tick.{entryAt, entryCounts, entriesOf}
-use Rattle.force.proofs.Scans.{answer-stop, answer-on}
+use Rattle.lists.proofs.Scans.{answer-stop, answer-on}
 use Rattle.checks.proofs.Early.{real-counts}
 use Rattle.checks.proofs.Entries.{entriesLeft, entries-left, entries-none}
 use Rattle.checks.proofs.counts.counts_check.Statement.{statement}

@@ -2,7 +2,7 @@ use mathlib.Core.Path.{sym, ap}
 use borrow.Author.Needs.{needs}
 use Rattle.rules.specs.Outcome.{Check, fine, _then_, refusalOf}
 use Rattle.rules.specs.Refusal.{mostLinks, mostIterations, countCheck}
-use Rattle.force.proofs.Scans.{first-then}
+use Rattle.lists.proofs.Scans.{first-then}
 use Rattle.checks.proofs.ByKind.{not-repeated}
 use Rattle.checks.proofs.Early.{real-count}
 use Rattle.checks.proofs.counts.entry_counts.Statement.{statement}

@@ -8,7 +8,7 @@ use Rattle.rules.specs.declared.ForceEntry.{ForceEntry}
 use Rattle.rules.specs.Outcome.{Check, refusalOf}
 use Rattle.rules.specs.Force.{endsOf, endsRange}
 use Rattle.rules.specs.Tick.{linksNeeded, entriesOf}
-use Rattle.force.proofs.Scans.{real-all}
+use Rattle.lists.proofs.Scans.{real-all}
 use Rattle.checks.specs.Parts.{ownEnds}
 use Rattle.checks.proofs.Entries.{sum-twice}
 use Rattle.checks.proofs.Parts.{part-size, Walked, walk-start, walk-room, walk-stop, walk-on, walk-end}

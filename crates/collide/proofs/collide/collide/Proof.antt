@@ -8,7 +8,7 @@ use Rattle.force.specs.Ran.{standing, ranOf}
 use Rattle.quadtree.proofs.Refusals.{tree-clears}
 use Rattle.collide.specs.Collide.{begun}
 use Rattle.force.proofs.Stages.{ran-refused}
-use Rattle.force.proofs.Told.{told-refused, told-fine, told-stands}
+use Rattle.quadtree.proofs.Told.{told-refused, told-fine, told-stands}
 use Rattle.collide.proofs.CollideRun.{run-none, run-walked, run-refused}
 use Rattle.collide.proofs.collide.collide.Statement.{statement}
 use Rattle.collide.proofs.collide.collide.Tie as tie

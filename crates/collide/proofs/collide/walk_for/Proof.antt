@@ -8,8 +8,8 @@ use Rattle.rules.specs.declared.Visit.the-variants.{Continue, Skip}
 use Rattle.rules.specs.Outcome.{zeroesWork}
 use Rattle.rules.specs.Tree.{nodes}
 use Rattle.rules.specs.Collide.{radiusTree}
-use Rattle.quadtree.specs.declared.Quadtree.{Quadtree}
-use Rattle.quadtree.specs.Slots.{word}
+use Rattle.slots.specs.declared.Quadtree.{Quadtree}
+use Rattle.slots.specs.Trees.{word}
 use Rattle.walk.specs.Walk.{stackAt, walkOf, Sized, lay}
 use Rattle.walk.proofs.Walking.{Pushed, leftOf, finish, low, reach, falls, room, turn-skip, turn-down, falls-down, chain, turn-leaf, turn-refused-leaf}
 use Rattle.force.specs.Draws.{From}

@@ -6,8 +6,8 @@ use borrow.Author.Needs.{needs}
 use lib.ListN.{length}
 use lib.Ieee.{Float}
 use Rattle.rules.specs.Collide.{leafRadius, nodeRadius}
-use Rattle.quadtree.specs.declared.Quadtree.{Quadtree}
-use Rattle.quadtree.specs.Slots.{word, putValue}
+use Rattle.slots.specs.declared.Quadtree.{Quadtree}
+use Rattle.slots.specs.Trees.{word, putValue}
 use Rattle.walk.specs.Walk.{EachBelow}
 use Rattle.walk.specs.WalkAfter.{stepsOf, rooted}
 use Rattle.walk.proofs.WalkStands.{chains-below}

@@ -6,8 +6,8 @@ use borrow.Author.Needs.{needs}
 use lib.ListN.{length}
 use Rattle.rules.specs.declared.Visit.the-variants.{Continue, Skip}
 use Rattle.rules.specs.Outcome.{zeroesWork}
-use Rattle.quadtree.specs.declared.Quadtree.{Quadtree}
-use Rattle.quadtree.specs.Slots.{word, Follows, first}
+use Rattle.slots.specs.declared.Quadtree.{Quadtree}
+use Rattle.slots.specs.Trees.{word, Follows, first}
 use Rattle.walk.specs.Walk.{stackAt, walkOf, Sized, lay}
 use Rattle.walk.proofs.Walking.{Pushed, leftOf, finish, low, reach, falls, room, chain, turn-skip, turn-down, falls-down, turn-leaf}
 use Rattle.force.specs.Draws.{From}

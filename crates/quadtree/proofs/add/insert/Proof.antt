@@ -3,8 +3,8 @@ use Prim.Native.Nat.{_<_}
 use native.Mathlib.Omega.{arith}
 use borrow.Author.Needs.{needs}
 use Rattle.rules.specs.declared.Extent.{Extent}
-use Rattle.quadtree.specs.declared.add.Inserted.{Inserted}
-use Rattle.quadtree.specs.Add.{Placed, Enlarged, Wrapped}
+use Rattle.placing.specs.declared.Inserted.{Inserted}
+use Rattle.placing.specs.Add.{Placed, Enlarged, Wrapped}
 use Rattle.quadtree.proofs.AddInsert.{begun-alone, begun-puts, first-placed}
 use Rattle.quadtree.proofs.add.insert.Statement.{statement}
 use Rattle.quadtree.proofs.add.insert.Tie as tie

@@ -11,7 +11,7 @@ use Rattle.rules.specs.Floor.{floor}
 use Rattle.rules.specs.Cover.{inside}
 use Rattle.slots.specs.Slots.{putInternal}
 use Rattle.cells.specs.Cover.{squareOf, Near, DoubledTo}
-use Rattle.quadtree.specs.Add.{Wraps}
+use Rattle.placing.specs.Add.{Wraps}
 use Rattle.quadtree.proofs.AddInsert.{wrap-asks, wrap-quadrant, wrap-turn, wrap-root, wrap-end}
 use Rattle.quadtree.proofs.add.wrap.Statement.{statement}
 use Rattle.quadtree.proofs.add.wrap.Tie as tie

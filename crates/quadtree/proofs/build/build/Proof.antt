@@ -4,8 +4,8 @@ use native.Mathlib.Omega.{arith}
 use lib.ListN.{length}
 use borrow.Author.Needs.{needs}
 use Rattle.rules.specs.Tree.{treeCheck}
-use Rattle.quadtree.specs.declared.add.Inserted.{Inserted}
-use Rattle.quadtree.specs.Add.{Placed}
+use Rattle.placing.specs.declared.Inserted.{Inserted}
+use Rattle.placing.specs.Add.{Placed}
 use Rattle.quadtree.specs.Build.{particles}
 use Rattle.quadtree.proofs.AddBuild.{Building, build-start, build-follows, build-inserts, build-done, build-deep, build-full, build-end}
 use Rattle.quadtree.proofs.build.build.Statement.{statement}

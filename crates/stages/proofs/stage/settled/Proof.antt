@@ -1,5 +1,5 @@
 use borrow.Author.Needs.{needs}
-use Rattle.force.proofs.Called.{standing-refused, standing-fine}
+use Rattle.force.proofs.Standing.{standing-refused, standing-fine}
 use Rattle.stages.proofs.stage.settled.Statement.{statement}
 use Rattle.stages.proofs.stage.settled.Tie as tie
 

@@ -52,7 +52,7 @@ use Rattle.rules.proofs.Particle.Laws as T′
 use Rattle.rules.proofs.Refusal as R
 use Rattle.rules.proofs.Refusal.Laws as R′
 use Rattle.sheet.proofs.Checked.{record-fine}
-use Rattle.force.proofs.Called.{result-fine}
+use Rattle.lists.proofs.Checks.{result-fine}
 use Rattle.talemiku.specs.Answered.{Answered}
 use Rattle.talemiku.proofs.Frame.{Blocks, env, alloc-all, free-all, counted}
 use Rattle.talemiku.proofs.Rules.{copied, part, big, sets, goes-on, leaves, counts, judges, takes, puts, calls}
@@ -203,7 +203,7 @@ module _ {M : Type 1} (𝓤 : URA M) (H : Heap 𝓤) (𝓜 : Model 𝓤 H) (𝓖
             goes-on ! small (look ! 12 refl) (look ! 9 refl) (init ! 27 refl (tt, tt)) (look ! 27 refl) $ forget ! 27 refl $
             takes ! ps i (l .b) (l .o) within (place-fits l i small) (look ! 12 refl) (init ! 28 refl (tt, record { fits = place-fits l i small })) (part ! refl (look-in ! 5 (sub ! 0 refl (whole !)))) (look ! 28 refl) (init ! 29 refl (tt, tt))
             (look ! 31 refl) (λ has. init ! 32 refl (typed W p has)) (look ! 32 refl) (λ has. init ! 18 refl (typed W p has)) (λ p-has.
-            calls ! fm T.the-type T′.the-laws (f p) (callee.shifted-gives 𝓤 H 𝓜 𝓖 𝓡 code.env code.calls-force·center·shifted (off .x) (off .y) p (fits-x off off-fits) (fits-y off off-fits) p-has)
+            calls ! fm T.the-type T′.the-laws (f p) (callee.shifted-gives 𝓤 H 𝓜 𝓖 𝓡 code.env code.calls-moves·center·shifted (off .x) (off .y) p (fits-x off off-fits) (fits-y off off-fits) p-has)
             (and-then ! (part ! refl (look-in ! 16 (sub ! 0 refl (whole !)))) (and-then ! (part ! refl (look-in ! 16 (sub ! 1 refl (whole !)))) (and-then ! (copied ! (look ! 18 refl)) (no-more !)))) (λ has. store ! 32 refl (typed W (f p) has)) (λ q-has.
             puts ! ps i (l .b) (l .o) within (place-fits l i small) (f p) q-has (look ! 14 refl) (store ! 30 refl (tt, record { fits = place-fits l i small })) (part ! refl (look-in ! 7 (sub ! 0 refl (whole !)))) (look ! 30 refl) (init ! 33 refl (tt, tt))
             (look ! 32 refl) (look ! 33 refl) $ forget ! 16 refl $ forget ! 28 refl $ forget ! 29 refl $ forget ! 30 refl $ forget ! 31 refl $
@@ -244,7 +244,7 @@ module _ {M : Type 1} (𝓤 : URA M) (H : Heap 𝓤) (𝓜 : Model 𝓤 H) (𝓖
             goes-on ! small (look ! 12 refl) (look ! 9 refl) (init ! 23 refl (tt, tt)) (look ! 23 refl) $ forget ! 23 refl $
             takes ! xs i (l .b) (l .o) small (place-fits l i small) (look ! 12 refl) (init ! 24 refl (tt, record { fits = place-fits l i small })) (part ! refl (look-in ! 5 (sub ! 0 refl (whole !)))) (look ! 24 refl) (init ! 25 refl (tt, tt))
             (look ! 27 refl) (λ has. init ! 28 refl (typed W p has)) (look ! 28 refl) (λ has. init ! 17 refl (typed W p has)) (λ p-has.
-            calls ! fm T.the-type T′.the-laws (f p) (callee.shifted-gives 𝓤 H 𝓜 𝓖 𝓡 code.env code.calls-force·center·shifted (off .x) (off .y) p (fits-x off off-fits) (fits-y off off-fits) p-has)
+            calls ! fm T.the-type T′.the-laws (f p) (callee.shifted-gives 𝓤 H 𝓜 𝓖 𝓡 code.env code.calls-moves·center·shifted (off .x) (off .y) p (fits-x off off-fits) (fits-y off off-fits) p-has)
             (and-then ! (part ! refl (look-in ! 16 (sub ! 0 refl (whole !)))) (and-then ! (part ! refl (look-in ! 16 (sub ! 1 refl (whole !)))) (and-then ! (copied ! (look ! 17 refl)) (no-more !)))) (λ has. store ! 28 refl (typed W (f p) has)) (λ q-has.
             calls ! fm R.the-type R′.the-laws (refusalOf (resultOf (f p))) (callee.result-check-gives 𝓤 H 𝓜 𝓖 𝓡 code.env code.calls-talemiku·check·result-check (f p) q-has)
             (and-then ! (copied ! (look ! 28 refl)) (no-more !)) (λ has. store ! 12 refl (typedR W (refusalOf (resultOf (f p))) has)) (λ r-has.
@@ -317,7 +317,7 @@ module _ {M : Type 1} (𝓤 : URA M) (H : Heap 𝓤) (𝓜 : Model 𝓤 H) (𝓖
       starts : Sq W (At l En xs (room ∷ value (slice l) ∷ value (vfloat binary64 x) ∷ value (vfloat binary64 y) ∷ value (vfloat binary64 strength) ∷ [])) (runs (𝓣 .C) (𝓣 .Λ) En m.t-1 (atRet En Post))
       starts =
           sets ! (of-opd ! (part ! refl (look-in ! 5 (sub ! 1 refl (whole !))))) (init ! 9 refl (tt, record { fits = l .fits .0 })) $
-          calls ! fm R.the-type R′.the-laws (refusalOf (countCheck mostParticles n)) (callee.count-check-gives 𝓤 H 𝓜 𝓖 𝓡 code.env code.calls-force·check·count-check mostParticles n (lit< tt) (l .fits .0))
+          calls ! fm R.the-type R′.the-laws (refusalOf (countCheck mostParticles n)) (callee.count-check-gives 𝓤 H 𝓜 𝓖 𝓡 code.env code.calls-lists·count-check mostParticles n (lit< tt) (l .fits .0))
           (and-then ! (big ! (lit< tt)) (and-then ! (copied ! (look ! 9 refl)) (no-more !))) (λ has. init ! 10 refl (typedR W (refusalOf (countCheck mostParticles n)) has)) (λ r-has.
           judges ! (countCheck mostParticles n) (count-fine mostParticles n) (part ! refl (look-in ! 10 (sub ! 0 refl (whole !)))) (init ! 17 refl (tt, tt)) (look ! 17 refl)
           (λ bad. forget ! 5 refl $ forget ! 6 refl $ forget ! 7 refl $ forget ! 8 refl $ forget ! 9 refl $ forget ! 17 refl $ finish _ refl (refusalOf (countCheck mostParticles n)) xs refl (stops-count (x ∷ y ∷ strength ∷ []) (centered x y strength) xs f (centered-each x y strength xs) _ bad) r-has)

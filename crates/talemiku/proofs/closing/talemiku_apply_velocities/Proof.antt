@@ -53,7 +53,7 @@ use Rattle.rules.proofs.Particle.Laws as T′
 use Rattle.rules.proofs.Refusal as R
 use Rattle.rules.proofs.Refusal.Laws as R′
 use Rattle.sheet.proofs.Checked.{record-fine}
-use Rattle.force.proofs.Called.{result-fine}
+use Rattle.lists.proofs.Checks.{result-fine}
 use Rattle.talemiku.specs.Answered.{Answered}
 use Rattle.talemiku.proofs.Frame.{Blocks, env, alloc-all, free-all, counted}
 use Rattle.talemiku.proofs.Rules.{copied, part, big, sets, goes-on, leaves, counts, judges, takes, puts, calls}
@@ -180,7 +180,7 @@ module _ {M : Type 1} (𝓤 : URA M) (H : Heap 𝓤) (𝓜 : Model 𝓤 H) (𝓖
             goes-on ! small (look ! 9 refl) (look ! 7 refl) (init ! 23 refl (tt, tt)) (look ! 23 refl) $ forget ! 23 refl $
             takes ! ps i (l .b) (l .o) within (place-fits l i small) (look ! 9 refl) (init ! 24 refl (tt, record { fits = place-fits l i small })) (part ! refl (look-in ! 5 (sub ! 0 refl (whole !)))) (look ! 24 refl) (init ! 25 refl (tt, tt))
             (look ! 27 refl) (λ has. init ! 28 refl (typed W p has)) (look ! 28 refl) (λ has. init ! 14 refl (typed W p has)) (λ p-has.
-            calls ! fm T.the-type T′.the-laws (f p) (callee.moved-gives 𝓤 H 𝓜 𝓖 𝓡 code.env code.calls-force·particle·moved decay p p decay-fits p-has p-has)
+            calls ! fm T.the-type T′.the-laws (f p) (callee.moved-gives 𝓤 H 𝓜 𝓖 𝓡 code.env code.calls-moves·particle·moved decay p p decay-fits p-has p-has)
             (and-then ! (copied ! (look ! 8 refl)) (and-then ! (copied ! (look ! 14 refl)) (and-then ! (copied ! (look ! 14 refl)) (no-more !)))) (λ has. store ! 28 refl (typed W (f p) has)) (λ q-has.
             puts ! ps i (l .b) (l .o) within (place-fits l i small) (f p) q-has (look ! 11 refl) (store ! 26 refl (tt, record { fits = place-fits l i small })) (part ! refl (look-in ! 7 (sub ! 0 refl (whole !)))) (look ! 26 refl) (init ! 29 refl (tt, tt))
             (look ! 28 refl) (look ! 29 refl) $ forget ! 12 refl $ forget ! 24 refl $ forget ! 25 refl $ forget ! 26 refl $ forget ! 27 refl $
@@ -221,7 +221,7 @@ module _ {M : Type 1} (𝓤 : URA M) (H : Heap 𝓤) (𝓜 : Model 𝓤 H) (𝓖
             goes-on ! small (look ! 9 refl) (look ! 7 refl) (init ! 19 refl (tt, tt)) (look ! 19 refl) $ forget ! 19 refl $
             takes ! xs i (l .b) (l .o) small (place-fits l i small) (look ! 9 refl) (init ! 20 refl (tt, record { fits = place-fits l i small })) (part ! refl (look-in ! 5 (sub ! 0 refl (whole !)))) (look ! 20 refl) (init ! 21 refl (tt, tt))
             (look ! 23 refl) (λ has. init ! 24 refl (typed W p has)) (look ! 24 refl) (λ has. init ! 13 refl (typed W p has)) (λ p-has.
-            calls ! fm T.the-type T′.the-laws (f p) (callee.moved-gives 𝓤 H 𝓜 𝓖 𝓡 code.env code.calls-force·particle·moved decay p p decay-fits p-has p-has)
+            calls ! fm T.the-type T′.the-laws (f p) (callee.moved-gives 𝓤 H 𝓜 𝓖 𝓡 code.env code.calls-moves·particle·moved decay p p decay-fits p-has p-has)
             (and-then ! (copied ! (look ! 8 refl)) (and-then ! (copied ! (look ! 13 refl)) (and-then ! (copied ! (look ! 13 refl)) (no-more !)))) (λ has. store ! 24 refl (typed W (f p) has)) (λ q-has.
             calls ! fm R.the-type R′.the-laws (refusalOf (resultOf (f p))) (callee.result-check-gives 𝓤 H 𝓜 𝓖 𝓡 code.env code.calls-talemiku·check·result-check (f p) q-has)
             (and-then ! (copied ! (look ! 24 refl)) (no-more !)) (λ has. store ! 10 refl (typedR W (refusalOf (resultOf (f p))) has)) (λ r-has.
@@ -276,7 +276,7 @@ module _ {M : Type 1} (𝓤 : URA M) (H : Heap 𝓤) (𝓜 : Model 𝓤 H) (𝓖
         ends₁ φ X =
             qed W (At₁ n) ∵ exec ! (𝓣 .C) (𝓣 .Λ) En m.turn-1 (anyQ (afterTurn 𝓤 H X (then m.t-7))) $
             leaves ! (look ! 9 refl) (look ! 7 refl) (init ! 14 refl (tt, tt)) (look ! 14 refl) $ exec ! (𝓣 .C) (𝓣 .Λ) En m.t-7 (atRet En Post) $ forget ! 14 refl $
-            calls ! fm R.the-type R′.the-laws (refusalOf (settingsCheck (decay ∷ []))) (callee.setting-check-gives 𝓤 H 𝓜 𝓖 𝓡 code.env code.calls-force·check·setting-check decay decay-fits)
+            calls ! fm R.the-type R′.the-laws (refusalOf (settingsCheck (decay ∷ []))) (callee.setting-check-gives 𝓤 H 𝓜 𝓖 𝓡 code.env code.calls-lists·setting-check decay decay-fits)
             (and-then ! (copied ! (look ! 6 refl)) (no-more !)) (λ has. store ! 8 refl (typedR W (refusalOf (settingsCheck (decay ∷ []))) has)) (λ r-has.
             judges ! (settingsCheck (decay ∷ [])) (settings-fine (decay ∷ [])) (part ! refl (look-in ! 8 (sub ! 0 refl (whole !)))) (init ! 13 refl (tt, tt)) (look ! 13 refl)
             (λ bad. forget ! 13 refl $ halts _ refl (refusalOf (settingsCheck (decay ∷ []))) n (stops-settings (decay ∷ []) (closing decay xs) xs f (closing-each decay xs) count (pass-end recordCheck xs φ) _ bad) r-has)
@@ -290,7 +290,7 @@ module _ {M : Type 1} (𝓤 : URA M) (H : Heap 𝓤) (𝓜 : Model 𝓤 H) (𝓖
       starts : Sq W (At l En xs (room ∷ value (slice l) ∷ value (vfloat binary64 decay) ∷ [])) (runs (𝓣 .C) (𝓣 .Λ) En m.t-1 (atRet En Post))
       starts =
           sets ! (of-opd ! (part ! refl (look-in ! 5 (sub ! 1 refl (whole !))))) (init ! 7 refl (tt, record { fits = l .fits .0 })) $
-          calls ! fm R.the-type R′.the-laws (refusalOf (countCheck mostParticles n)) (callee.count-check-gives 𝓤 H 𝓜 𝓖 𝓡 code.env code.calls-force·check·count-check mostParticles n (lit< tt) (l .fits .0))
+          calls ! fm R.the-type R′.the-laws (refusalOf (countCheck mostParticles n)) (callee.count-check-gives 𝓤 H 𝓜 𝓖 𝓡 code.env code.calls-lists·count-check mostParticles n (lit< tt) (l .fits .0))
           (and-then ! (big ! (lit< tt)) (and-then ! (copied ! (look ! 7 refl)) (no-more !))) (λ has. init ! 8 refl (typedR W (refusalOf (countCheck mostParticles n)) has)) (λ r-has.
           judges ! (countCheck mostParticles n) (count-fine mostParticles n) (part ! refl (look-in ! 8 (sub ! 0 refl (whole !)))) (init ! 13 refl (tt, tt)) (look ! 13 refl)
           (λ bad. forget ! 5 refl $ forget ! 6 refl $ forget ! 7 refl $ forget ! 13 refl $ finish _ refl (refusalOf (countCheck mostParticles n)) xs refl (stops-count (decay ∷ []) (closing decay xs) xs f (closing-each decay xs) _ bad) r-has)

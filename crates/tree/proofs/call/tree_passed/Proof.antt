@@ -4,7 +4,7 @@ use Prim.Native.Nat.{ℕ, _*_, _/_}
 use native.Mathlib.Omega.{arith}
 use lib.ListN.{length}
 use Rattle.rules.specs.Number.{0·}
-use Rattle.quadtree.proofs.Fill.{room}
+use Rattle.slots.proofs.Fill.{room}
 use Rattle.tree.proofs.call.tree_passed.Statement.{statement}
 use Rattle.tree.proofs.call.tree_passed.Tie as tie
 

@@ -6,7 +6,7 @@ use borrow.Author.Needs.{needs}
 use lib.ListN.{length, getD, set, length-set}
 use lib.Seq.{getD-set-same}
 use Rattle.rules.specs.Walk.{Entry}
-use Rattle.quadtree.specs.Slots.{word, kid}
+use Rattle.slots.specs.Trees.{word, kid}
 use Rattle.walk.specs.WalkAfter.{stepsAt, Climbs, First}
 use Rattle.walk.proofs.WalkSteps.{kid-read, lent, first-leaf, first-node, turn-past, turn-child, top-down, deep}
 use Rattle.walk.proofs.visit_after.next.Statement.{statement}

@@ -1,0 +1,68 @@
+// What a case says of a tick and of a step: the settings, the words of the force slots, and how it ends. The program runs them, and says there what the parts are.
+use number::float_of;
+use rules::Counts;
+use rules::Settings;
+use rules::StepAnswer;
+use sample::argument;
+use sample::read_words;
+use sample::same_bytes;
+use sample::same_words;
+
+pub fn settings(case: &[u8]) -> Settings {
+    Settings {
+        target: float_of(argument(case, 1)),
+        alpha_decay: float_of(argument(case, 2)),
+        velocity_decay: float_of(argument(case, 3)),
+    }
+}
+
+pub fn force_words(case: &[u8]) -> [u64; 56] {
+    let mut forces = [0u64; 56];
+    read_words(case, 5, &mut forces);
+    forces
+}
+
+fn flag(x: bool) -> u64 {
+    if x {
+        return 1;
+    }
+    0
+}
+
+pub fn step_ended_right(
+    case: &[u8],
+    a: StepAnswer,
+    alpha: u64,
+    sheet: &[u8],
+    work: &[u64],
+) -> bool {
+    let r = a.refusal;
+    let answer = [
+        r.number,
+        r.place,
+        a.ticks,
+        flag(a.finished),
+        a.visits,
+        a.draws,
+    ];
+    alpha == argument(case, 6)
+        && same_words(case, 1, &answer)
+        && same_bytes(case, 4, sheet)
+        && same_words(case, 10, work)
+}
+
+// What a tick counted, as a step's answer.
+fn of_tick(a: Counts) -> StepAnswer {
+    let refusal = a.refusal;
+    StepAnswer {
+        refusal,
+        ticks: 0,
+        finished: false,
+        visits: a.visits,
+        draws: a.draws,
+    }
+}
+
+pub fn tick_ended_right(case: &[u8], a: Counts, alpha: u64, sheet: &[u8], work: &[u64]) -> bool {
+    step_ended_right(case, of_tick(a), alpha, sheet, work)
+}

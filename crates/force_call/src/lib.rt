@@ -1,0 +1,69 @@
+// What the calls of all forces share: the lengths of what is lent, and how a force that has run is answered.
+use force::Ran;
+use lists::result_check;
+use rules::Counts;
+use rules::Refusal;
+ghost use mathlib.Core.Path.{_≡_};
+ghost use mathlib.Core.List.{[]};
+ghost use Prim.Native.Nat.{_*_, _%_};
+ghost use lib.ListN.{length};
+ghost use Rattle.rules.specs.Outcome.{_then_};
+ghost use Rattle.rules.specs.Refusal.{resultCheck};
+ghost use Rattle.rules.specs.Calls.{inputLengths};
+ghost use Rattle.force.specs.Ran.{standing};
+ghost use Rattle.force_call.specs.Calls.{lent, noCounts, Settled};
+
+// Whole pairs of places, and a pair of velocities for each within the buffer. The sum start + n * 16 is never made, as it might wrap.
+pub fn input_lengths(places: &[f64], buffer: &[u8], start: usize) -> bool
+    ensures { λ r. ⌜ r ≡ inputLengths (lent (now (places .entry)) (now (buffer .entry)) start [] []) ⌝ }
+{
+    let n = places.len() / 2;
+    if places.len() != n * 2 {
+        return false;
+    }
+    if buffer.len() < n * 16 {
+        return false;
+    }
+    if buffer.len() - n * 16 < start {
+        return false;
+    }
+    true
+}
+
+// A refusal's answer: all counts zero.
+pub fn refused(refusal: Refusal) -> Counts
+    ensures { λ r. ⌜ r ≡ noCounts refusal ⌝ }
+{
+    Counts {
+        refusal,
+        visits: 0,
+        draws: 0,
+    }
+}
+
+// Tests 9, and writes the velocities over the part where nothing is refused. The work slots are zero in any case.
+pub fn settle(places: &[f64], part: &mut [u8], speeds: &[f64], ran: Ran, work: &mut [u64]) -> Counts
+    requires { ⌜ (length (now speeds) % 2 ≡ 0) × (length (now part) ≡ length (now speeds) * 8) ⌝ }
+    ensures { λ r. ⌜ Settled (standing ran then resultCheck (now (places .entry)) (now (speeds .entry))) ran (now (speeds .entry)) (now (part .entry)) (now (work .entry)) r (now (part .exit)) (now (work .exit)) ⌝ }
+{
+    slots::store::clear(work);
+    let refusal = ran.refusal;
+    let number = refusal.number;
+    if number != 0 {
+        return refused(refusal);
+    }
+    let result = result_check(places, speeds);
+    let number = result.number;
+    if number != 0 {
+        return refused(result);
+    }
+    sheet::write_pairs(part, 16, 0, speeds);
+    Counts {
+        refusal: Refusal {
+            number: 0,
+            place: 0,
+        },
+        visits: ran.visits,
+        draws: ran.used as u64,
+    }
+}

@@ -1,0 +1,146 @@
+-- Checks: what an answered refusal says of a check, and scans for the first that refuses.
+use mathlib.Core.Path.{_≡_, refl, sym, ap, _∙_}
+use mathlib.Core.Bool.{Bool, true, false, not}
+use mathlib.Core.List.{List, [], _∷_}
+use Prim.Native.Nat.{ℕ, suc, _+_, _-_, _*_, _/_, _≤_, _<_}
+use native.Mathlib.Nat.{sub-zero}
+use native.Mathlib.Numerals.{add-one}
+use native.Mathlib.Omega.{arith}
+use borrow.Author.Tests.{not-true, not-false, ne-eqb}
+use lib.ListN.{length, getD, drop}
+use lib.Seq.{drop-cons}
+use lib.Ieee.{Float}
+use Rattle.rules.specs.declared.Refusal.{Refusal}
+use Rattle.rules.specs.Plain.{all, countFrom, upTo}
+use Rattle.rules.specs.Outcome.{done, refused, refusal, Check, fine, require, _then_, _>>=_, refusalOf, checkFrom, requireAll}
+use Rattle.rules.specs.Link.{Ends}
+use Rattle.rules.specs.Force.{endsFrom, endsOf}
+use Rattle.rules.specs.Number.{xAt, yAt, placeRange, speedRange}
+use Rattle.rules.specs.Refusal.{coordinateCheck, velocityCheck}
+use Rattle.lists.specs.Checks.{endsAt, firstOf, coordinatesCheck, velocitiesCheck}
+use Rattle.sheet.proofs.PairLists.{pair-off}
+
+-- ---- one check and the refusal that was answered for it
+
+-- a check that refuses by 1 to 5
+abbrev pub Early : ℕ → Type 0
+Early n = (1 ≤ n) × (n ≤ 5)
+
+abbrev pub Real : Check → Type 0
+Real (done t) = Unit {0}
+Real (refused r) = Early (r .number)
+
+pub real-require : (ok : Bool) (n i : ℕ) → Early n → Real (require ok n i)
+real-require true n i h = tt
+real-require false n i h = h
+
+pub real-then : (c d : Check) → Real c → Real d → Real (c then d)
+real-then (done t) d hc hd = hd
+real-then (refused r) d hc hd = hc
+
+real-bind : (c : Check) (f : Unit {0} → Check) → Real c → Real (f tt) → Real (c >>= f)
+real-bind (done t) f hc hf = hf
+real-bind (refused r) f hc hf = hc
+
+pub real-from : {A : Type 0} (f : ℕ → A → Check) → ((i : ℕ) (a : A) → Real (f i a)) → (i : ℕ) (l : List A) → Real (checkFrom f i l)
+real-from f h i [] = tt
+real-from f h i (a ∷ l) = real-bind (f i a) (λ _. checkFrom f (i + 1) l) (h i a) (real-from f h (i + 1) l)
+
+-- number 0 is a check that is fine
+pub passes : (c : Check) → Real c → refusalOf c .number ≡ 0 → c ≡ fine
+passes (done t) h e = refl
+passes (refused r) h e = absurd (omega arith)
+
+-- any other is a check that refuses
+pub stops : (c : Check) → (refusalOf c .number ≡ 0 → ⊥) → c ≡ refused (refusalOf c)
+stops (done t) h = absurd (h refl)
+stops (refused r) h = refl
+
+-- two checks one after the other
+pub first-then : (c d : Check) → Real c → firstOf (refusalOf c) (refusalOf d) ≡ refusalOf (c then d)
+unfolding firstOf
+first-then (done t) d h = refl
+first-then (refused r) d h = rw (ne-eqb (r .number) 0 (λ z. omega arith))
+
+-- ---- a scan, `left i` being what is left from number i on
+
+module _ {A : Type 0} (f : ℕ → A → Check) (left : ℕ → List A) (i : ℕ) (a : A) (e : left i ≡ a ∷ left (i + 1)) where
+  pub scan-stop : (r : Refusal) → f i a ≡ refused r → r ≡ refusalOf (checkFrom f i (left i))
+  scan-stop r h = rw (e, h)
+
+  pub scan-on : f i a ≡ fine → checkFrom f i (left i) ≡ checkFrom f (i + 1) (left (i + 1))
+  scan-on h = rw (e, h)
+
+  -- the same where r was answered for number i
+  pub answer-stop : (r : Refusal) → r ≡ refusalOf (f i a) → (r .number ≡ 0 → ⊥) → r ≡ refusalOf (checkFrom f i (left i))
+  answer-stop r is h = is ∙ scan-stop (refusalOf (f i a)) (stops (f i a) (λ z. h (ap (λ (r : Refusal). r .number) is ∙ z)))
+
+  pub answer-on : (r : Refusal) → r ≡ refusalOf (f i a) → Real (f i a) → r .number ≡ 0 → checkFrom f i (left i) ≡ checkFrom f (i + 1) (left (i + 1))
+  answer-on r is real z = scan-on (passes (f i a) real (sym (ap (λ (r : Refusal). r .number) is) ∙ z))
+
+-- the same where the code tests ok, and b is what it found
+module _ {A : Type 0} (ok : A → Bool) (number : ℕ) (left : ℕ → List A) (i : ℕ) (a : A) (e : left i ≡ a ∷ left (i + 1)) (b : Bool) (is : b ≡ ok a) where
+  pub test-stop : not b ≡ true → refusal number i ≡ refusalOf (checkFrom (λ i a. require (ok a) number i) i (left i))
+  test-stop h = scan-stop (λ i a. require (ok a) number i) left i a e (refusal number i) (rw (← is, not-true b h))
+
+  pub test-on : not b ≡ false → checkFrom (λ i a. require (ok a) number i) i (left i) ≡ checkFrom (λ i a. require (ok a) number i) (i + 1) (left (i + 1))
+  test-on h = scan-on (λ i a. require (ok a) number i) left i a e (rw (← is, not-false b h))
+
+-- ---- what is left: of a list, of numbers, of links
+
+pub list-left : {A : Type 0} (l : List A) (i : ℕ) (d : A) → i < length l → drop i l ≡ getD l i d ∷ drop (i + 1) l
+list-left l i d h = rw (add-one i) (drop-cons l i d h)
+
+pub count-left : (n i : ℕ) → i < n → countFrom i (n - i) ≡ i ∷ countFrom (i + 1) (n - (i + 1))
+count-left n i h = rw e
+  where
+    e : n - i ≡ suc (n - (i + 1))
+    e = omega arith
+
+pub count-none : (n i : ℕ) → n ≤ i → countFrom i (n - i) ≡ []
+count-none n i h = rw e
+  where
+    e : n - i ≡ 0
+    e = omega arith
+
+-- the links from number k on
+abbrev pub endsLeft : List ℕ → ℕ → List Ends
+endsLeft links k = endsFrom (drop (k * 2) links) (length links / 2 - k)
+
+pub ends-left : (links : List ℕ) (k : ℕ) → k < length links / 2 → endsLeft links k ≡ endsAt links k ∷ endsLeft links (k + 1)
+ends-left links k h = rw (e, pair-off links k 0 h)
+  where
+    e : length links / 2 - k ≡ suc (length links / 2 - (k + 1))
+    e = omega arith
+
+pub ends-first : (links : List ℕ) → endsOf links ≡ endsLeft links 0
+ends-first links = rw sub-zero
+
+-- nothing is left
+pub ends-none : (links : List ℕ) (k : ℕ) → length links / 2 ≤ k → endsLeft links k ≡ []
+ends-none links k h = rw e
+  where
+    e : length links / 2 - k ≡ 0
+    e = omega arith
+
+-- ---- a test of every element
+
+module _ {A : Type 0} (ok : A → Bool) (l : List A) (i : ℕ) (d : A) (b : Bool) (is : b ≡ ok (getD l i d)) where
+  pub all-stop : i < length l → not b ≡ true → false ≡ all ok (drop i l)
+  all-stop h n = rw (list-left l i d h, ← is, not-true b n)
+
+  pub all-on : i < length l → not b ≡ false → all ok (drop i l) ≡ all ok (drop (i + 1) l)
+  all-on h n = rw (list-left l i d h, ← is, not-false b n)
+
+-- ---- the checks of pairs and of lists have numbers
+
+pub real-coordinates : (n : ℕ) (places : List Float) → Real (coordinatesCheck n places)
+real-coordinates n places =
+    real-from (λ i _. coordinateCheck i (xAt places i) (yAt places i)) (λ i a. real-require (placeRange (xAt places i) (yAt places i)) 4 i (omega arith)) 0 (upTo n)
+
+pub real-velocities : (n : ℕ) (speeds : List Float) → Real (velocitiesCheck n speeds)
+real-velocities n speeds =
+    real-from (λ i _. velocityCheck i (xAt speeds i) (yAt speeds i)) (λ i a. real-require (speedRange (xAt speeds i) (yAt speeds i)) 5 i (omega arith)) 0 (upTo n)
+
+pub real-all : {A : Type 0} (ok : A → Bool) (number : ℕ) → Early number → (l : List A) → Real (requireAll ok number l)
+real-all ok number h l = real-from (λ i a. require (ok a) number i) (λ i a. real-require (ok a) number i h) 0 l

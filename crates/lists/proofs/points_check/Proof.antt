@@ -1,0 +1,20 @@
+use mathlib.Core.Path.{_∙_}
+use Prim.Native.Nat.{_/_}
+use borrow.Author.Needs.{needs}
+use lib.ListN.{length}
+use Rattle.lists.specs.Checks.{coordinatesCheck, velocitiesCheck}
+use Rattle.lists.proofs.Scans.{real-coordinates, first-then}
+use Rattle.lists.proofs.points_check.Statement.{statement}
+use Rattle.lists.proofs.points_check.Tie as tie
+
+returns : tie.Need-returns
+returns c =
+    let a = c .before .before .before .before .before .args in
+    let n = length (a .places .now) / 2 in
+    c .first .ensures
+    ∙ rw (c .before .velocities-check .ensures, c .before .before .coordinates-check .ensures)
+    (first-then (coordinatesCheck n (a .places .now)) (velocitiesCheck (length (a .speeds .now) / 2) (a .speeds .now)) (real-coordinates n (a .places .now)))
+
+pub points-check-spec : {M : Type 1} → statement M
+points-check-spec =
+    tie.close (tie.spec (λ c κs. search needs) (λ c κs. search needs) (λ c κs. search needs) returns)

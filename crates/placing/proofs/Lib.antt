@@ -1,0 +1,7 @@
+pub mod SlotsTree
+pub mod AddWay
+pub mod AddSplit
+pub mod AddChain
+pub mod AddHold
+pub mod AddTurns
+pub mod AddPlaced

@@ -1,0 +1,4 @@
+mod ListChain
+mod ListRows
+mod ListTree
+mod ListWhole

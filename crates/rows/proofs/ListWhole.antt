@@ -1,0 +1,157 @@
+-- The listing of a whole tree.
+use mathlib.Core.Path.{_≡_, refl, sym, ap, _∙_}
+use mathlib.Core.Logic.{⊎-elim, inl, inr}
+use mathlib.Core.List.{List, [], _∷_, _++_, append-nil}
+use Prim.Native.Nat.{ℕ, zero, suc, _+_, _-_, _*_, _≤_, _<_}
+use native.Mathlib.Nat.{zero-add}
+use native.Mathlib.Omega.{arith}
+use lib.ListN.{length, set, replicate, length-append, length-set, length-replicate, drop-of-length-le}
+use lib.Ieee.{Float}
+use Rattle.rules.specs.declared.Extent.{Extent}
+use Rattle.rules.specs.Plain.{upTo, countFrom, overwritten, padded}
+use Rattle.rules.specs.Cell.{quarter}
+use Rattle.rules.specs.Cover.{coverFirst, extentOf}
+use Rattle.rules.specs.Tree.{Tree, none, leaf, node, depth, Row, rowsFrom, rowsOf, flat, chainsOf, treeOf}
+use Rattle.rules.proofs.CellList.{In}
+use Rattle.rules.proofs.CellIs.{Is}
+use Rattle.rules.proofs.CellCount.{length-upTo}
+use Rattle.rules.proofs.CellRule as Rule
+use Rattle.sheet.proofs.Lists.{overwritten-none, overwritten-next, overwritten-length}
+use Rattle.slots.specs.Trees.{EachSlot, inCells, Stands}
+use Rattle.slots.proofs.Trees.{cells-depth}
+use Rattle.rows.specs.List.{Below, Listable, Wrote, Whole}
+use Rattle.slots.specs.declared.Quadtree.{Quadtree}
+use Rattle.rows.specs.declared.Cursor.{Cursor}
+use Rattle.rows.proofs.ListChain.{store-first}
+use Rattle.rows.proofs.ListRows.{flat-length, rows-count}
+
+-- ---- cells for slots change nothing that is listed
+
+pub rows-cells : (l q : ℕ) (c : Extent) (t : Tree ℕ) → rowsFrom l q (inCells c t) ≡ rowsFrom l q t
+rows-cells l q c none = refl
+rows-cells l q c (leaf s is) = refl
+rows-cells l q c (node s t0 t1 t2 t3) =
+    rw (rows-cells (l + 1) 0 (quarter 0 c) t0, rows-cells (l + 1) 1 (quarter 1 c) t1, rows-cells (l + 1) 2 (quarter 2 c) t2, rows-cells (l + 1) 3 (quarter 3 c) t3)
+
+pub chains-cells : (c : Extent) (t : Tree ℕ) → chainsOf (inCells c t) ≡ chainsOf t
+chains-cells c none = refl
+chains-cells c (leaf s is) = refl
+chains-cells c (node s t0 t1 t2 t3) =
+    rw (chains-cells (quarter 0 c) t0, chains-cells (quarter 1 c) t1, chains-cells (quarter 2 c) t2, chains-cells (quarter 3 c) t3)
+
+-- ---- zeros from a place on
+
+pub record Clearing (before : List ℕ) (from : ℕ) (list : List ℕ) (i : ℕ) : Type 0 where
+  pub size : length list ≡ length before
+  pub reach : i ≤ length before
+  pub whole : overwritten before from (replicate (length before - from) 0) ≡ overwritten list i (replicate (length before - i) 0)
+
+pub clearing-turn : (before : List ℕ) (from : ℕ) (list : List ℕ) (i : ℕ) → Clearing before from list i → i < length list → Clearing before from (set list i 0) (i + 1)
+clearing-turn before from list i c h = record {
+  size = length-set list i 0 ∙ c .size;
+  reach = omega (arith, c .size);
+  whole = c .whole ∙ rw e (store-first list i 0 (replicate (length before - (i + 1)) 0) (omega (arith, length-replicate {A = ℕ} (length before - (i + 1)) 0, c .size)));
+}
+  where
+    e : length before - i ≡ suc (length before - (i + 1))
+    e = omega (arith, c .size)
+
+pub clearing-end : (before : List ℕ) (from : ℕ) (list : List ℕ) (i : ℕ) → Clearing before from list i → length list ≤ i
+    → list ≡ overwritten before from (replicate (length before - from) 0)
+clearing-end before from list i c h = sym (c .whole ∙ rw e (overwritten-none list i))
+  where
+    e : length before - i ≡ 0
+    e = omega (arith, c .size)
+
+-- a part of the list's own length takes its place
+taken : (l part : List ℕ) → length part ≡ length l → overwritten l 0 part ≡ part
+taken l part h = rw (zero-add, drop-of-length-le l {i = length part} (omega arith)) (append-nil part)
+
+all-written : (l part : List ℕ) → length part ≡ length l → overwritten l 0 part ≡ padded (length l) 0 part
+all-written l part h =
+    let e : length l - length part ≡ 0 = omega arith in
+    taken l part h ∙ rw e (sym (append-nil part))
+
+-- a part from the front and zeros behind it
+zeros-behind : (l part : List ℕ) → length part ≤ length l
+    → overwritten (overwritten l 0 part) (length part) (replicate (length (overwritten l 0 part) - length part) 0) ≡ padded (length l) 0 part
+zeros-behind l part h =
+    let n = length l - length part in
+    let z : List ℕ = replicate n 0 in
+    let e : length z ≡ n = length-replicate n 0 in
+    ap (λ (k : ℕ). overwritten (overwritten l 0 part) (length part) (replicate (k - length part) 0)) (overwritten-length l 0 part (omega arith))
+    ∙ ap (λ (k : ℕ). overwritten (overwritten l 0 part) k z) (sym (zero-add (length part)))
+    ∙ overwritten-next l 0 part z (omega arith)
+    ∙ taken l (part ++ z) (length-append part z ∙ omega arith)
+
+-- ---- what a tree that stands in slots gives
+
+each-slot : {P Q : ℕ → Type 0} → ((s : ℕ) → P s → Q s) → (t : Tree ℕ) → EachSlot P t → EachSlot Q t
+each-slot f none e = tt
+each-slot f (leaf s is) e = f s e
+each-slot f (node s t0 t1 t2 t3) e = (f s (e .0), each-slot f t0 (e .1), each-slot f t1 (e .2), each-slot f t2 (e .3), each-slot f t3 (e .4))
+
+in-count : (i a k : ℕ) → In i (countFrom a k) → i < a + k
+in-count i a zero h = absurd h
+in-count i a (suc k) h = ⊎-elim (λ e. omega arith) (λ g. omega (arith, in-count i (a + 1) k g)) h
+
+in-below : (n : ℕ) (is : List ℕ) → ((i : ℕ) → In i is → i < n) → Below n is
+in-below n [] f = tt
+in-below n (i ∷ is) f = (f i (inl refl), in-below n is (λ j h. f j (inr h)))
+
+module _ (at : List Float) (n : ℕ) where
+  -- the tree of the rule is whole
+  is-whole : depth (treeOf at n) ≤ 65 → Is at (extentOf (coverFirst at n)) (treeOf at n) (upTo n)
+  unfolding treeOf
+  is-whole l = Rule.tree-whole at (extentOf (coverFirst at n)) (upTo n) l
+
+  -- its chains have each of n particles
+  chains-all : depth (treeOf at n) ≤ 65 → (length (chainsOf (treeOf at n)) ≡ n) × Below n (chainsOf (treeOf at n))
+  chains-all l =
+      let c = extentOf (coverFirst at n) in
+      let t = treeOf at n in
+      let h = is-whole l in
+      (Rule.chains-length at t c (upTo n) h ∙ length-upTo n, in-below n (chainsOf t) (λ i m. omega (arith, in-count i 0 n (Rule.chains-in at t c (upTo n) i h .0 m))))
+
+  module _ (m next : List ℕ) (q : Quadtree) (rows chains : ℕ) (w : Whole at n m next q rows chains) where
+    abbrev s : Stands at n m next q
+    s = w .stands
+
+    chains-same : chainsOf (s .tree) ≡ chainsOf (treeOf at n)
+    chains-same = sym (chains-cells (q .extent) (s .tree)) ∙ ap chainsOf (s .is)
+
+    rows-same : rowsOf (s .tree) ≡ rowsOf (treeOf at n)
+    rows-same = sym (rows-cells 0 0 (q .extent) (s .tree)) ∙ ap (λ (t : Tree Extent). rowsOf t) (s .is)
+
+    levels : depth (treeOf at n) ≤ 65
+    levels = omega (arith, s .levels, cells-depth (q .extent) (s .tree), ap (λ (t : Tree Extent). depth t) (s .is))
+
+    pub whole-listable : Listable m next (q .root) 0 rows chains (record { nodes = 0; chained = 0 }) (s .tree)
+    whole-listable =
+        let a = chains-all levels in
+        let e = chains-same in
+        record {
+          lies = record {
+            leads = s .leads;
+            levels = omega (arith, s .levels);
+            slots = each-slot (λ i h. omega (arith, s .room)) (s .tree) (s .below);
+            below = rw (w .links, e) (a .1);
+          };
+          room = omega (arith, w .room, s .count);
+          space = omega (arith, ap length e, a .0, w .places);
+          few = (omega (arith, w .links, w .few), omega (arith, w .places, w .few));
+        }
+
+    -- what its listing and zeros behind the rows leave
+    pub whole-listed : (rows₀ chains₀ rows′ chains′ rows″ : List ℕ) (r : Cursor) → length rows₀ ≡ rows → length chains₀ ≡ chains
+        → Wrote rows₀ chains₀ (record { nodes = 0; chained = 0 }) (rowsOf (s .tree)) (chainsOf (s .tree)) rows′ chains′ r
+        → rows″ ≡ overwritten rows′ (q .nodes * 4) (replicate (length rows′ - q .nodes * 4) 0)
+        → (rows″ ≡ padded (length rows₀) 0 (flat (rowsOf (treeOf at n)))) × (chains′ ≡ padded (length chains₀) 0 (chainsOf (treeOf at n)))
+    whole-listed rows₀ chains₀ rows′ chains′ rows″ r a b v e =
+        let f = flat (rowsOf (s .tree)) in
+        let k : length f ≡ q .nodes * 4 = omega (arith, flat-length (rowsOf (s .tree)), rows-count 0 0 (s .tree), s .count) in
+        let h : length f ≤ length rows₀ = omega (arith, w .room) in
+        let z = chains-all levels in (
+          e ∙ rw (← k, v .listed) (zeros-behind rows₀ f h) ∙ ap (λ (rs : List Row). padded (length rows₀) 0 (flat rs)) rows-same,
+          v .chained ∙ rw chains-same (all-written chains₀ (chainsOf (treeOf at n)) (omega (arith, z .0, w .places, b))),
+        )

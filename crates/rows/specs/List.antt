@@ -1,0 +1,63 @@
+-- What listing a tree asks for and what it writes. Definitions only.
+use mathlib.Core.Path.{_≡_}
+use mathlib.Core.List.{List, [], _∷_}
+use Prim.Native.Nat.{ℕ, _+_, _*_, _≤_, _<_}
+use lib.ListN.{length, getD}
+use lib.Ieee.{Float}
+use Rattle.rules.specs.Plain.{overwritten}
+use Rattle.rules.specs.Tree.{Tree, depth, nodes, Row, flat, chainsOf, greatestLevel}
+use Rattle.rules.specs.Refusal.{mostParticles}
+use Rattle.slots.specs.Trees.{Leads, EachSlot, Stands}
+use Rattle.slots.specs.declared.Quadtree.{Quadtree}
+use Rattle.rows.specs.declared.Cursor.{Cursor}
+
+-- following the links from the number p gives these particles and the end: 0 for the end, i + 1 for the particle i
+abbrev pub Linked : List ℕ → ℕ → List ℕ → Type 0
+Linked next p [] = p ≡ 0
+Linked next p (i ∷ is) = (p ≡ i + 1) × Linked next (getD next i 0) is
+
+-- each number is below n
+abbrev pub Below : ℕ → List ℕ → Type 0
+Below n [] = Unit {0}
+Below n (i ∷ is) = (i < n) × Below n is
+
+-- the number p leads to this chain, and there is room for it behind the first `at` of the chains
+pub record Chain (next : List ℕ) (p chains at : ℕ) (is : List ℕ) : Type 0 where
+  pub linked : Linked next p is
+  pub below : Below (length next) is
+  pub room : at + length is ≤ chains
+
+-- it is a leaf's, and there is room for the leaf's row too
+pub record Leaf (next : List ℕ) (p rows chains : ℕ) (at : Cursor) (is : List ℕ) : Type 0 where
+  pub chain : Chain next p chains (at .chained) is
+  pub room : (at .nodes + 1) * 4 ≤ rows
+  pub few : chains ≤ mostParticles
+
+-- the number p leads to this tree, its root at this level, in slots and of particles that are there
+pub record Lies (m next : List ℕ) (p level : ℕ) (t : Tree ℕ) : Type 0 where
+  pub leads : Leads m next p t
+  pub levels : depth t + level ≤ greatestLevel + 1
+  pub slots : EachSlot (λ s. s * 8 + 8 ≤ length m) t
+  pub below : Below (length next) (chainsOf t)
+
+-- and there is room for its rows and chains
+pub record Listable (m next : List ℕ) (p level rows chains : ℕ) (at : Cursor) (t : Tree ℕ) : Type 0 where
+  pub lies : Lies m next p level t
+  pub room : (at .nodes + nodes t) * 4 ≤ rows
+  pub space : at .chained + length (chainsOf t) ≤ chains
+  pub few : (length next ≤ mostParticles) × (chains ≤ mostParticles)
+
+-- these rows and particles stand behind what was listed, and nothing else has changed
+pub record Wrote (rows chains : List ℕ) (at : Cursor) (rs : List Row) (is : List ℕ) (rows′ chains′ : List ℕ) (r : Cursor) : Type 0 where
+  pub listed : rows′ ≡ overwritten rows (at .nodes * 4) (flat rs)
+  pub chained : chains′ ≡ overwritten chains (at .chained) is
+  pub nodes : r .nodes ≡ at .nodes + length rs
+  pub reach : r .chained ≡ at .chained + length is
+
+-- the slots hold the tree of n points, each with a link and a place of the chains, and there is room for the rows
+pub record Whole (at : List Float) (n : ℕ) (m next : List ℕ) (q : Quadtree) (rows chains : ℕ) : Type 0 where
+  pub stands : Stands at n m next q
+  pub links : length next ≡ n
+  pub places : chains ≡ n
+  pub few : n ≤ mostParticles
+  pub room : q .nodes * 4 ≤ rows

@@ -1,0 +1,367 @@
+-- T1 to T13 of document 01: one computed table, and that every case of it holds. Behind it the lister's sample, lent lengths, and what T1 to T13 leave open.
+use mathlib.Core.Path.{_≡_, refl}
+use mathlib.Core.Bool.{Bool, true, false, _&&_, _||_, not, cond}
+use mathlib.Core.List.{List, [], _∷_, _++_, map}
+use Prim.Native.Nat.{ℕ, zero, _+_, _*_, _^_}
+use lib.Dec.{eqb}
+use lib.IntN.{pos, negℤ}
+use lib.ListN.{length, replicate}
+use lib.Ieee.{Float, neg}
+use Rattle.rules.specs.declared.Particle.{Particle}
+use Rattle.rules.specs.declared.Refusal.{Refusal}
+use Rattle.rules.specs.declared.Settings.{Settings}
+use Rattle.rules.specs.Plain.{all, padded}
+use Rattle.rules.specs.Outcome.{Outcome, refused, refusalOf, workAfter}
+use Rattle.rules.specs.Number.{_⊖_, _⊗_, _⊘_, 0·, 1·, 2·, limit, floatOf, bitsOf}
+use Rattle.rules.specs.Root.{rootBits}
+use Rattle.rules.specs.Refusal.{mostParticles}
+use Rattle.rules.specs.Sheet.{particle, sheetOf, placesOf, pairsBytes}
+use Rattle.rules.specs.Cover.{whole}
+use Rattle.rules.specs.Walk.{Counted}
+use Rattle.rules.specs.Flow.{Flow}
+use Rattle.rules.specs.Calls.{slotWords, TreeInput, treeResult, treeAnswer, rowsAfter, chainsAfter, treeWorkAfter, ForceInput, manyBodyResult, collideResult, linkResult, forceAnswer, bufferAfter, centerResult, closingResult, particlesAfter}
+use Rattle.rules.specs.Tick.{settings, SheetInput, tickAnswer, sheetAfterTick, alphaAfterTick, workAfterTick, stepAnswer, alphaAfterStep}
+use Rattle.rules.specs.Listing.{lister, ascii}
+use Rattle.rules.specs.Opened.{opened}
+
+-- ---- numbers, and tests of equality
+
+plus : ℕ → Float
+plus n = whole (pos n)
+
+minus : ℕ → Float
+minus n = whole (negℤ (pos n))
+
+half : Float → Float
+half x = x ⊘ 2·
+
+−0· : Float
+−0· = floatOf (2 ^ 63)
+
+-- 2 ^ -k
+tiny : ℕ → Float
+tiny k = 1· ⊘ plus (2 ^ k)
+
+equals : List ℕ → List ℕ → Bool
+equals [] [] = true
+equals [] (b ∷ bs) = false
+equals (a ∷ l) [] = false
+equals (a ∷ l) (b ∷ bs) = eqb a b && equals l bs
+
+sameBits : List Float → List Float → Bool
+sameBits l k = equals (map bitsOf l) (map bitsOf k)
+
+isRefusal : ℕ → ℕ → Refusal → Bool
+isRefusal number place r = eqb (r .number) number && eqb (r .place) place
+
+-- ---- trees: every lent list holds 9 or 7 before the call
+
+-- particles at rest
+still : List Float → List Particle
+still [] = []
+still (x ∷ []) = []
+still (x ∷ y ∷ at) = particle x y 0· 0· 0 ∷ still at
+
+-- lent for the points at these places, with this many slots
+tree : ℕ → List Float → TreeInput
+tree slots at =
+    let ps = still at in
+    record { sheet = sheetOf ps; rows = replicate (slots * 4) 9; chains = replicate (length ps) 9; work = replicate (slots * slotWords + 1) 7 }
+
+-- accepted, with these ends, rows and chains, and every work slot zero
+lists : TreeInput → List Float → List ℕ → List ℕ → Bool
+lists l ends rows chains =
+    let o = treeResult mostParticles l in
+    let a = treeAnswer l o in
+    let e = a .extent in
+    isRefusal 0 0 (a .refusal)
+    && sameBits (e .x0 ∷ e .y0 ∷ e .x1 ∷ e .y1 ∷ []) ends
+    && equals (rowsAfter l o) rows
+    && equals (chainsAfter l o) chains
+    && all (eqb 0) (treeWorkAfter l o)
+
+counts : TreeInput → ℕ → Bool
+counts l n = eqb (treeAnswer l (treeResult mostParticles l) .nodes) n
+
+-- refused, with both lists unchanged, and the work slots all holding w
+refusesTree : TreeInput → ℕ → ℕ → ℕ → Bool
+refusesTree l number place w =
+    let o = treeResult mostParticles l in
+    isRefusal number place (treeAnswer l o .refusal)
+    && counts l 0
+    && all (eqb 9) (rowsAfter l o)
+    && all (eqb 9) (chainsAfter l o)
+    && all (eqb w) (treeWorkAfter l o)
+
+-- the level of every leaf
+leavesAt : ℕ → List ℕ → Bool
+leavesAt n [] = true
+leavesAt n (l ∷ []) = true
+leavesAt n (l ∷ q ∷ []) = true
+leavesAt n (l ∷ q ∷ k ∷ []) = true
+leavesAt n (l ∷ q ∷ k ∷ c ∷ rows) = (not (eqb k 2) || eqb l n) && leavesAt n rows
+
+-- ---- forces, from rest: the velocities are a part of a longer buffer
+
+before : List ℕ
+before = 1 ∷ 2 ∷ 3 ∷ []
+
+behind : List ℕ
+behind = 4 ∷ []
+
+-- lent for the points at these places, with these draws
+force : List Float → List Float → ForceInput
+force at draws =
+    record { places = at; buffer = before ++ replicate (length at * 8) 0 ++ behind; start = 3; draws = draws; work = replicate 64 7 }
+
+-- accepted, with these velocities, visits and draws used
+gives : ForceInput → Outcome (Counted Flow) → List Float → ℕ → ℕ → Bool
+gives l o vs visits draws =
+    let a = forceAnswer l o in
+    isRefusal 0 0 (a .refusal)
+    && eqb (a .visits) visits
+    && eqb (a .draws) draws
+    && equals (bufferAfter l o) (before ++ pairsBytes vs ++ behind)
+    && all (eqb 0) (workAfter o (l .work))
+
+refusesForce : ForceInput → Outcome (Counted Flow) → ℕ → ℕ → ℕ → Bool
+refusesForce l o number place w =
+    let a = forceAnswer l o in
+    isRefusal number place (a .refusal)
+    && eqb (a .visits) 0
+    && eqb (a .draws) 0
+    && equals (bufferAfter l o) (l .buffer)
+    && all (eqb w) (workAfter o (l .work))
+
+-- Center from rest, accepted
+centers : List Float → List Float → Bool
+centers from to =
+    let ps = still from in
+    let o = centerResult 0· 0· 1· ps in
+    isRefusal 0 0 (refusalOf o) && sameBits (placesOf (particlesAfter o ps)) to
+
+-- ---- the table
+
+pub record Case : Type 0 where
+  pub number : ℕ
+  pub holds : Bool
+
+T : ℕ → Bool → Case
+T n b = record { number = n; holds = b }
+
+two : List Float
+two = 0· ∷ 0· ∷ 1· ∷ 0· ∷ []
+
+-- (0,0) and (2 ^ -k,0)
+close : ℕ → List Float
+close k = 0· ∷ 0· ∷ tiny k ∷ 0· ∷ []
+
+pub table : List Case
+table =
+    T 1 (lists (tree 1 []) (0· ∷ 0· ∷ 0· ∷ 0· ∷ []) (0 ∷ 0 ∷ 0 ∷ 0 ∷ []) [] && counts (tree 1 []) 0)
+    ∷ T 2 (lists (tree 1 (0· ∷ 0· ∷ 0· ∷ 0· ∷ [])) (0· ∷ 0· ∷ 1· ∷ 1· ∷ []) (0 ∷ 0 ∷ 2 ∷ 2 ∷ []) (0 ∷ 1 ∷ []))
+    ∷ T 2 (lists (tree 1 (0· ∷ 0· ∷ −0· ∷ −0· ∷ [])) (0· ∷ 0· ∷ 1· ∷ 1· ∷ []) (0 ∷ 0 ∷ 2 ∷ 2 ∷ []) (0 ∷ 1 ∷ []))
+    ∷ T 3 (lists (tree 1 (half (minus 1) ∷ 0· ∷ [])) (minus 1 ∷ 0· ∷ 0· ∷ 1· ∷ []) (0 ∷ 0 ∷ 2 ∷ 1 ∷ []) (0 ∷ []))
+    ∷ T 4 (lists (tree 3 (0· ∷ 0· ∷ 1· ∷ 1· ∷ [])) (0· ∷ 0· ∷ 2· ∷ 2· ∷ []) (0 ∷ 0 ∷ 1 ∷ 0 ∷ 1 ∷ 0 ∷ 2 ∷ 1 ∷ 1 ∷ 3 ∷ 2 ∷ 1 ∷ []) (0 ∷ 1 ∷ []))
+    ∷ T 5 (lists (tree 5 (0· ∷ 0· ∷ 1· ∷ 1· ∷ minus 1 ∷ 0· ∷ [])) (minus 2 ∷ 0· ∷ 2· ∷ plus 4 ∷ [])
+    (0 ∷ 0 ∷ 1 ∷ 0 ∷ 1 ∷ 0 ∷ 2 ∷ 1 ∷ 1 ∷ 1 ∷ 1 ∷ 0 ∷ 2 ∷ 0 ∷ 2 ∷ 1 ∷ 2 ∷ 3 ∷ 2 ∷ 1 ∷ []) (2 ∷ 0 ∷ 1 ∷ []))
+    ∷ T 6 (let l = tree 66 (close 64) in counts l 66 && leavesAt 64 (rowsAfter l (treeResult mostParticles l)))
+    ∷ T 6 (refusesTree (tree 65 (close 64)) 7 1 0)
+    ∷ T 7 (refusesTree (tree 66 (close 65)) 6 1 0)
+    ∷ T 8 (let l = tree 1 (limit ∷ 0· ∷ []) in isRefusal 0 0 (treeAnswer l (treeResult mostParticles l) .refusal))
+    ∷ T 8 (refusesTree (tree 1 (floatOf 0x4270_0000_0000_0001 ∷ 0· ∷ [])) 4 0 7)
+    ∷ T 9 (let l = force (0· ∷ 0· ∷ plus 3 ∷ plus 3 ∷ []) [] in
+    gives l (manyBodyResult l (minus 30 ∷ minus 30 ∷ []) 1·) (minus 5 ∷ minus 5 ∷ plus 5 ∷ plus 5 ∷ []) 6 0)
+    ∷ T 10 (let l = force two (0· ∷ []) in gives l (collideResult l (1· ∷ 1· ∷ []) 1· 1) (half (minus 1) ∷ 0· ∷ half 1· ∷ 0· ∷ []) 6 1)
+    ∷ T 10 (let l = force two [] in refusesForce l (collideResult l (1· ∷ 1· ∷ []) 1· 1) 8 0 0)
+    ∷ T 11 (let l = force (0· ∷ 0· ∷ plus 3 ∷ plus 4 ∷ []) [] in
+    gives l (linkResult l (0 ∷ 1 ∷ []) [] (0· ∷ []) 1 1·) (half (plus 3) ∷ plus 2 ∷ half (minus 3) ∷ minus 2 ∷ []) 0 0)
+    ∷ T 12 (centers (0· ∷ 0· ∷ plus 2 ∷ plus 4 ∷ []) (minus 1 ∷ minus 2 ∷ plus 1 ∷ plus 2 ∷ []))
+    ∷ T 12 (centers [] [])
+    ∷ T 13 (equals (rootBits (bitsOf (half (half 1·))) ∷ rootBits 1 ∷ []) (bitsOf (half 1·) ∷ bitsOf (tiny 537) ∷ []))
+    ∷ []
+
+pub every-case-holds : all (λ c. c .holds) table ≡ true
+unfolding opened table T plus minus half −0· tiny equals sameBits isRefusal still tree lists counts refusesTree leavesAt before behind force gives refusesForce centers two close
+every-case-holds = refl
+
+-- ---- the lister's sample, no points, and a refusal
+
+sample : List ℕ
+sample = sheetOf (still (0· ∷ 0· ∷ plus 3 ∷ plus 3 ∷ 0· ∷ 0· ∷ []))
+
+pub listings : List Bool
+listings =
+    equals (lister sample) (ascii "extent 0 0 4 4\n0 0 I\n1 0 L 0 2\n1 3 L 1\n")
+    ∷ equals (lister []) (ascii "empty\n")
+    ∷ equals (lister (1 ∷ [])) (ascii "refused 10\n")
+    ∷ equals (lister (sheetOf (still (half (minus 1) ∷ 0· ∷ [])))) (ascii "extent -1 0 0 1\n0 0 L 0\n")
+    ∷ []
+
+pub every-listing-is-right : all (λ b. b) listings ≡ true
+unfolding opened listings sample plus minus half equals still
+every-listing-is-right = refl
+
+-- ---- lent lengths, which no run beside the Rust can show: 2, after 1 and before 4, with nothing changed
+
+-- the tree of one point, with these numbers of rows, chain places and work words
+lengths : ℕ → ℕ → ℕ → Float → TreeInput
+lengths rows chains work x = record { sheet = sheetOf (still (x ∷ 0· ∷ [])); rows = replicate rows 9; chains = replicate chains 9; work = replicate work 7 }
+
+-- a force's velocities that begin at a byte of the buffer
+startingAt : ℕ → ForceInput → ForceInput
+startingAt start l = record { places = l .places; buffer = l .buffer; start = start; draws = l .draws; work = l .work }
+
+nan· : Float
+nan· = floatOf 0x7ff8_0000_0000_0000
+
+pub edges : List Bool
+edges =
+    -- a row too few, a row too many, a chain place too many; words that make no whole slot count for none
+    refusesTree (lengths 0 1 8 0·) 2 0 7
+    ∷ refusesTree (lengths 8 1 8 0·) 2 0 7
+    ∷ refusesTree (lengths 4 2 8 0·) 2 0 7
+    ∷ counts (lengths 4 1 15 0·) 1
+    -- 2 comes before 4, and no slot at all is 7
+    ∷ refusesTree (lengths 0 1 8 nan·) 2 0 7
+    ∷ refusesTree (lengths 0 1 7 0·) 7 0 0
+    -- velocities that reach past the buffer by a byte, and that just fit; half a pair of places; a link end too many
+    ∷ (let l = startingAt 5 (force two []) in refusesForce l (manyBodyResult l (0· ∷ 0· ∷ []) 1·) 2 0 7)
+    ∷ (let l = startingAt 4 (force (0· ∷ 0· ∷ 1· ∷ 1· ∷ []) []) in isRefusal 0 0 (refusalOf (manyBodyResult l (0· ∷ 0· ∷ []) 1·)))
+    ∷ (let l = force (0· ∷ 0· ∷ 0· ∷ []) [] in refusesForce l (manyBodyResult l (0· ∷ []) 1·) 2 0 7)
+    ∷ (let l = force two [] in refusesForce l (linkResult l (0 ∷ 1 ∷ 1 ∷ []) [] (0· ∷ []) 1 1·) 2 0 7)
+    -- link strengths though there are no links, and one strength for two links
+    ∷ (let l = force two [] in refusesForce l (linkResult l [] (0· ∷ []) [] 1 1·) 2 0 7)
+    ∷ (let l = force two [] in refusesForce l (linkResult l (0 ∷ 1 ∷ 0 ∷ 1 ∷ []) (0· ∷ []) (0· ∷ 0· ∷ []) 1 1·) 2 0 7)
+    ∷ []
+
+pub every-edge-holds : all (λ b. b) edges ≡ true
+unfolding opened edges lengths startingAt nan· equals isRefusal still tree counts refusesTree before behind force refusesForce two
+every-edge-holds = refl
+
+-- ---- what T1 to T13 leave open: a row for each rule that reads well the other way round
+
+-- lent for points that move
+moving : List Float → List Float → List Float → ForceInput
+moving at vs draws = record { places = at; buffer = before ++ pairsBytes vs ++ behind; start = 3; draws = draws; work = replicate 64 7 }
+
+quarters : ℕ → Float
+quarters n = plus n ⊘ plus 4
+
+-- one force slot: kind, iterations, links, strengths, three settings
+entry : ℕ → ℕ → ℕ → ℕ → Float → Float → Float → List ℕ
+entry kind iterations links strengths a b c = kind ∷ iterations ∷ links ∷ strengths ∷ bitsOf a ∷ bitsOf b ∷ bitsOf c ∷ []
+
+pushing : ℕ → List ℕ
+pushing kind = entry kind 1 0 0 1· 0· 0·
+
+centring : Float → Float → Float → List ℕ
+centring x y strength = entry 4 0 0 0 x y strength
+
+-- these particles at alpha 1 under these slots, with their numbers and draws
+sheet : List Particle → List ℕ → List Float → List Float → SheetInput
+sheet ps slots numbers draws =
+    record { sheet = sheetOf ps; alpha = bitsOf 1·; forces = padded 56 0 slots; numbers = numbers; links = []; draws = draws; work = replicate 64 7 }
+
+-- target 0, and both decays a half
+halving : Settings
+halving = settings 0· (half 1·) (half 1·)
+
+-- a tick, accepted, with these particles, alpha, visits and draws
+ticksTo : SheetInput → List Particle → Float → ℕ → ℕ → Bool
+ticksTo l ps alpha visits draws =
+    let a = tickAnswer l halving in
+    isRefusal 0 0 (a .refusal)
+    && eqb (a .visits) visits
+    && eqb (a .draws) draws
+    && equals (sheetAfterTick l halving) (sheetOf ps)
+    && eqb (alphaAfterTick l halving) (bitsOf alpha)
+    && all (eqb 0) (workAfterTick l halving)
+
+-- a tick, refused, with the work slots all holding w
+refusesTick : SheetInput → ℕ → ℕ → ℕ → Bool
+refusesTick l number place w =
+    let a = tickAnswer l halving in
+    isRefusal number place (a .refusal)
+    && eqb (a .visits) 0
+    && eqb (a .draws) 0
+    && equals (sheetAfterTick l halving) (l .sheet)
+    && eqb (alphaAfterTick l halving) (l .alpha)
+    && all (eqb w) (workAfterTick l halving)
+
+-- at most ten ticks while alpha > alpha_min, ended so
+stepsTo : SheetInput → Float → ℕ → ℕ → Bool → Float → ℕ → ℕ → Bool
+stepsTo l alphaMin ticks number finished alpha visits draws =
+    let a = stepAnswer l halving alphaMin 10 in
+    isRefusal number 0 (a .refusal)
+    && eqb (a .ticks) ticks
+    && cond finished (a .finished) (not (a .finished))
+    && eqb (a .visits) visits
+    && eqb (a .draws) draws
+    && eqb (alphaAfterStep l halving alphaMin 10) (bitsOf alpha)
+
+-- the closing move of one particle, called alone
+closes : Float → Particle → Particle → Bool
+closes decay p q =
+    let o = closingResult decay (p ∷ []) in
+    isRefusal 0 0 (refusalOf o) && equals (sheetOf (particlesAfter o (p ∷ []))) (sheetOf (q ∷ []))
+
+-- T9's particles under ManyBody
+nine : SheetInput
+nine = sheet (still (0· ∷ 0· ∷ plus 3 ∷ plus 3 ∷ [])) (pushing 1) (minus 30 ∷ minus 30 ∷ []) []
+
+-- one particle at (x,0)
+one : Float → ℕ → List Particle
+one x flags = particle x 0· 0· 0· flags ∷ []
+
+pub slips : List Bool
+slips =
+    -- children of strength zero give a NaN centre, and every walk goes on down: three walks over seven nodes
+    (let l = force (0· ∷ 0· ∷ 1· ∷ 1· ∷ plus 14 ∷ plus 14 ∷ []) [] in eqb (forceAnswer l (manyBodyResult l (0· ∷ 0· ∷ minus 30 ∷ []) 1·) .visits) 21)
+    -- draws for x, then for y, and both squares in the length: 1 and -1, then 1 and 1
+    ∷ (let l = force (0· ∷ 0· ∷ 0· ∷ 0· ∷ []) (1· ∷ minus 1 ∷ 1· ∷ 1· ∷ []) in
+    gives l (manyBodyResult l (minus 4 ∷ minus 4 ∷ []) 1·) (minus 2 ∷ plus 2 ∷ minus 2 ∷ minus 2 ∷ []) 2 4)
+    -- Collide: of the own side x, of the other x + vx
+    ∷ (let l = moving two (half (half 1·) ∷ 0· ∷ half (minus 1) ∷ 0· ∷ []) (0· ∷ []) in
+    gives l (collideResult l (1· ∷ 1· ∷ []) 1· 1) (half (minus 1) ∷ 0· ∷ half (half 1·) ∷ 0· ∷ []) 6 1)
+    -- of radii 2 and 1 the first moves by a fifth, the second by the rest
+    ∷ (let l = force two (0· ∷ []) in
+    let fifth = 1· ⊘ plus 5 in
+    gives l (collideResult l (2· ∷ 1· ∷ []) 1· 1) (minus 2 ⊗ fifth ∷ 0· ∷ 2· ⊗ (1· ⊖ fifth) ∷ 0· ∷ []) 6 1)
+    -- a leaf's radius is its first member's, not the greatest
+    ∷ (let l = force (0· ∷ 0· ∷ 1· ∷ 0· ∷ 1· ∷ 0· ∷ []) [] in
+    gives l (collideResult l (half 1· ∷ half (half 1·) ∷ 2· ∷ []) 1· 1) (0· ∷ 0· ∷ 0· ∷ 0· ∷ 0· ∷ 0· ∷ []) 9 0)
+    -- a self-link counts twice and pulls nothing; the bias is 3/4, the default strength 1 over the lesser count
+    ∷ (let l = force (0· ∷ 0· ∷ plus 3 ∷ plus 4 ∷ []) [] in
+    gives l (linkResult l (0 ∷ 0 ∷ 0 ∷ 1 ∷ []) [] (0· ∷ 0· ∷ []) 1 1·) (quarters 3 ∷ 1· ∷ neg (quarters 9) ∷ minus 3 ∷ []) 0 0)
+    -- the same link twice: the second time it sees what it did the first time
+    ∷ (let l = force (0· ∷ 0· ∷ plus 3 ∷ plus 4 ∷ []) [] in
+    gives l (linkResult l (0 ∷ 1 ∷ 0 ∷ 1 ∷ []) [] (0· ∷ 0· ∷ []) 1 1·) (half (quarters 9) ∷ quarters 6 ∷ neg (half (quarters 9)) ∷ neg (quarters 6) ∷ []) 0 0)
+    -- flag 2 holds x too, and no flag holds y
+    ∷ closes (half 1·) (particle 0· 0· 1· 1· 2) (particle 0· 1· 0· (half 1·) 2)
+    -- the place gains the clamped velocity, the velocity itself decays
+    ∷ closes 1· (particle 0· 0· (plus (2 ^ 32)) 0· 0) (particle (plus 2147483647) 0· (plus (2 ^ 32)) 0· 0)
+    -- a tick: alpha first, so that the forces run at a half
+    ∷ ticksTo nine (particle (half (minus 5)) (half (minus 5)) (neg (quarters 5)) (neg (quarters 5)) 0 ∷ particle (half (plus 11)) (half (plus 11)) (quarters 5) (quarters 5) 0 ∷ []) (half 1·) 6 0
+    -- slots in ascending number
+    ∷ ticksTo (sheet (one 0· 0) (centring (plus 4) 0· 1· ++ centring 0· 0· (half 1·)) [] []) (one 2· 0) (half 1·) 0 0
+    -- 9 after each force, though the next would bring the particle back
+    ∷ refusesTick (sheet (one 0· 0) (centring limit 0· 2· ++ centring 0· 0· 1·) [] []) 9 0 0
+    -- a held axis returns to its value at tick entry
+    ∷ ticksTo (sheet (one 2· 1) (centring 0· 0· 1·) [] []) (one 2· 1) (half 1·) 0 0
+    -- three ticks bring alpha from 1 to an eighth; visits add up
+    ∷ stepsTo nine (1· ⊘ plus 5) 3 0 true (1· ⊘ plus 8) 18 0
+    -- alpha at alpha_min ends a step before its first tick
+    ∷ stepsTo nine 1· 0 0 true 1· 0 0
+    -- one list of draws across ticks: the second tick finds none left, and the first stands
+    ∷ stepsTo (sheet (still (0· ∷ 0· ∷ 0· ∷ 0· ∷ [])) (pushing 1) (0· ∷ 0· ∷ []) (1· ∷ 1· ∷ 1· ∷ 1· ∷ [])) 0· 1 8 false (half 1·) 2 4
+    -- a flag before a coordinate before a velocity, the first bad record first; then a slot's numbers, then draws
+    ∷ refusesTick (sheet (particle nan· 0· 0· 0· 4 ∷ []) [] [] []) 10 0 7
+    ∷ refusesTick (sheet (particle 0· 0· nan· 0· 0 ∷ particle nan· 0· 0· 0· 0 ∷ []) (pushing 1) (0· ∷ nan· ∷ []) (2· ∷ [])) 5 0 7
+    ∷ refusesTick (sheet (still two) (pushing 1) (0· ∷ nan· ∷ []) (2· ∷ [])) 5 1 7
+    ∷ refusesTick (sheet (still two) (pushing 5) [] (2· ∷ [])) 5 0 7
+    ∷ []
+
+pub every-slip-shows : all (λ b. b) slips ≡ true
+unfolding opened slips moving entry pushing centring sheet halving ticksTo refusesTick stepsTo nine one closes quarters plus minus half equals isRefusal still force gives before behind two nan·
+every-slip-shows = refl
