@@ -146,7 +146,7 @@ module _ (at : List Float) where
   in-T : (i : ℕ) → placeRange (xAt at i) (yAt at i) ≡ true → T (within (xAt at i)) × T (within (yAt at i))
   in-T i e = (subst T (sym (left (within (xAt at i)) (within (yAt at i)) e)) tt, subst T (sym (right (within (xAt at i)) (within (yAt at i)) e)) tt)
 
-  no-tree : treeOf at 0 ≡ none
+  pub no-tree : treeOf at 0 ≡ none
   unfolding treeOf treeIn
   no-tree = grow-none at 66 (extentOf (coverFirst at 0))
 

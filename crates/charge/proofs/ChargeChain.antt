@@ -12,8 +12,8 @@ use Rattle.rules.specs.Plain.{keep, countFrom, upTo, branch}
 use Rattle.rules.specs.Cell.{quarter}
 use Rattle.rules.specs.Tree.{Tree, none, leaf, node, inQuarter, pointsIn, alike, grow, treeIn, treeOf}
 use Rattle.slots.specs.declared.Quadtree.{Quadtree}
-use Rattle.slots.specs.Trees.{Follows, first, Stands}
-use Rattle.walk.specs.Walk.{EachChain, EachBelow, ChainFrom}
+use Rattle.slots.specs.Trees.{Follows, first, Stands, Below}
+use Rattle.walk.specs.Walk.{EachChain, ChainFrom}
 use Rattle.walk.proofs.WalkStands.{chains-cells}
 use Rattle.charge.specs.Charge.{Few, Chain}
 

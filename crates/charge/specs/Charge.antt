@@ -6,8 +6,8 @@ use lib.Ieee.{Float}
 use Rattle.rules.specs.ManyBody as Rule
 use Rattle.rules.specs.ManyBody.{charge, leafCharge, nodeCharge}
 use Rattle.slots.specs.declared.Quadtree.{Quadtree}
-use Rattle.slots.specs.Trees.{value, putValue}
-use Rattle.walk.specs.Walk.{EachBelow, ChainFrom}
+use Rattle.slots.specs.Trees.{value, putValue, Below}
+use Rattle.walk.specs.Walk.{ChainFrom}
 use Rattle.walk.specs.WalkAfter.{Valued}
 use Rattle.charge.specs.declared.Charge.{Charge}
 use Rattle.charge.specs.declared.Sums.{Sums}
@@ -33,7 +33,7 @@ putCharge m s q = putValue (putValue (putValue m s 0 (q .x)) s 1 (q .y)) s 2 (q 
 
 -- at most n members, each below n
 pub record Few (n : ℕ) (is : List ℕ) : Type 0 where
-  pub below : EachBelow n is
+  pub below : Below n is
   pub few : length is ≤ n
 
 -- the chain of a leaf whose first particle is f

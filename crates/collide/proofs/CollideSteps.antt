@@ -17,8 +17,8 @@ use Rattle.rules.specs.Collide.{radiusOf, radiusTree, away, meetFirst, collideS
 use Rattle.slots.specs.declared.Quadtree.{Quadtree}
 use Rattle.walk.specs.declared.visit.Walk.{Walk}
 use Rattle.walk.specs.declared.visit.Waiting.{Waiting}
-use Rattle.slots.specs.Trees.{Follows, first}
-use Rattle.walk.specs.Walk.{stackOf, Sized, lay, seen, EachBelow}
+use Rattle.slots.specs.Trees.{Follows, first, Below}
+use Rattle.walk.specs.Walk.{stackOf, Sized, lay, seen}
 use Rattle.walk.proofs.Walking.{Walking, Turn, start}
 use Rattle.walk.proofs.WalkStands.{chains-below, found}
 use Rattle.force.specs.declared.draws.Spent.{Spent}
@@ -37,16 +37,16 @@ seen-radii s = s .valued .values
 module _ (at radii : List Float) (strength : Float) (i : ℕ) where
   -- what holds of the walk at each turn, and in a turn with e on top
   abbrev pub Goes : List ℕ → List ℕ → Counted Flow → Walk → Counted Flow → Type 0
-  Goes m next b w s = Walking (collideStep at radii strength i) (look m) (EachBelow (length radii)) m next (radiusTree at radii) b w s
+  Goes m next b w s = Walking (collideStep at radii strength i) (look m) (Below (length radii)) m next (radiusTree at radii) b w s
 
   abbrev pub GoesOn : List ℕ → List ℕ → Counted Flow → Walk → Counted Flow → Waiting → Type 0
-  GoesOn m next b w s e = Turn (collideStep at radii strength i) (look m) (EachBelow (length radii)) m next (radiusTree at radii) b w s e
+  GoesOn m next b w s e = Turn (collideStep at radii strength i) (look m) (Below (length radii)) m next (radiusTree at radii) b w s e
 
   pub sets-out : {m : List ℕ} {q : Quadtree} (s : Rounded at radii m q) (b : Counted Flow) (w : Walk) → Sized w → stackOf w ≡ lay (q .root) (q .extent) [] → Goes m (s .next) b w b
   sets-out {m} {q} s b w z e =
       let t = s .valued .stands in
-      start (collideStep at radii strength i) (look m) (EachBelow (length radii)) m (s .next) (q .root) (q .extent) (t .tree) (radiusTree at radii) b w
-      (found t (EachBelow (length radii)) (chains-below t)) (t .levels) (seen-radii s) z e
+      start (collideStep at radii strength i) (look m) (Below (length radii)) m (s .next) (q .root) (q .extent) (t .tree) (radiusTree at radii) b w
+      (found t (Below (length radii)) (chains-below t)) (t .levels) (seen-radii s) z e
 
   -- an internal node: b says whether it is away, v what the walk does
   pub node-step : (n : Extent × Float) (σ : Flow) (b : Bool) (v v' : Visit) → b ≡ away at i (n .0) (radiusOf radii i ⊕ n .1) → v ≡ stopIf b → v ≡ v'

@@ -11,8 +11,8 @@ use lib.Ieee.Bits.{ofBits-fits}
 use Rattle.rules.specs.Plain.{foldl}
 use Rattle.rules.specs.Number.{0·, plainZero}
 use Rattle.rules.specs.Collide.{greater, radiusOf, leafRadius, nodeRadius}
-use Rattle.slots.specs.Trees.{kid, kids, Follows, first}
-use Rattle.walk.specs.Walk.{EachBelow, ChainFrom}
+use Rattle.slots.specs.Trees.{kid, kids, Follows, first, Below}
+use Rattle.walk.specs.Walk.{ChainFrom}
 use Rattle.walk.specs.WalkAfter.{valuesAt, kidValues}
 use Rattle.walk.proofs.WalkAfter.{values-some, fold-children}
 use Rattle.collide.specs.Radius.{radiusIn}
@@ -61,10 +61,10 @@ module _ (m : List ℕ) (child s : ℕ) (r v : Float) (some : child ≡ 0 → �
 -- ---- a leaf
 
 -- a chain of some of n particles begins with one of them
-pub chain-below : {next : List ℕ} {n f : ℕ} → ChainFrom next (EachBelow n) f → f < n
+pub chain-below : {next : List ℕ} {n f : ℕ} → ChainFrom next (Below n) f → f < n
 chain-below {next} {n} {f} c = go (c .members) (c .follows) (c .starts) (c .good)
   where
-    go : (is : List ℕ) → Follows next is → first is ≡ f → EachBelow n is → f < n
+    go : (is : List ℕ) → Follows next is → first is ≡ f → Below n is → f < n
     go [] h e b = absurd h
     go (i ∷ is) h e b = omega (arith, b .0, e)
 

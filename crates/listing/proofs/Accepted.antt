@@ -1,13 +1,13 @@
 -- A sheet that the lister accepts is within its limits. Assumes nothing.
 use mathlib.Core.Path.{_≡_, refl, sym, ap, ap₂, _∙_, subst}
-use mathlib.Core.Logic.{⊎-elim, inl, inr}
+use mathlib.Core.Logic.{⊎-elim}
 use mathlib.Core.Bool.{Bool, true, false}
 use mathlib.Core.List.{List, [], _∷_, map, List·Memᴰ, List·Memᴰ·not-nil, List·Memᴰ·cases-cons, cons≢nil}
-use Prim.Native.Nat.{ℕ, zero, suc, _+_, _*_, _^_, _≤_, _<_}
+use Prim.Native.Nat.{ℕ, zero, suc, _+_, _*_, _≤_, _<_}
 use native.Mathlib.Omega.{arith}
 use borrow.Author.Tests.{leb-true}
 use lib.IntN.{ℤ}
-use lib.Dec.{T, leb, lit≤}
+use lib.Dec.{T, leb}
 use lib.ListN.{length, getD}
 use lib.Ieee.{Float, nan}
 use Rattle.rules.specs.declared.Extent.{Extent}
@@ -16,25 +16,28 @@ use Rattle.rules.specs.Plain.{countFrom, upTo}
 use Rattle.rules.specs.Outcome.{Outcome, done, refused, _>>=_, Check, fine, require, _then_, checkFrom}
 use Rattle.rules.specs.Number.{within, placeRange, speedRange, xAt, yAt}
 use Rattle.rules.specs.Sheet.{wholeRecords, recordCheck, recordsCheck, placesOf, particlesOf, recordsFrom, countOf}
-use Rattle.rules.specs.Cover.{Square, Covered, nothing, holds, coverAll, coverFirst, extentOf}
-use Rattle.rules.specs.Tree.{Tree, none, leaf, node, depth, nodes, treeIn, treeOf, fitsCheck, treeCheck, chainsOf}
+use Rattle.rules.specs.Cover.{Square, Covered, nothing, holds, coverAll, coverFirst}
+use Rattle.rules.specs.Tree.{Tree, none, leaf, node, depth, nodes, treeOf, treeCheck, chainsOf}
 use Rattle.rules.specs.Calls.{treeOfSheet, coverSheet}
 use Rattle.rules.specs.Listing.{mostListed, listerSlots}
 use Rattle.rules.proofs.CoverTerms.{AllNear, Held, Reached, floors}
 use Rattle.rules.proofs.Cover.{cover-all, held-ends}
-use Rattle.rules.proofs.CellList.{In, left, right}
-use Rattle.rules.proofs.CellCount.{length-upTo}
-use Rattle.rules.proofs.CellIs.{Is}
-use Rattle.rules.proofs.CellRule.{grow-none, tree-whole, chains-in, chains-length}
+use Rattle.rules.proofs.CellList.{left, right}
 use Rattle.number.proofs.Flooring.{floor-within}
-use Rattle.listing.specs.Told.{AllBelow, Covers, Near, Listed}
+use Rattle.listing.specs.Told.{Covers, Near, Listed}
 use Rattle.listing.proofs.Sizes.{below-more}
+use Rattle.cells.proofs.Prefix.{no-tree, check-fits}
+use Rattle.rows.proofs.ListWhole.{chains-all}
 
 -- ---- outcomes
 
 abbrev Accepts : {A : Type 0} → Outcome A → Type 0
 Accepts (done a) = Unit
 Accepts (refused r) = ⊥
+
+accepts-fine : (c : Check) → Accepts c → c ≡ fine
+accepts-fine (done t) h = refl
+accepts-fine (refused r) h = absurd h
 
 accepts-then : (a b : Check) → Accepts (a then b) → Accepts a × Accepts b
 accepts-then (done u) b h = (tt, h)
@@ -90,46 +93,9 @@ count-less : (i a k : ℕ) → List·Memᴰ i (countFrom a k) → i < a + k
 count-less i a zero m = absurd (List·Memᴰ·not-nil m)
 count-less i a (suc k) m = ⊎-elim (λ e. omega arith) (λ r. let l : i < a + 1 + k = count-less i (a + 1) k r in omega arith) (List·Memᴰ·cases-cons m)
 
-in-count-less : (i a k : ℕ) → In i (countFrom a k) → i < a + k
-in-count-less i a zero m = absurd m
-in-count-less i a (suc k) m = ⊎-elim (λ e. omega arith) (λ r. let l : i < a + 1 + k = in-count-less i (a + 1) k r in omega arith) m
-
-below-in : (n : ℕ) (l : List ℕ) → ((i : ℕ) → In i l → i < n) → AllBelow n l
-below-in n [] h = tt
-below-in n (i ∷ l) h = (h i (inl refl), below-in n l (λ j m. h j (inr m)))
-
 -- ---- the tree
 
 module _ (at : List Float) where
-  tree-none : treeOf at 0 ≡ none
-  unfolding treeOf treeIn
-  tree-none = grow-none at 66 (extentOf (coverFirst at 0))
-
-  -- an accepted tree is neither too deep nor too large
-  tree-fits : (n slots : ℕ) → Accepts (treeCheck at n slots) → (depth (treeOf at n) ≤ 65) × (nodes (treeOf at n) ≤ slots)
-  unfolding treeCheck fitsCheck
-  tree-fits zero slots c = rw tree-none (omega arith, omega arith)
-  tree-fits (suc n) slots c =
-      let (_, r) = accepts-at (λ i _. fitsCheck slots i (treeOf at (i + 1))) 0 (upTo (suc n)) n (let e = length-upTo (suc n) in omega arith) c in
-      let e : 0 + n + 1 ≡ suc n = omega arith in
-      let u = treeOf at (0 + n + 1) in
-      let both = accepts-then (require (leb (depth u) 65) 6 (0 + n)) (require (leb (nodes u) slots) 7 (0 + n)) r in
-      subst (λ (m : ℕ). (depth (treeOf at m) ≤ 65) × (nodes (treeOf at m) ≤ slots)) e
-      (leb-true (depth u) 65 (accepts-require (leb (depth u) 65) 6 (0 + n) (both .0)), leb-true (nodes u) slots (accepts-require (leb (nodes u) slots) 7 (0 + n) (both .1)))
-
-  -- it is the tree of its points
-  tree-is : (n : ℕ) → depth (treeOf at n) ≤ 65 → Is at (extentOf (coverFirst at n)) (treeOf at n) (upTo n)
-  unfolding treeOf
-  tree-is n l = tree-whole at (extentOf (coverFirst at n)) (upTo n) l
-
-  chains-count : (n : ℕ) → depth (treeOf at n) ≤ 65 → length (chainsOf (treeOf at n)) ≡ n
-  chains-count n l = chains-length at (treeOf at n) (extentOf (coverFirst at n)) (upTo n) (tree-is n l) ∙ length-upTo n
-
-  chains-below : (n : ℕ) → depth (treeOf at n) ≤ 65 → AllBelow n (chainsOf (treeOf at n))
-  chains-below n l =
-      below-in n (chainsOf (treeOf at n))
-      (λ i m. let r = in-count-less i 0 n (chains-in at (treeOf at n) (extentOf (coverFirst at n)) (upTo n) i (tree-is n l) .0 m) in omega arith)
-
   -- where there is a particle there is a node
   nodes-some : (t : Tree Extent) → 0 < length (chainsOf t) → 0 < nodes t
   nodes-some none h = h
@@ -152,10 +118,10 @@ module _ (at : List Float) where
 
   -- what covers it has ends that are near, if there is a particle
   covers : (n : ℕ) → AllNear at (upTo n) → depth (treeOf at n) ≤ 65 → Covers (coverFirst at n) (nodes (treeOf at n))
-  covers n h l = go n (coverFirst at n) (cover-all at (upTo n) h) refl (chains-count n l)
+  covers n h l = go n (coverFirst at n) (cover-all at (upTo n) h) refl (chains-all at n l .0)
     where
       go : (n : ℕ) (c : Covered) → Reached c (map (floors at) (upTo n)) → coverFirst at n ≡ c → length (chainsOf (treeOf at n)) ≡ n → Covers c (nodes (treeOf at n))
-      go zero nothing r e k = ap nodes tree-none
+      go zero nothing r e k = ap nodes (no-tree at)
       go (suc n) nothing r e k = absurd (cons≢nil r)
       go zero (holds s) r e k = absurd (cover-none s e)
       go (suc n) (holds s) r e k = (nodes-some (treeOf at (suc n)) (omega arith), near-square r)
@@ -172,14 +138,14 @@ module _ (sheet : List ℕ) where
   accepted-tree : Accepts (recordsCheck (particlesOf sheet)) → n ≤ mostListed → Accepts (treeCheck at n listerSlots) → Listed (coverSheet sheet) (treeOf at n)
   unfolding at n recordsCheck
   accepted-tree r m f =
-      let fits = tree-fits at n listerSlots f in
+      let fits = check-fits at n listerSlots (accepts-fine (treeCheck at n listerSlots) f) in
       let near = near-all at n (λ k h. places-in 0 (particlesOf sheet) r k (let e = particles-count sheet in omega arith)) in
-      let e = chains-count at n (fits .0) in
+      let e = chains-all at n (fits .0) .0 in
       record {
         covers = covers at n near (fits .0);
         few = fits .1;
         short = omega arith;
-        low = below-more n mostListed m (chainsOf (treeOf at n)) (chains-below at n (fits .0));
+        low = below-more n mostListed m (chainsOf (treeOf at n)) (chains-all at n (fits .0) .1);
       }
 
 done-tree : {A : Type 0} (a b : Check) (t u : A) → (a >>= λ _. b >>= λ _. done t) ≡ done u → Accepts a × (Accepts b × (t ≡ u))

@@ -12,16 +12,17 @@ use Rattle.rules.specs.Cover.{Square, Covered, nothing, holds}
 use Rattle.rules.specs.Tree.{Tree, none, leaf, node, nodes, Row, rowsFrom, rowsOf, chainsOf}
 use Rattle.rules.specs.Listing.{ascii, decimal, signed, kindWord, line, extentLine, rowLines, mostListed}
 use Rattle.listing.specs.Text.{others}
-use Rattle.listing.specs.Told.{chained, Near, Covers, AllBelow, Listed}
+use Rattle.listing.specs.Told.{chained, Near, Covers, Listed}
 use Rattle.listing.proofs.Decimal.{decimal-length, decimal-most}
+use Rattle.slots.specs.Trees.{Below}
 use Rattle.listing.proofs.Rows.{rowLine}
 
 -- ---- numbers of at most four digits
 
 abbrev Low : List ℕ → Type 0
-Low l = AllBelow (10 ^ 4) l
+Low l = Below (10 ^ 4) l
 
-pub below-more : (m n : ℕ) → m ≤ n → (l : List ℕ) → AllBelow m l → AllBelow n l
+pub below-more : (m n : ℕ) → m ≤ n → (l : List ℕ) → Below m l → Below n l
 below-more m n h [] b = tt
 below-more m n h (i ∷ l) b = (le-trans (b .0) h, below-more m n h l (b .1))
 

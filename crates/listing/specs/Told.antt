@@ -9,6 +9,7 @@ use Rattle.rules.specs.declared.Extent.{Extent}
 use Rattle.rules.specs.Plain.{padded}
 use Rattle.rules.specs.Cover.{Square, square, whole, Covered, nothing, holds, extentOf}
 use Rattle.rules.specs.Tree.{Tree, nodes, Row, row, rowsOf, flat, chainsOf}
+use Rattle.slots.specs.Trees.{Below}
 use Rattle.rules.specs.Listing.{mostListed, listerSlots}
 
 -- ---- ends
@@ -56,17 +57,12 @@ abbrev pub Covers : Covered → ℕ → Type 0
 Covers nothing n = n ≡ 0
 Covers (holds s) n = (0 < n) × Near s
 
--- each number of a list is below n
-abbrev pub AllBelow : ℕ → List ℕ → Type 0
-AllBelow n [] = Unit
-AllBelow n (i ∷ l) = (i < n) × AllBelow n l
-
 -- within the lister's limits
 pub record Listed (c : Covered) (t : Tree Extent) : Type 0 where
   pub covers : Covers c (nodes t)
   pub few : nodes t ≤ listerSlots
   pub short : length (chainsOf t) ≤ mostListed
-  pub low : AllBelow mostListed (chainsOf t)
+  pub low : Below mostListed (chainsOf t)
 
 -- the extent, the number of nodes, their rows and the chains are those of a tree
 pub record Told (c : Covered) (t : Tree Extent) (e : Extent) (n : ℕ) (rows chains : List ℕ) : Type 0 where

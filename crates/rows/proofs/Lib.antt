@@ -1,4 +1,4 @@
 mod ListChain
 mod ListRows
 mod ListTree
-mod ListWhole
+pub mod ListWhole

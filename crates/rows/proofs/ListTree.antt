@@ -7,8 +7,8 @@ use lib.ListN.{length, getD, length-append}
 use Rattle.rules.specs.Refusal.{mostParticles}
 use Rattle.rules.specs.Tree.{Tree, none, leaf, node, nodes, Row, row, rowsFrom, flat, chainsOf}
 use Rattle.rules.specs.Plain.{overwritten}
-use Rattle.slots.specs.Trees.{word, kids, first, Follows}
-use Rattle.rows.specs.List.{Linked, Below, Leaf, Lies, Listable, Wrote}
+use Rattle.slots.specs.Trees.{word, kids, first, Follows, Below}
+use Rattle.rows.specs.List.{Linked, Leaf, Lies, Listable, Wrote}
 use Rattle.rows.specs.declared.Cursor.{Cursor}
 use Rattle.rows.proofs.ListChain.{follows-linked}
 use Rattle.rows.proofs.ListRows.{rows-count, wrote-internal, wrote-next, wrote-rows, wrote-chains}

@@ -17,9 +17,9 @@ use Rattle.rules.proofs.CellIs.{Is}
 use Rattle.rules.proofs.CellCount.{length-upTo}
 use Rattle.rules.proofs.CellRule as Rule
 use Rattle.sheet.proofs.Lists.{overwritten-none, overwritten-next, overwritten-length}
-use Rattle.slots.specs.Trees.{EachSlot, inCells, Stands}
-use Rattle.slots.proofs.Trees.{cells-depth}
-use Rattle.rows.specs.List.{Below, Listable, Wrote, Whole}
+use Rattle.slots.specs.Trees.{inCells, Stands, Below}
+use Rattle.slots.proofs.Trees.{cells-depth, each-map}
+use Rattle.rows.specs.List.{Listable, Wrote, Whole}
 use Rattle.slots.specs.declared.Quadtree.{Quadtree}
 use Rattle.rows.specs.declared.Cursor.{Cursor}
 use Rattle.rows.proofs.ListChain.{store-first}
@@ -86,11 +86,6 @@ zeros-behind l part h =
 
 -- ---- what a tree that stands in slots gives
 
-each-slot : {P Q : ℕ → Type 0} → ((s : ℕ) → P s → Q s) → (t : Tree ℕ) → EachSlot P t → EachSlot Q t
-each-slot f none e = tt
-each-slot f (leaf s is) e = f s e
-each-slot f (node s t0 t1 t2 t3) e = (f s (e .0), each-slot f t0 (e .1), each-slot f t1 (e .2), each-slot f t2 (e .3), each-slot f t3 (e .4))
-
 in-count : (i a k : ℕ) → In i (countFrom a k) → i < a + k
 in-count i a zero h = absurd h
 in-count i a (suc k) h = ⊎-elim (λ e. omega arith) (λ g. omega (arith, in-count i (a + 1) k g)) h
@@ -106,7 +101,7 @@ module _ (at : List Float) (n : ℕ) where
   is-whole l = Rule.tree-whole at (extentOf (coverFirst at n)) (upTo n) l
 
   -- its chains have each of n particles
-  chains-all : depth (treeOf at n) ≤ 65 → (length (chainsOf (treeOf at n)) ≡ n) × Below n (chainsOf (treeOf at n))
+  pub chains-all : depth (treeOf at n) ≤ 65 → (length (chainsOf (treeOf at n)) ≡ n) × Below n (chainsOf (treeOf at n))
   chains-all l =
       let c = extentOf (coverFirst at n) in
       let t = treeOf at n in
@@ -134,7 +129,7 @@ module _ (at : List Float) (n : ℕ) where
           lies = record {
             leads = s .leads;
             levels = omega (arith, s .levels);
-            slots = each-slot (λ i h. omega (arith, s .room)) (s .tree) (s .below);
+            slots = each-map (λ i. i < q .nodes) (λ i. i * 8 + 8 ≤ length m) (λ i h. omega (arith, s .room)) (s .tree) (s .below);
             below = rw (w .links, e) (a .1);
           };
           room = omega (arith, w .room, s .count);

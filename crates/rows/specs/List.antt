@@ -1,13 +1,13 @@
 -- What listing a tree asks for and what it writes. Definitions only.
 use mathlib.Core.Path.{_≡_}
 use mathlib.Core.List.{List, [], _∷_}
-use Prim.Native.Nat.{ℕ, _+_, _*_, _≤_, _<_}
+use Prim.Native.Nat.{ℕ, _+_, _*_, _≤_}
 use lib.ListN.{length, getD}
 use lib.Ieee.{Float}
 use Rattle.rules.specs.Plain.{overwritten}
 use Rattle.rules.specs.Tree.{Tree, depth, nodes, Row, flat, chainsOf, greatestLevel}
 use Rattle.rules.specs.Refusal.{mostParticles}
-use Rattle.slots.specs.Trees.{Leads, EachSlot, Stands}
+use Rattle.slots.specs.Trees.{Leads, EachSlot, Stands, Below}
 use Rattle.slots.specs.declared.Quadtree.{Quadtree}
 use Rattle.rows.specs.declared.Cursor.{Cursor}
 
@@ -15,11 +15,6 @@ use Rattle.rows.specs.declared.Cursor.{Cursor}
 abbrev pub Linked : List ℕ → ℕ → List ℕ → Type 0
 Linked next p [] = p ≡ 0
 Linked next p (i ∷ is) = (p ≡ i + 1) × Linked next (getD next i 0) is
-
--- each number is below n
-abbrev pub Below : ℕ → List ℕ → Type 0
-Below n [] = Unit {0}
-Below n (i ∷ is) = (i < n) × Below n is
 
 -- the number p leads to this chain, and there is room for it behind the first `at` of the chains
 pub record Chain (next : List ℕ) (p chains at : ℕ) (is : List ℕ) : Type 0 where

@@ -24,6 +24,11 @@ abbrev pub first : List ℕ → ℕ
 first [] = 0
 first (i ∷ is) = i
 
+-- each number of a list is below n
+abbrev pub Below : ℕ → List ℕ → Type 0
+Below n [] = Unit {0}
+Below n (i ∷ is) = (i < n) × Below n is
+
 -- the number p leads to the tree t
 abbrev pub Leads : List ℕ → List ℕ → ℕ → Tree ℕ → Type 0
 Leads m next p none = p ≡ 0

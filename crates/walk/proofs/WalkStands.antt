@@ -11,8 +11,8 @@ use Rattle.rules.specs.Plain.{keep, countFrom, upTo, branch}
 use Rattle.rules.specs.Cell.{quarter}
 use Rattle.rules.specs.Tree.{Tree, none, leaf, node, nodes, inQuarter, pointsIn, alike, grow, treeIn, treeOf}
 use Rattle.slots.specs.declared.Quadtree.{Quadtree}
-use Rattle.slots.specs.Trees.{EachSlot, inCells, Stands}
-use Rattle.walk.specs.Walk.{seen, EachChain, EachBelow}
+use Rattle.slots.specs.Trees.{EachSlot, inCells, Stands, Below}
+use Rattle.walk.specs.Walk.{seen, EachChain}
 use Rattle.walk.proofs.WalkTurns.{Found, nodes-seen}
 
 pub each-slot-map : (P Q : ℕ → Type 0) → ((s : ℕ) → P s → Q s) → (t : Tree ℕ) → EachSlot P t → EachSlot Q t
@@ -41,41 +41,41 @@ chains-any none = tt
 chains-any (leaf a is) = tt
 chains-any (node a t0 t1 t2 t3) = (chains-any t0, chains-any t1, chains-any t2, chains-any t3)
 
-below-keep : (n : ℕ) (p : ℕ → Bool) (is : List ℕ) → EachBelow n is → EachBelow n (keep p is)
+below-keep : (n : ℕ) (p : ℕ → Bool) (is : List ℕ) → Below n is → Below n (keep p is)
 below-keep n p [] h = tt
 below-keep n p (i ∷ is) h = go (p i) (below-keep n p is (h .1))
   where
-    go : (b : Bool) → EachBelow n (keep p is) → EachBelow n (cond b (i ∷ keep p is) (keep p is))
+    go : (b : Bool) → Below n (keep p is) → Below n (cond b (i ∷ keep p is) (keep p is))
     go true k = (h .0, k)
     go false k = k
 
-below-count : (n i k : ℕ) → i + k ≤ n → EachBelow n (countFrom i k)
+below-count : (n i k : ℕ) → i + k ≤ n → Below n (countFrom i k)
 below-count n i zero h = tt
 below-count n i (suc k) h = (omega arith, below-count n (i + 1) k (omega arith))
 
-below-grow : (at : List Float) (n k : ℕ) (c : Extent) (is : List ℕ) → EachBelow n is → EachChain (EachBelow n) (grow at k c is)
+below-grow : (at : List Float) (n k : ℕ) (c : Extent) (is : List ℕ) → Below n is → EachChain (Below n) (grow at k c is)
 unfolding grow
 below-grow at n zero c is h = tt
 below-grow at n (suc k) c [] h = tt
 below-grow at n (suc k) c (i ∷ is) h =
     go (alike at (i ∷ is)) (λ q. below-grow at n k (quarter q c) (pointsIn at c q (i ∷ is)) (below-keep n (inQuarter at c q) (i ∷ is) h))
   where
-    go : (b : Bool) → ((q : ℕ) → EachChain (EachBelow n) (grow at k (quarter q c) (pointsIn at c q (i ∷ is))))
-        → EachChain (EachBelow n) (branch b (λ _. leaf c (i ∷ is)) (λ _. node c (grow at k (quarter 0 c) (pointsIn at c 0 (i ∷ is))) (grow at k (quarter 1 c) (pointsIn at c 1 (i ∷ is)))
+    go : (b : Bool) → ((q : ℕ) → EachChain (Below n) (grow at k (quarter q c) (pointsIn at c q (i ∷ is))))
+        → EachChain (Below n) (branch b (λ _. leaf c (i ∷ is)) (λ _. node c (grow at k (quarter 0 c) (pointsIn at c 0 (i ∷ is))) (grow at k (quarter 1 c) (pointsIn at c 1 (i ∷ is)))
         (grow at k (quarter 2 c) (pointsIn at c 2 (i ∷ is))) (grow at k (quarter 3 c) (pointsIn at c 3 (i ∷ is)))))
     go true f = h
     go false f = (f 0, f 1, f 2, f 3)
 
 -- the chains of the first n points hold numbers below n
-pub below-tree : (at : List Float) (n : ℕ) → EachChain (EachBelow n) (treeOf at n)
+pub below-tree : (at : List Float) (n : ℕ) → EachChain (Below n) (treeOf at n)
 unfolding treeOf treeIn
 below-tree at n = below-grow at n _ _ (upTo n) (below-count n 0 n (omega arith))
 
 -- ---- the tree that stands in the slots
 
 module _ {at : List Float} {n : ℕ} {m next : List ℕ} {q : Quadtree} (s : Stands at n m next q) where
-  pub chains-below : EachChain (EachBelow n) (s .tree)
-  chains-below = chains-cells (EachBelow n) (q .extent) (s .tree) (subst (EachChain (EachBelow n)) (sym (s .is)) (below-tree at n))
+  pub chains-below : EachChain (Below n) (s .tree)
+  chains-below = chains-cells (Below n) (q .extent) (s .tree) (subst (EachChain (Below n)) (sym (s .is)) (below-tree at n))
 
   -- all its slots are lent
   pub found : (P : List ℕ → Type 0) → EachChain P (s .tree) → Found P m next (q .root) (s .tree)

@@ -1,7 +1,7 @@
 -- How the slots that wait in a walk lie in its arrays, and the tree that is seen from a slot. Definitions only.
 use mathlib.Core.Path.{_≡_}
 use mathlib.Core.List.{List, [], _∷_}
-use Prim.Native.Nat.{ℕ, zero, suc, _+_, _*_, _<_}
+use Prim.Native.Nat.{ℕ, zero, suc, _+_, _*_}
 use lib.ListN.{length, getD, set}
 use lib.Ieee.{Float, nan}
 use Rattle.rules.specs.declared.Extent.{Extent}
@@ -102,11 +102,6 @@ abbrev pub EachChain : {A : Type 0} → (List ℕ → Type 0) → Tree A → Typ
 EachChain P none = Unit {0}
 EachChain P (leaf a is) = P is
 EachChain P (node a t0 t1 t2 t3) = EachChain P t0 × EachChain P t1 × EachChain P t2 × EachChain P t3
-
--- each number of a list is below n
-abbrev pub EachBelow : ℕ → List ℕ → Type 0
-EachBelow n [] = Unit {0}
-EachBelow n (i ∷ is) = (i < n) × EachBelow n is
 
 -- the chain that begins with the particle f
 pub record ChainFrom (next : List ℕ) (P : List ℕ → Type 0) (f : ℕ) : Type 0 where

@@ -7,8 +7,7 @@ use lib.ListN.{length}
 use lib.Ieee.{Float}
 use Rattle.rules.specs.Collide.{leafRadius, nodeRadius}
 use Rattle.slots.specs.declared.Quadtree.{Quadtree}
-use Rattle.slots.specs.Trees.{word, putValue}
-use Rattle.walk.specs.Walk.{EachBelow}
+use Rattle.slots.specs.Trees.{word, putValue, Below}
 use Rattle.walk.specs.WalkAfter.{stepsOf, rooted}
 use Rattle.walk.proofs.WalkStands.{chains-below}
 use Rattle.walk.proofs.WalkValues.{one-value}
@@ -25,7 +24,7 @@ write m s x = putValue m s 0 x
 abbrev Inv-loop : tie.InvT-loop
 Inv-loop radii m₀ left₀ p₀ m left p =
     (q : Quadtree) (s : Standing (length radii) m₀ q) → stepsOf p₀ ≡ rooted (q .root) → left₀ ≡ q .nodes
-    → Filling radiusIn write (leafRadius radii) nodeRadius (EachBelow (length radii)) (s .next) (s .stands .tree) m₀ m p left
+    → Filling radiusIn write (leafRadius radii) nodeRadius (Below (length radii)) (s .next) (s .stands .tree) m₀ m p left
 
 abbrev μ-loop : tie.MeasureT-loop
 μ-loop radii m₀ left₀ p₀ m left p = left
@@ -33,8 +32,8 @@ abbrev μ-loop : tie.MeasureT-loop
 loop-holds : tie.Need-loop-holds Inv-loop μ-loop
 loop-holds c = λ q s e k.
     let a = c .before .before .before .args in
-    subst⁻¹ (λ (n : ℕ). Filling radiusIn write (leafRadius (a .radii .now)) nodeRadius (EachBelow (length (a .radii .now))) (s .next) (s .stands .tree) (a .m .now) (a .m .now) (c .begin .result) n) k
-    (start radiusIn write (leafRadius (a .radii .now)) nodeRadius (EachBelow (length (a .radii .now))) (s .stands) (chains-below (s .stands)) (c .begin .result) e (c .begin .ensures .1))
+    subst⁻¹ (λ (n : ℕ). Filling radiusIn write (leafRadius (a .radii .now)) nodeRadius (Below (length (a .radii .now))) (s .next) (s .stands .tree) (a .m .now) (a .m .now) (c .begin .result) n) k
+    (start radiusIn write (leafRadius (a .radii .now)) nodeRadius (Below (length (a .radii .now))) (s .stands) (chains-below (s .stands)) (c .begin .result) e (c .begin .ensures .1))
 
 next-requires : tie.Need-next-requires Inv-loop μ-loop
 next-requires c κs =
@@ -47,7 +46,7 @@ turn : (c : tie.After-next Inv-loop μ-loop)
     → let l = c .before .before .before .before in
     let a = l .before .before .before .before .args in
     (q : Quadtree) (s : Standing (length (a .radii .now)) (a .m .now) q) → stepsOf (l .before .begin .result) ≡ rooted (q .root) → a .q .nodes ≡ q .nodes
-    → Taken radiusIn write (leafRadius (a .radii .now)) nodeRadius (EachBelow (length (a .radii .now))) (s .next) (s .stands .tree) (a .m .now) (l .loop .m) (l .loop .p) (l .loop .left) (c .next .last .0) (c .next .result)
+    → Taken radiusIn write (leafRadius (a .radii .now)) nodeRadius (Below (length (a .radii .now))) (s .next) (s .stands .tree) (a .m .now) (l .loop .m) (l .loop .p) (l .loop .left) (c .next .last .0) (c .next .result)
 turn c q s e k = record { filling = c .before .before .before .before .loop .inv q s e k; more = c .before .before .before .loop-test .taken; went = c .next .ensures }
 
 -- over the tree that was handed in
@@ -55,7 +54,7 @@ mine : (c : tie.After-next Inv-loop μ-loop)
     → let l = c .before .before .before .before in
     let f = l .before .before .before .before in
     let a = f .args in
-    Taken radiusIn write (leafRadius (a .radii .now)) nodeRadius (EachBelow (length (a .radii .now))) (f .pre .next) (f .pre .stands .tree) (a .m .now) (l .loop .m) (l .loop .p) (l .loop .left) (c .next .last .0) (c .next .result)
+    Taken radiusIn write (leafRadius (a .radii .now)) nodeRadius (Below (length (a .radii .now))) (f .pre .next) (f .pre .stands .tree) (a .m .now) (l .loop .m) (l .loop .p) (l .loop .left) (c .next .last .0) (c .next .result)
 mine c =
     let l = c .before .before .before .before in
     let f = l .before .before .before .before in
@@ -105,9 +104,9 @@ returns c = λ s.
     let z : l .left ≡ 0 = omega arith in
     record {
       next = s .next;
-      valued = finish-read one-value (leafRadius (a .radii .now)) nodeRadius (EachBelow (length (a .radii .now)))
+      valued = finish-read one-value (leafRadius (a .radii .now)) nodeRadius (Below (length (a .radii .now)))
           (λ is p. leaf-fits (a .radii .now) (λ j. c .before .before .before .before .shared-slice-known .given j) is) node-fits (s .stands) (chains-below (s .stands)) (l .p)
-          (subst (λ (n : ℕ). Filling radiusIn write (leafRadius (a .radii .now)) nodeRadius (EachBelow (length (a .radii .now))) (s .next) (s .stands .tree) (a .m .now) (l .m) (l .p) n) z
+          (subst (λ (n : ℕ). Filling radiusIn write (leafRadius (a .radii .now)) nodeRadius (Below (length (a .radii .now))) (s .next) (s .stands .tree) (a .m .now) (l .m) (l .p) n) z
           (l .inv (a .q) s (c .before .before .begin .ensures .0) refl));
     }
 
