@@ -3,7 +3,7 @@ ghost use mathlib.Core.Path.{_≡_};
 ghost use Prim.Native.Nat.{_+_, _≤_, min};
 ghost use lib.ListN.{length};
 use number::bits_of;
-use sheet::put_word;
+use words::put_word;
 
 // The room for a sheet: 512 records.
 const ROOM: usize = 20480;

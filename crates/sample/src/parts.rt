@@ -1,6 +1,6 @@
 // How a case is read. A case is its kind's number, then parts, each a length word and that many bytes. Every reader answers for any bytes: what is missing
 // is 0, or empty.
-use sheet::word_at;
+use words::word_at;
 ghost use Prim.Native.Nat.{_≤_};
 ghost use lib.ListN.{length};
 

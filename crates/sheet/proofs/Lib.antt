@@ -1,5 +1,4 @@
 pub mod Lists
-pub mod Bytes
 pub mod Checked
 pub mod Sheets
 pub mod Columns

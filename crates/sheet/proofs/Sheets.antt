@@ -14,7 +14,7 @@ use Rattle.rules.specs.Outcome.{fine, checkFrom}
 use Rattle.rules.specs.Number.{floatOf, bitsOf}
 use Rattle.rules.specs.Sheet.{wordOf, bytesOf, wordAt, floatAt, floatBytes, particle, recordAt, recordsFrom, countOf, particlesOf, recordBytes, sheetOf, recordCheck, recordsCheck}
 use Rattle.sheet.proofs.Lists.{length-zero}
-use Rattle.sheet.proofs.Bytes.{Bytes, bytes-drop, word-of-bytes, word-kept, word-fits}
+use Rattle.words.proofs.Bytes.{Bytes, bytes-drop, word-of-bytes, word-kept, word-fits}
 use Rattle.sheet.proofs.Checked.{Sound, within-number, finite-number, checks-split}
 
 -- ---- particles that a record holds

@@ -1,8 +1,7 @@
-// A sheet's bytes: words, 40-byte records, what is wrong with them, and pairs of numbers in and out.
+// A sheet's bytes: 40-byte records, what is wrong with them, and pairs of numbers in and out.
 mod check;
 mod pairs;
 mod records;
-mod words;
 
 pub use check::coordinate_check;
 pub use check::record_check;
@@ -13,5 +12,3 @@ pub use pairs::read_pairs;
 pub use pairs::write_pairs;
 pub use records::read_flags;
 pub use records::record_at;
-pub use words::put_word;
-pub use words::word_at;

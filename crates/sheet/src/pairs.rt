@@ -1,8 +1,8 @@
 // Pairs of numbers in bytes, the first at an offset and the next each a stride further on: the places (40, 0) and speeds (40, 16) of records, and a velocity buffer (16, start).
-use crate::words::put_word;
-use crate::words::word_at;
 use number::bits_of;
 use number::float_of;
+use words::put_word;
+use words::word_at;
 ghost use mathlib.Core.Path.{_≡_};
 ghost use mathlib.Core.List.{_++_};
 ghost use Prim.Native.Nat.{_+_, _/_, _≤_};

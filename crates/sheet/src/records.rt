@@ -1,7 +1,7 @@
 // Records of 40 bytes: x, y, vx, vy and flags, read from any bytes.
-use crate::words::word_at;
 use number::float_of;
 use rules::Particle;
+use words::word_at;
 ghost use mathlib.Core.Path.{_≡_};
 ghost use Prim.Native.Nat.{_+_, _≤_};
 ghost use lib.ListN.{length};

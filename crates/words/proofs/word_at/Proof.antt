@@ -1,7 +1,7 @@
 use borrow.Author.Needs.{needs}
-use Rattle.sheet.proofs.Bytes.{word-sum}
-use Rattle.sheet.proofs.words.word_at.Statement.{statement}
-use Rattle.sheet.proofs.words.word_at.Tie as tie
+use Rattle.words.proofs.Bytes.{word-sum}
+use Rattle.words.proofs.word_at.Statement.{statement}
+use Rattle.words.proofs.word_at.Tie as tie
 
 returns : tie.Need-returns
 returns c =

@@ -1,9 +1,9 @@
 use borrow.Author.Needs.{needs}
 use native.Mathlib.Omega.{arith}
 use lib.ListN.{length-set}
-use Rattle.sheet.proofs.Bytes.{stores}
-use Rattle.sheet.proofs.words.put_word.Statement.{statement}
-use Rattle.sheet.proofs.words.put_word.Tie as tie
+use Rattle.words.proofs.Bytes.{stores}
+use Rattle.words.proofs.put_word.Statement.{statement}
+use Rattle.words.proofs.put_word.Tie as tie
 
 returns : tie.Need-returns
 returns c = stores _ _ _ _ _ _ _ _ _ _ (c .pre)
