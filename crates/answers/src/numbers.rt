@@ -14,6 +14,6 @@ pub fn floor_is_right(case: &[u8]) -> bool {
 }
 
 pub fn root_is_right(case: &[u8]) -> bool {
-    let answer = [number::root_bits(argument(case, 0))];
+    let answer = [square_root::root_bits(argument(case, 0))];
     same_words(case, 1, &answer)
 }

@@ -2,10 +2,6 @@
 pub mod Order
 pub mod Integers
 pub mod Flooring
-pub mod NoTie
+pub mod Tests
 -- for the proofs here
-mod Tests
 mod Cut
-mod Powers
-mod Rounding
-mod Patterns

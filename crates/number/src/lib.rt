@@ -1,10 +1,7 @@
-// Numbers after document 01: floor, root, bits, ranges and small helpers. Each function answers
-// what the definition of `rules` with its name says.
+// Numbers after document 01: floor, bits, ranges and small helpers. Each function answers what the definition of `rules` with its name says.
 mod bits;
-mod digits;
 mod plain;
 mod range;
-mod roots;
 mod whole;
 
 pub use bits::bits_of;
@@ -16,7 +13,5 @@ pub use range::distance_range;
 pub use range::draw_range;
 pub use range::is_finite;
 pub use range::within;
-pub use roots::root;
-pub use roots::root_bits;
 pub use whole::floor;
 pub use whole::try_floor;

@@ -35,7 +35,7 @@ pub extern "C" fn talemiku_floor(x: f64) -> FloorAnswer
 pub extern "C" fn talemiku_root(bits: u64) -> u64
     ensures { λ r. ⌜ r ≡ rootBits bits ⌝ }
 {
-    number::root_bits(bits)
+    square_root::root_bits(bits)
 }
 
 // The tree of a sheet: four numbers a node into `rows`, the numbers of the chains into `chains`.

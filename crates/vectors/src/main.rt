@@ -11,7 +11,7 @@ fn right_roots(values: &[u64], roots: &[u64]) -> u64
     let mut right: u64 = 0;
     let mut i: usize = 0;
     while i < values.len() {
-        if number::root_bits(values[i]) == roots[i] {
+        if square_root::root_bits(values[i]) == roots[i] {
             right += 1;
         }
         i += 1;

@@ -5,9 +5,9 @@ use lib.Dec.{T}
 use lib.Ieee.{binary64, fits}
 use Rattle.rules.specs.Number.{bitsOf}
 use Rattle.rules.specs.Root.{infinity}
-use Rattle.number.proofs.Patterns.{Kind, kind, some, root-negative, root-zero, root-large, root-finite}
-use Rattle.number.proofs.roots.root.Statement.{statement}
-use Rattle.number.proofs.roots.root.Tie as tie
+use Rattle.square_root.proofs.Patterns.{Kind, kind, some, root-negative, root-zero, root-large, root-finite}
+use Rattle.square_root.proofs.roots.root.Statement.{statement}
+use Rattle.square_root.proofs.roots.root.Tie as tie
 
 held : (c : tie.Start) → T (fits binary64 (c .args .x))
 held c = subst T (sym (c .good .0 .1)) tt

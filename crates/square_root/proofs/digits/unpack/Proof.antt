@@ -1,9 +1,9 @@
 use borrow.Author.Needs.{needs}
 use lib.Count.{leadingZeros}
 use native.Mathlib.Omega.{arith}
-use Rattle.number.proofs.Powers.{Small, small, normal}
-use Rattle.number.proofs.digits.unpack.Statement.{statement}
-use Rattle.number.proofs.digits.unpack.Tie as tie
+use Rattle.square_root.proofs.Powers.{Small, small, normal}
+use Rattle.square_root.proofs.digits.unpack.Statement.{statement}
+use Rattle.square_root.proofs.digits.unpack.Tie as tie
 
 below : (c : tie.Then1) → Small (c .before .args .b) (leadingZeros 64 (c .before .args .b))
 below c = small (c .before .args .b) (c .before .pre .0) (c .if1 .taken)

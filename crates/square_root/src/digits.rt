@@ -2,7 +2,7 @@
 // says nothing of that way.
 ghost use Prim.Native.Nat.{_^_, _<_, _≤_};
 ghost use Rattle.rules.specs.Root.{infinity, Nearest};
-ghost use Rattle.number.specs.Steps.{Unpacked, Radicand, Ready, Stepped, Rooted};
+ghost use Rattle.square_root.specs.Steps.{Unpacked, Radicand, Ready, Stepped, Rooted};
 
 // 2^52: the leading one of 53 digits
 const LEAD: u64 = 4503599627370496;

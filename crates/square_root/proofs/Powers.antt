@@ -9,7 +9,7 @@ use lib.Pow.{pow-add, pow-pos, pow-mono, shl-exact, shl-lt}
 use Rattle.rules.specs.Root.{infinity}
 use Rattle.rules.proofs.Units.{units-small, units-large}
 use Rattle.rules.proofs.Nearest.{square-le}
-use Rattle.number.specs.Steps.{Unpacked, Radicand, Ready, Stepped, Rooted, whole}
+use Rattle.square_root.specs.Steps.{Unpacked, Radicand, Ready, Stepped, Rooted, whole}
 
 -- ---- the radicand
 

@@ -1,8 +1,8 @@
 use Prim.Native.Nat.{_-_}
 use native.Mathlib.Omega.{arith}
-use Rattle.number.proofs.Powers.{Inv, inv-start, inv-q, inv-step, inv-end}
-use Rattle.number.proofs.digits.integer_root.Statement.{statement}
-use Rattle.number.proofs.digits.integer_root.Tie as tie
+use Rattle.square_root.proofs.Powers.{Inv, inv-start, inv-q, inv-step, inv-end}
+use Rattle.square_root.proofs.digits.integer_root.Statement.{statement}
+use Rattle.square_root.proofs.digits.integer_root.Tie as tie
 
 abbrev Inv-loop : tie.InvT-loop
 Inv-loop a s₀ i₀ s i = Inv a (s .q) (s .rem) (s .rest) i

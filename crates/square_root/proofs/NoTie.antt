@@ -11,9 +11,9 @@ use lib.Ieee.Fits.{eq→eqb}
 use Rattle.rules.specs.Root.{infinity, units, fourfold, squared, Nearest}
 use Rattle.rules.proofs.Nearest.{Nearer, nearest, square-le}
 use Rattle.rules.proofs.Nearest as Near
-use Rattle.number.specs.Steps.{Unpacked, Radicand, Rooted}
-use Rattle.number.proofs.Powers.{small, normal, radicand-even, radicand-odd, at-least}
-use Rattle.number.proofs.Rounding.{down, up}
+use Rattle.square_root.specs.Steps.{Unpacked, Radicand, Rooted}
+use Rattle.square_root.proofs.Powers.{small, normal, radicand-even, radicand-odd, at-least}
+use Rattle.square_root.proofs.Rounding.{down, up}
 
 -- ---- every number has a whole root and a remainder
 

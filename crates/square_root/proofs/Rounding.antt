@@ -7,7 +7,7 @@ use lib.Pow.{pow-pos}
 use Rattle.rules.specs.Root.{infinity, units, fourfold}
 use Rattle.rules.proofs.Units.{units-at, units-lt, units-le}
 use Rattle.rules.proofs.Nearest.{Nearer, square-le, square-lt}
-use Rattle.number.specs.Steps.{Unpacked, Radicand, Rooted}
+use Rattle.square_root.specs.Steps.{Unpacked, Radicand, Rooted}
 
 -- ---- with p for 2 ^ h
 

@@ -2,9 +2,9 @@
 ghost use mathlib.Core.Path.{_≡_};
 ghost use Prim.Native.Nat.{_<_};
 ghost use Rattle.rules.specs.Root as Root;
-use crate::bits::bits_of;
-use crate::bits::float_of;
 use crate::digits::nearest;
+use number::bits_of;
+use number::float_of;
 
 // There is one nearest pattern only, so it is the one of the rules.
 fn root_pattern(b: u64) -> u64

@@ -1,8 +1,8 @@
 use borrow.Author.Needs.{needs}
 use Rattle.rules.proofs.Nearest as Near
-use Rattle.number.proofs.Rounding.{down, up}
-use Rattle.number.proofs.digits.nearest.Statement.{statement}
-use Rattle.number.proofs.digits.nearest.Tie as tie
+use Rattle.square_root.proofs.Rounding.{down, up}
+use Rattle.square_root.proofs.digits.nearest.Statement.{statement}
+use Rattle.square_root.proofs.digits.nearest.Tie as tie
 
 returns : tie.Need-returns
 returns c =

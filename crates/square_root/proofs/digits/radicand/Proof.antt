@@ -1,7 +1,7 @@
 use borrow.Author.Needs.{needs}
-use Rattle.number.proofs.Powers.{radicand-even, radicand-odd}
-use Rattle.number.proofs.digits.radicand.Statement.{statement}
-use Rattle.number.proofs.digits.radicand.Tie as tie
+use Rattle.square_root.proofs.Powers.{radicand-even, radicand-odd}
+use Rattle.square_root.proofs.digits.radicand.Statement.{statement}
+use Rattle.square_root.proofs.digits.radicand.Tie as tie
 
 pub radicand-spec : {M : Type 1} → statement M
 radicand-spec =

@@ -1,7 +1,7 @@
 use borrow.Author.Needs.{needs}
 use Rattle.rules.specs.Root.{rootBits}
-use Rattle.number.proofs.roots.root_bits.Statement.{statement}
-use Rattle.number.proofs.roots.root_bits.Tie as tie
+use Rattle.square_root.proofs.roots.root_bits.Statement.{statement}
+use Rattle.square_root.proofs.roots.root_bits.Tie as tie
 
 pub root-bits-spec : {M : Type 1} → statement M
 unfolding rootBits

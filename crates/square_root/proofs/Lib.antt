@@ -1,0 +1,4 @@
+pub mod NoTie
+mod Powers
+mod Rounding
+mod Patterns
