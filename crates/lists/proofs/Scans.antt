@@ -1,12 +1,13 @@
 -- Checks: what an answered refusal says of a check, and scans for the first that refuses.
 use mathlib.Core.Path.{_≡_, refl, sym, ap, _∙_}
-use mathlib.Core.Bool.{Bool, true, false, not}
+use mathlib.Core.Bool.{Bool, true, false, _&&_, not}
 use mathlib.Core.List.{List, [], _∷_}
 use Prim.Native.Nat.{ℕ, suc, _+_, _-_, _*_, _/_, _≤_, _<_}
 use native.Mathlib.Nat.{sub-zero}
 use native.Mathlib.Numerals.{add-one}
 use native.Mathlib.Omega.{arith}
 use borrow.Author.Tests.{not-true, not-false, ne-eqb}
+use lib.Dec.{eqb}
 use lib.ListN.{length, getD, drop}
 use lib.Seq.{drop-cons}
 use lib.Ieee.{Float}
@@ -17,7 +18,9 @@ use Rattle.rules.specs.Link.{Ends}
 use Rattle.rules.specs.Force.{endsFrom, endsOf}
 use Rattle.rules.specs.Number.{xAt, yAt, placeRange, speedRange}
 use Rattle.rules.specs.Refusal.{coordinateCheck, velocityCheck}
-use Rattle.lists.specs.Checks.{endsAt, firstOf, coordinatesCheck, velocitiesCheck}
+use Rattle.lists.specs.declared.Pair.{Pair}
+use Rattle.lists.specs.declared.Pair.the-variants.{Place, Velocity}
+use Rattle.lists.specs.Checks.{pairCheck, endsAt, firstOf, coordinatesCheck, velocitiesCheck}
 use Rattle.sheet.proofs.PairLists.{pair-off}
 
 -- ---- one check and the refusal that was answered for it
@@ -125,14 +128,21 @@ ends-none links k h = rw e
 
 -- ---- a test of every element
 
-module _ {A : Type 0} (ok : A → Bool) (l : List A) (i : ℕ) (d : A) (b : Bool) (is : b ≡ ok (getD l i d)) where
-  pub all-stop : i < length l → not b ≡ true → false ≡ all ok (drop i l)
-  all-stop h n = rw (list-left l i d h, ← is, not-true b n)
-
-  pub all-on : i < length l → not b ≡ false → all ok (drop i l) ≡ all ok (drop (i + 1) l)
-  all-on h n = rw (list-left l i d h, ← is, not-false b n)
+-- it holds where nothing is refused
+pub all-unrefused : {A : Type 0} (ok : A → Bool) (i : ℕ) (l : List A) → eqb (refusalOf (checkFrom (λ i a. require (ok a) 5 i) i l) .number) 0 ≡ all ok l
+all-unrefused ok i [] = refl
+all-unrefused ok i (a ∷ l) = go (ok a) (all-unrefused ok (i + 1) l)
+  where
+    go : (b : Bool) → eqb (refusalOf (checkFrom (λ i a. require (ok a) 5 i) (i + 1) l) .number) 0 ≡ all ok l
+        → eqb (refusalOf (require b 5 i >>= λ _. checkFrom (λ i a. require (ok a) 5 i) (i + 1) l) .number) 0 ≡ b && all ok l
+    go true h = h
+    go false h = refl
 
 -- ---- the checks of pairs and of lists have numbers
+
+pub real-pair : (pair : Pair) (i : ℕ) (x y : Float) → Real (pairCheck pair i x y)
+real-pair Place i x y = real-require (placeRange x y) 4 i (omega arith)
+real-pair Velocity i x y = real-require (speedRange x y) 5 i (omega arith)
 
 pub real-coordinates : (n : ℕ) (places : List Float) → Real (coordinatesCheck n places)
 real-coordinates n places =

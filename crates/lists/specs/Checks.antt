@@ -1,5 +1,5 @@
--- The checks of pairs by columns, the ends of a link, and which of two refusals is answered. Definitions only.
-use mathlib.Core.Bool.{cond}
+-- The ranges of numbers, the checks of pairs by columns, the ends of a link, and which of two refusals is answered. Definitions only.
+use mathlib.Core.Bool.{Bool, cond}
 use mathlib.Core.List.{List}
 use Prim.Native.Nat.{ℕ, _+_, _*_}
 use lib.Dec.{eqb}
@@ -8,17 +8,37 @@ use lib.Ieee.{Float}
 use Rattle.rules.specs.declared.Refusal.{Refusal}
 use Rattle.rules.specs.Plain.{upTo}
 use Rattle.rules.specs.Outcome.{Check, checkEach}
-use Rattle.rules.specs.Number.{xAt, yAt}
+use Rattle.rules.specs.Number.{xAt, yAt, within, finite, distanceRange, drawRange}
 use Rattle.rules.specs.Link.{Ends, ends}
 use Rattle.rules.specs.Refusal.{coordinateCheck, velocityCheck}
+use Rattle.lists.specs.declared.Range.{Range}
+use Rattle.lists.specs.declared.Range.the-variants.{Within, Distance, Draw, Finite}
+use Rattle.lists.specs.declared.Pair.{Pair}
+use Rattle.lists.specs.declared.Pair.the-variants.{Place, Velocity}
+
+-- what a number of a list is to be
+abbrev pub inRange : Range → Float → Bool
+inRange Within x = within x
+inRange Distance x = distanceRange x
+inRange Draw x = drawRange x
+inRange Finite x = finite x
+
+-- particle i's place, or its velocity
+abbrev pub pairCheck : Pair → ℕ → Float → Float → Check
+pairCheck Place i x y = coordinateCheck i x y
+pairCheck Velocity i x y = velocityCheck i x y
+
+-- the check of each of n pairs
+abbrev pub pairsCheck : (ℕ → Float → Float → Check) → ℕ → List Float → Check
+pairsCheck check n pairs = checkEach (λ i _. check i (xAt pairs i) (yAt pairs i)) (upTo n)
 
 -- 4, of n places
 abbrev pub coordinatesCheck : ℕ → List Float → Check
-coordinatesCheck n places = checkEach (λ i _. coordinateCheck i (xAt places i) (yAt places i)) (upTo n)
+coordinatesCheck n places = pairsCheck coordinateCheck n places
 
 -- 5, of n velocities
 abbrev pub velocitiesCheck : ℕ → List Float → Check
-velocitiesCheck n speeds = checkEach (λ i _. velocityCheck i (xAt speeds i) (yAt speeds i)) (upTo n)
+velocitiesCheck n speeds = pairsCheck velocityCheck n speeds
 
 -- the ends of link number k
 abbrev pub endsAt : List ℕ → ℕ → Ends

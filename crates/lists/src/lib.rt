@@ -13,20 +13,37 @@ ghost use Prim.Native.Nat.{_/_};
 ghost use lib.ListN.{length};
 ghost use Rattle.rules.specs.Plain.{all};
 ghost use Rattle.rules.specs.Outcome.{refusalOf, requireAll, _then_};
-ghost use Rattle.rules.specs.Number as Number;
 ghost use Rattle.rules.specs.Refusal.{strengthsCheck, distancesCheck, drawsCheck, settingsCheck, resultCheck, countCheck, lengthsCheck};
 ghost use Rattle.rules.specs.Link.{ends};
 ghost use Rattle.rules.specs.Force.{endsOf, endsRange};
-ghost use Rattle.lists.specs.Checks.{firstOf};
-ghost use Rattle.lists.specs.Checks.{coordinatesCheck, velocitiesCheck};
+ghost use Rattle.lists.specs.Checks.{inRange, pairCheck, pairsCheck, coordinatesCheck, velocitiesCheck, firstOf};
 
-// The place is the index of the first strength out of range.
-pub fn strengths_check(l: &[f64]) -> Refusal
-    ensures { λ r. ⌜ r ≡ refusalOf (strengthsCheck (now (l .entry))) ⌝ }
+// What a number of a list is to be.
+enum Range {
+    Within,
+    Distance,
+    Draw,
+    Finite,
+}
+
+fn in_range(range: Range, x: f64) -> bool
+    ensures { λ r. ⌜ r ≡ inRange range x ⌝ }
+{
+    match range {
+        Range::Within => within(x),
+        Range::Distance => distance_range(x),
+        Range::Draw => draw_range(x),
+        Range::Finite => is_finite(x),
+    }
+}
+
+// The place is the index of the first number out of range.
+fn range_check(range: Range, l: &[f64]) -> Refusal
+    ensures { λ r. ⌜ r ≡ refusalOf (requireAll (inRange range) 5 (now (l .entry))) ⌝ }
 {
     let mut i: usize = 0;
     while i < l.len() {
-        if !within(l[i]) {
+        if !in_range(range, l[i]) {
             return Refusal {
                 number: 5,
                 place: i as u64,
@@ -40,44 +57,24 @@ pub fn strengths_check(l: &[f64]) -> Refusal
     }
 }
 
-// The same for distances and radii.
+pub fn strengths_check(l: &[f64]) -> Refusal
+    ensures { λ r. ⌜ r ≡ refusalOf (strengthsCheck (now (l .entry))) ⌝ }
+{
+    range_check(Range::Within, l)
+}
+
+// Radii too.
 pub fn distances_check(l: &[f64]) -> Refusal
     ensures { λ r. ⌜ r ≡ refusalOf (distancesCheck (now (l .entry))) ⌝ }
 {
-    let mut i: usize = 0;
-    while i < l.len() {
-        if !distance_range(l[i]) {
-            return Refusal {
-                number: 5,
-                place: i as u64,
-            };
-        }
-        i = i + 1;
-    }
-    Refusal {
-        number: 0,
-        place: 0,
-    }
+    range_check(Range::Distance, l)
 }
 
 // Every draw, used or not.
 pub fn draws_check(l: &[f64]) -> Refusal
     ensures { λ r. ⌜ r ≡ refusalOf (drawsCheck (now (l .entry))) ⌝ }
 {
-    let mut i: usize = 0;
-    while i < l.len() {
-        if !draw_range(l[i]) {
-            return Refusal {
-                number: 5,
-                place: i as u64,
-            };
-        }
-        i = i + 1;
-    }
-    Refusal {
-        number: 0,
-        place: 0,
-    }
+    range_check(Range::Draw, l)
 }
 
 pub fn setting_check(x: f64) -> Refusal
@@ -124,36 +121,30 @@ pub fn ends_check(links: &[u32], n: usize) -> Refusal
     }
 }
 
-// 4: the place is the first particle with a bad coordinate.
-fn coordinates_check(places: &[f64]) -> Refusal
-    ensures { λ r. ⌜ r ≡ refusalOf (coordinatesCheck (length (now (places .entry)) / 2) (now (places .entry))) ⌝ }
+// What pairs of numbers are of particles.
+enum Pair {
+    Place,
+    Velocity,
+}
+
+fn pair_check(pair: Pair, i: u64, x: f64, y: f64) -> Refusal
+    ensures { λ r. ⌜ r ≡ refusalOf (pairCheck pair i x y) ⌝ }
 {
-    let n = places.len() / 2;
-    let mut i: usize = 0;
-    while i < n {
-        let j = i * 2;
-        let r = coordinate_check(i as u64, places[j], places[j + 1]);
-        let number = r.number;
-        if number != 0 {
-            return r;
-        }
-        i = i + 1;
-    }
-    Refusal {
-        number: 0,
-        place: 0,
+    match pair {
+        Pair::Place => coordinate_check(i, x, y),
+        Pair::Velocity => velocity_check(i, x, y),
     }
 }
 
-// 5: the place is the first particle with a bad velocity.
-fn velocities_check(speeds: &[f64]) -> Refusal
-    ensures { λ r. ⌜ r ≡ refusalOf (velocitiesCheck (length (now (speeds .entry)) / 2) (now (speeds .entry))) ⌝ }
+// The place is the first particle with a pair that is refused.
+fn pairs_check(pair: Pair, l: &[f64]) -> Refusal
+    ensures { λ r. ⌜ r ≡ refusalOf (pairsCheck (pairCheck pair) (length (now (l .entry)) / 2) (now (l .entry))) ⌝ }
 {
-    let n = speeds.len() / 2;
+    let n = l.len() / 2;
     let mut i: usize = 0;
     while i < n {
         let j = i * 2;
-        let r = velocity_check(i as u64, speeds[j], speeds[j + 1]);
+        let r = pair_check(pair, i as u64, l[j], l[j + 1]);
         let number = r.number;
         if number != 0 {
             return r;
@@ -170,42 +161,24 @@ fn velocities_check(speeds: &[f64]) -> Refusal
 pub fn points_check(places: &[f64], speeds: &[f64]) -> Refusal
     ensures { λ r. ⌜ r ≡ refusalOf (coordinatesCheck (length (now (places .entry)) / 2) (now (places .entry)) then velocitiesCheck (length (now (speeds .entry)) / 2) (now (speeds .entry))) ⌝ }
 {
-    let places = coordinates_check(places);
-    let speeds = velocities_check(speeds);
+    let places = pairs_check(Pair::Place, places);
+    let speeds = pairs_check(Pair::Velocity, speeds);
     first(places, speeds)
 }
 
-fn all_within(l: &[f64]) -> bool
-    ensures { λ r. ⌜ r ≡ all Number.within (now (l .entry)) ⌝ }
+fn all_in_range(range: Range, l: &[f64]) -> bool
+    ensures { λ r. ⌜ r ≡ all (inRange range) (now (l .entry)) ⌝ }
 {
-    let mut i: usize = 0;
-    while i < l.len() {
-        if !within(l[i]) {
-            return false;
-        }
-        i = i + 1;
-    }
-    true
-}
-
-fn all_finite(l: &[f64]) -> bool
-    ensures { λ r. ⌜ r ≡ all Number.finite (now (l .entry)) ⌝ }
-{
-    let mut i: usize = 0;
-    while i < l.len() {
-        if !is_finite(l[i]) {
-            return false;
-        }
-        i = i + 1;
-    }
-    true
+    let r = range_check(range, l);
+    let number = r.number;
+    number == 0
 }
 
 // 9: of what a stage leaves.
 pub fn result_check(places: &[f64], speeds: &[f64]) -> Refusal
     ensures { λ r. ⌜ r ≡ refusalOf (resultCheck (now (places .entry)) (now (speeds .entry))) ⌝ }
 {
-    if all_within(places) && all_finite(speeds) {
+    if all_in_range(Range::Within, places) && all_in_range(Range::Finite, speeds) {
         return Refusal {
             number: 0,
             place: 0,

@@ -12,7 +12,7 @@ returns c =
     let a = c .before .before .before .before .before .args in
     let n = length (a .places .now) / 2 in
     c .first .ensures
-    ∙ rw (c .before .velocities-check .ensures, c .before .before .coordinates-check .ensures)
+    ∙ rw (c .before .pairs-check2 .ensures, c .before .before .pairs-check .ensures)
     (first-then (coordinatesCheck n (a .places .now)) (velocitiesCheck (length (a .speeds .now) / 2) (a .speeds .now)) (real-coordinates n (a .places .now)))
 
 pub points-check-spec : {M : Type 1} → statement M

@@ -6,12 +6,12 @@ use Rattle.lists.proofs.result_check.Tie as tie
 
 returns : tie.Need-returns
 unfolding resultCheck
-returns c = rw (← c .before .before .before .all-within .ensures, c .before .before .if1 .taken, ← c .before .all-finite .ensures, c .if2 .taken)
+returns c = rw (← c .before .before .before .all-in-range .ensures, c .before .before .if1 .taken, ← c .before .all-in-range2 .ensures, c .if2 .taken)
 
 returns-2 : tie.Need-returns-2
 unfolding resultCheck
 returns-2 c =
-    ⊎-elim (λ w. rw (← c .before .all-within .ensures, w .0 .taken, ← w .1 .ensures, w .2 .left)) (λ w. rw (← c .before .all-within .ensures, w .left)) (c .if1 .came)
+    ⊎-elim (λ w. rw (← c .before .all-in-range .ensures, w .0 .taken, ← w .1 .ensures, w .2 .left)) (λ w. rw (← c .before .all-in-range .ensures, w .left)) (c .if1 .came)
 
 pub result-check-spec : {M : Type 1} → statement M
 result-check-spec = tie.close (tie.spec (λ c κs. search needs) (λ c κs. search needs) returns returns-2)
