@@ -15,7 +15,9 @@ use Rattle.rules.specs.Link.{Ends}
 use Rattle.rules.specs.Force.{endsFrom, endsOf, endsRange}
 use Rattle.rules.specs.Tick.{entryAt, entriesOf, numbersNeeded, linksNeeded, forceOf, forcesFrom, forceEnds, forceRanges}
 use Rattle.sheet.proofs.Checked.{then-stays}
-use Rattle.lists.proofs.Scans.{Real, passes}
+use Rattle.rules.proofs.RefusalLaws.{Refuses}
+use Rattle.rules.proofs.RefusalNumbers.{Early}
+use Rattle.lists.proofs.Scans.{passes}
 use Rattle.checks.specs.Parts.{eachPart, ownEnds, ownRanges, endsEach, rangesEach}
 use Rattle.checks.proofs.Entries.{entriesLeft, entries-left, entries-none, Summed, summed-start, summed-fits, summed-on, bind-then}
 
@@ -57,14 +59,14 @@ module _ {A : Type 0} (need : ForceEntry → ℕ) (check : ForceEntry → List A
             then-stays r (check e (take m (drop at l))) (eachPart need check (entriesLeft w (i + 1)) (drop (at + m) l)) ir n
             ∙ ap (λ (c : Check). refusalOf c) (sym (g .same ∙ turn))
 
-        pub walk-on : Real (check e (take m (drop at l))) → r .number ≡ 0 → Walked (at + m) (i + 1)
-        walk-on real z =
+        pub walk-on : Refuses Early (check e (take m (drop at l))) → r .number ≡ 0 → Walked (at + m) (i + 1)
+        walk-on early z =
             record {
               summed = rw (im, is) (summed-on need w at i (g .summed) h);
               same =
                   g .same
                   ∙ turn
-                  ∙ ap (λ (c : Check). c then eachPart need check (entriesLeft w (i + 1)) (drop (at + m) l)) (passes (check e (take m (drop at l))) real (sym (ap (λ (r : Refusal). r .number) ir) ∙ z));
+                  ∙ ap (λ (c : Check). c then eachPart need check (entriesLeft w (i + 1)) (drop (at + m) l)) (passes (check e (take m (drop at l))) early (sym (ap (λ (r : Refusal). r .number) ir) ∙ z));
             }
 
 -- ---- a slot's force is checked on the slot's own part

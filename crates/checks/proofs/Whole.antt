@@ -1,32 +1,27 @@
 -- The check of a whole input: what it lets pass, what it refuses by, and how the code answers it half by half.
-use mathlib.Core.Path.{_≡_, refl, sym, ap, ap₂, subst, subst⁻¹, _∙_}
+use mathlib.Core.Path.{_≡_, refl, sym, ap, ap₂, _∙_}
 use mathlib.Core.Bool.{Bool, true, false, _&&_, not}
-use mathlib.Core.List.{List, [], _∷_, map}
-use mathlib.Core.Logic.{_⊎_, inl, ⊎-elim}
-use Prim.Native.Nat.{ℕ, _*_, _%_, _≤_}
+use mathlib.Core.List.{List, [], map}
+use Prim.Native.Nat.{ℕ, _*_, _≤_}
 use native.Mathlib.Nat.{le-of-eq}
-use native.Mathlib.Omega.{arith}
 use borrow.Author.Tests.{not-true, not-false, eqb-true}
-use lib.Dec.{eqb, leb}
-use lib.ListN.{length, take, drop}
+use lib.Dec.{eqb}
+use lib.ListN.{length}
 use lib.Ieee.{Float}
-use Rattle.rules.specs.declared.ForceEntry.{ForceEntry}
-use Rattle.rules.specs.declared.Particle.{Particle}
 use Rattle.rules.specs.declared.Refusal.{Refusal}
 use Rattle.rules.specs.Plain.{all, sum}
-use Rattle.rules.specs.Number.{drawRange, placeRange, speedRange}
-use Rattle.rules.specs.Outcome.{Check, done, refused, refusal, fine, require, _then_, refusalOf, checkEach, zeroesWork}
-use Rattle.rules.specs.Refusal.{mostParticles, mostTicks, countCheck, lengthsCheck, drawsCheck, settingsCheck, coordinateCheck, velocityCheck}
-use Rattle.rules.specs.Sheet.{recordSize, countOf, particlesOf, wholeRecords, recordCheck, recordsCheck}
-use Rattle.rules.specs.Force.{endsOf, endsRange, pushEnds, pushRanges}
-use Rattle.rules.specs.Tick.{SheetInput, Force, empty, push, center, unknown, entryCounts, strengthsRight, numbersNeeded, linksNeeded, entriesOf, forceEnds, forceRanges, count, entries, forces, listLengths, sheetCheck}
+use Rattle.rules.specs.Outcome.{Check, done, refused, refusal, fine, _then_, refusalOf, checkEach, zeroesWork}
+use Rattle.rules.specs.Refusal.{mostParticles, mostTicks, countCheck, lengthsCheck, drawsCheck, settingsCheck}
+use Rattle.rules.specs.Sheet.{countOf, particlesOf, wholeRecords, recordsCheck}
+use Rattle.rules.specs.Tick.{SheetInput, entryCounts, strengthsRight, numbersNeeded, linksNeeded, entriesOf, forceEnds, forceRanges, count, entries, forces, listLengths, sheetCheck}
+use Rattle.rules.proofs.RefusalLaws.{Refuses, _then·_, of-each}
+use Rattle.rules.proofs.RefusalNumbers.{Early, count-early, length-early, entry-early, sheet-early}
 use Rattle.lists.specs.Checks.{firstOf}
-use Rattle.lists.proofs.Scans.{Early, Real, real-require, real-all, stops}
-use Rattle.lists.proofs.Checks.{then-both, require-true, and-both, early-keeps, real-settings, real-ends, real-ranges}
+use Rattle.lists.proofs.Scans.{early-keeps, passes, stops}
+use Rattle.lists.proofs.Checks.{then-both, require-true, and-both}
 use Rattle.checks.specs.Fits.{Fits}
-use Rattle.checks.specs.Parts.{ownEnds, ownRanges, eachPart, endsEach, rangesEach}
 use Rattle.checks.specs.Input.{lentSheet, sizesCheck, contentsCheck}
-use Rattle.checks.proofs.Early.{Prior, prior, prior-require, prior-then, prior-from, prior-passes, answer-then, real-count, real-counts, real-own}
+use Rattle.checks.proofs.Early.{answer-then}
 use Rattle.checks.proofs.Entries.{sum-twice, count-small}
 use Rattle.checks.proofs.Parts.{ends-each, ranges-each}
 
@@ -73,91 +68,9 @@ pub check-same : (sheet : List ℕ) (alpha : ℕ) (forces : List ℕ) (numbers :
 unfolding sheetCheck
 check-same sheet alpha forces numbers links draws work ticks settings = refl
 
--- ---- what each refuses by
-
-pub prior-count : (most n : ℕ) → Prior (countCheck most n)
-prior-count most n = prior (countCheck most n) (real-count most n)
-
-pub prior-length : (s : List ℕ) → Prior (wholeRecords s)
-unfolding wholeRecords
-prior-length s = prior-require (eqb (length s % recordSize) 0) 0
-
-prior-record : (i : ℕ) (p : Particle) → Prior (recordCheck i p)
-unfolding recordCheck
-prior-record i p =
-    prior-then (require (leb (p .flags) 3) 10 i then coordinateCheck i (p .x) (p .y)) (velocityCheck i (p .vx) (p .vy))
-    (prior-then (require (leb (p .flags) 3) 10 i) (coordinateCheck i (p .x) (p .y)) (prior-require (leb (p .flags) 3) i)
-    (prior (coordinateCheck i (p .x) (p .y)) (real-require (placeRange (p .x) (p .y)) 4 i (omega arith))))
-    (prior (velocityCheck i (p .vx) (p .vy)) (real-require (speedRange (p .vx) (p .vy)) 5 i (omega arith)))
-
-pub prior-records : (ps : List Particle) → Prior (recordsCheck ps)
-unfolding recordsCheck
-prior-records ps = prior-from recordCheck prior-record 0 ps
-
-pub prior-counts : (es : List ForceEntry) → Prior (checkEach (λ _ e. entryCounts e) es)
-prior-counts es = prior-from (λ _ e. entryCounts e) (λ i e. prior (entryCounts e) (real-counts e)) 0 es
-
-prior-each : {A : Type 0} (need : ForceEntry → ℕ) (check : ForceEntry → List A → Check) → ((e : ForceEntry) (part : List A) → Real (check e part))
-    → (es : List ForceEntry) (l : List A) → Prior (eachPart need check es l)
-prior-each need check h [] l = tt
-prior-each need check h (e ∷ es) l =
-    prior-then (check e (take (need e) l)) (eachPart need check es (drop (need e) l)) (prior (check e (take (need e) l)) (h e (take (need e) l)))
-    (prior-each need check h es (drop (need e) l))
-
-pub prior-ends : (n : ℕ) (es : List ForceEntry) (links : List ℕ) → Prior (endsEach n es links)
-prior-ends n es links = prior-each (λ e. linksNeeded e * 2) (λ e part. ownEnds n part) (λ e part. real-all (endsRange n) 3 (omega arith) (endsOf part)) es links
-
-pub prior-ranges : (n : ℕ) (es : List ForceEntry) (numbers : List Float) → Prior (rangesEach n es numbers)
-prior-ranges n es numbers = prior-each (numbersNeeded n) ownRanges real-own es numbers
-
-pub prior-sizes : (sheet forces : List ℕ) (ticks : ℕ) → Prior (sizesCheck sheet forces ticks)
-prior-sizes sheet forces ticks =
-    prior-then (wholeRecords sheet then countCheck mostParticles (countOf sheet) then countCheck mostTicks ticks) (checkEach (λ _ e. entryCounts e) (entriesOf forces))
-    (prior-then (wholeRecords sheet then countCheck mostParticles (countOf sheet)) (countCheck mostTicks ticks)
-    (prior-then (wholeRecords sheet) (countCheck mostParticles (countOf sheet)) (prior-length sheet) (prior-count mostParticles (countOf sheet)))
-    (prior-count mostTicks ticks))
-    (prior-counts (entriesOf forces))
-
-prior-force-ends : (n : ℕ) (f : Force) → Prior (forceEnds n f)
-prior-force-ends n empty = tt
-prior-force-ends n (push f) = prior (pushEnds n f) (real-ends n f)
-prior-force-ends n (center x y strength) = tt
-prior-force-ends n unknown = tt
-
-prior-force-ranges : (f : Force) → Prior (forceRanges f)
-prior-force-ranges empty = tt
-prior-force-ranges (push f) = prior (pushRanges f) (real-ranges f)
-prior-force-ranges (center x y strength) = prior (settingsCheck (x ∷ y ∷ strength ∷ [])) (real-settings (x ∷ y ∷ strength ∷ []))
-prior-force-ranges unknown = inl (omega arith)
-
-prior-rest : (l : SheetInput) (c : Check) → Prior c → Prior (rest l c)
-prior-rest l c h =
-    prior-then (c then lengths l then ends l then records l then ranges l) (drawsCheck (l .draws))
-    (prior-then (c then lengths l then ends l then records l) (ranges l)
-    (prior-then (c then lengths l then ends l) (records l)
-    (prior-then (c then lengths l) (ends l)
-    (prior-then c (lengths l) h (prior (lengths l) (real-require (listLengths l) 2 0 (omega arith))))
-    (prior-from (λ _ f. forceEnds (count l) f) (λ i f. prior-force-ends (count l) f) 0 (forces l)))
-    (prior-records (particlesOf (l .sheet))))
-    (prior-from (λ _ f. forceRanges f) (λ i f. prior-force-ranges f) 0 (forces l)))
-    (prior (drawsCheck (l .draws)) (real-all drawRange 5 (omega arith) (l .draws)))
-
-pub prior-check : (l : SheetInput) (ticks : ℕ) (settings : List Float) → Prior (sheetCheck l ticks settings)
-prior-check l ticks settings =
-    subst⁻¹ Prior (check-is l ticks settings)
-    (prior-then (rest l (sizes l ticks)) (settingsCheck settings) (prior-rest l (sizes l ticks) (prior-sizes (l .sheet) (l .forces) ticks)) (prior (settingsCheck settings) (real-settings settings)))
-
--- a refused input is refused by 1 to 5 or by 10
-pub early : (l : SheetInput) (ticks : ℕ) (settings : List Float) (r : Refusal) → sheetCheck l ticks settings ≡ refused r → Early (r .number) ⊎ (r .number ≡ 10)
-early l ticks settings r e = subst Prior e (prior-check l ticks settings)
-
-ten-keeps : (r : Refusal) → r .number ≡ 10 → zeroesWork r ≡ false
-unfolding zeroesWork
-ten-keeps r h = rw h
-
--- so the work slots stay as they were
+-- a refused input leaves the work slots as they were
 pub keeps-slots : (l : SheetInput) (ticks : ℕ) (settings : List Float) (r : Refusal) → sheetCheck l ticks settings ≡ refused r → zeroesWork r ≡ false
-keeps-slots l ticks settings r e = ⊎-elim (early-keeps r) (ten-keeps r) (early l ticks settings r e)
+keeps-slots l ticks settings r e = early-keeps r (sheet-early l ticks settings .by r e)
 
 -- ---- what it lets pass
 
@@ -198,7 +111,14 @@ module _ (l : SheetInput) (ticks : ℕ) (q : Refusal) (iq : q ≡ refusalOf (siz
 
   module _ (z : q .number ≡ 0) where
     pub sizes-fine : sizesCheck (l .sheet) (l .forces) ticks ≡ fine
-    sizes-fine = prior-passes (sizes l ticks) q (prior-sizes (l .sheet) (l .forces) ticks) iq z
+    sizes-fine = passes (sizes l ticks) early (sym (ap (λ (r : Refusal). r .number) iq) ∙ z)
+      where
+        early : Refuses Early (sizes l ticks)
+        early =
+            length-early (l .sheet)
+            then· count-early mostParticles (countOf (l .sheet))
+            then· count-early mostTicks ticks
+            then· of-each (λ _ e. entry-early e) (entriesOf (l .forces))
 
     past-sizes : sheetCheck l ticks [] ≡ onward l (listLengths l)
     past-sizes = check-plain l ticks ∙ ap (rest l) sizes-fine
@@ -232,4 +152,4 @@ module _ (l : SheetInput) (ticks : ℕ) (q : Refusal) (iq : q ≡ refusalOf (siz
 pub answered-settings : (l : SheetInput) (ticks : ℕ) (settings : List Float) (p s r : Refusal) → p ≡ refusalOf (sheetCheck l ticks []) → s ≡ refusalOf (settingsCheck settings)
     → r ≡ firstOf p s → r ≡ refusalOf (sheetCheck l ticks settings)
 answered-settings l ticks settings p s r ep es er =
-    answer-then (sheetCheck l ticks []) (settingsCheck settings) p s r (prior-check l ticks []) ep es er ∙ ap (λ (c : Check). refusalOf c) (sym (check-settings l ticks settings))
+    answer-then (sheetCheck l ticks []) (settingsCheck settings) p s r (sheet-early l ticks []) ep es er ∙ ap (λ (c : Check). refusalOf c) (sym (check-settings l ticks settings))

@@ -17,11 +17,13 @@ use Rattle.rules.specs.Flow.{Flow}
 use Rattle.rules.specs.Collide.{runCollide}
 use Rattle.rules.specs.Force.{collide, run}
 use Rattle.rules.specs.Calls.{ForceInput, count, inputLengths}
+use Rattle.rules.proofs.RefusalLaws.{of-all}
+use Rattle.rules.proofs.RefusalNumbers.{five, count-early, ranges-early}
 use Rattle.lists.specs.Checks.{coordinatesCheck, velocitiesCheck, firstOf}
 use Rattle.force_call.specs.Calls.{lentCheck, numbersCheck}
-use Rattle.lists.proofs.Scans.{real-require, real-then, real-all, real-coordinates, real-velocities, first-then}
+use Rattle.lists.proofs.Scans.{first-then, points-early}
 use Rattle.force_call.proofs.Called.{Lent}
-use Rattle.lists.proofs.Checks.{then-fine, require-true, real-ranges, first-three}
+use Rattle.lists.proofs.Checks.{then-fine, require-true, first-three}
 use Rattle.contact.specs.Contact.{Spread}
 
 -- ---- 2
@@ -51,7 +53,7 @@ lent-answer l radii iterations particles often counts lengths r agree e1 e2 e3 e
     let e4' : agree ≡ inputLengths l && true && eqb (length radii) (count l) = e4 ∙ ap (λ (b : Bool). b && eqb (length radii) (count l)) (sym (and-true (inputLengths l))) in
     e6
     ∙ rw (e5, e4', e3, e2, e1)
-    (first-three (countCheck 4096 (count l)) (countCheck 64 iterations) c (real-require (leb (count l) 4096) 1 0 (omega arith)) (real-require (leb iterations 64) 1 0 (omega arith)))
+    (first-three (countCheck 4096 (count l)) (countCheck 64 iterations) c (count-early 4096 (count l)) (count-early 64 iterations))
     ∙ ap (λ (c : Check). refusalOf c) (sym (then-fine (sizes then c)))
 
 -- 4 and 5
@@ -70,10 +72,9 @@ numbers-answer places vs radii draws strength points some setting own both more 
     let p = coordinatesCheck n places then velocitiesCheck n vs in
     let q = distancesCheck radii then settingsCheck (strength ∷ []) in
     e7
-    ∙ rw (e6, e5, e4, e3, e2, e1, k, first-then (distancesCheck radii) (settingsCheck (strength ∷ [])) (real-all distanceRange 5 (omega arith) radii))
-    (first-three p q (drawsCheck draws)
-    (real-then (coordinatesCheck n places) (velocitiesCheck n vs) (real-coordinates n places) (real-velocities n vs)) (real-ranges (collide radii strength 0)))
-    ∙ ap (λ (c : Check). refusalOf c) (sym (then-fine (p then q then drawsCheck draws)))
+    ∙ rw (e6, e5, e4, e3, e2, e1, k, first-then (distancesCheck radii) (settingsCheck (strength ∷ [])) (of-all distanceRange 5 five radii))
+    (first-three p q (drawsCheck draws) (points-early n n places vs) (ranges-early (collide radii strength 0))
+    ∙ ap (λ (c : Check). refusalOf c) (sym (then-fine (p then q then drawsCheck draws))))
 
 -- ---- what 1 and 2 let pass
 

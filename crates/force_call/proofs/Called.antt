@@ -21,6 +21,8 @@ use Rattle.rules.specs.Walk.{Counted, counted}
 use Rattle.rules.specs.Flow.{Flow, flow}
 use Rattle.rules.specs.Force.{Push, pushCounts, pushLengths, pushEnds, pushRanges, run}
 use Rattle.rules.specs.Calls.{ForceInput, slotsOf, count, speeds, inputLengths, forceCheck, forceResult, forceAnswer, bufferAfter}
+use Rattle.rules.proofs.RefusalLaws.{Refuses, _then·_, of-all}
+use Rattle.rules.proofs.RefusalNumbers.{Early, five, count-early, lengths-early, settings-early, counts-early, ends-early, ranges-early}
 use Rattle.sheet.specs.Columns.{putPairs}
 use Rattle.sheet.proofs.Columns.{put-beside}
 use Rattle.force.specs.declared.Ran.{Ran}
@@ -28,8 +30,8 @@ use Rattle.force.specs.Ran.{standing, ranOf}
 use Rattle.lists.specs.Checks.{coordinatesCheck, velocitiesCheck}
 use Rattle.force_call.specs.Calls.{lent, noCounts, countsAfter, Settled, Answered, lentCheck, numbersCheck}
 use Rattle.force.proofs.Standing.{late-clears}
-use Rattle.lists.proofs.Checks.{then-both, require-true, and-both, early-keeps, real-counts, real-ends, real-settings, real-ranges}
-use Rattle.lists.proofs.Scans.{Early, Real, real-require, real-then, real-all, real-coordinates, real-velocities}
+use Rattle.lists.proofs.Checks.{then-both, require-true, and-both}
+use Rattle.lists.proofs.Scans.{early-keeps, points-early}
 
 -- ---- lengths
 
@@ -119,7 +121,7 @@ module _ (l : ForceInput) (f : Push) (w : Bool) (alpha : Float) (settings : List
 
 -- ---- answers
 
-pub answered-refused : (l : ForceInput) (o : Outcome (Counted Flow)) (q : Refusal) (r : Counts) → o ≡ refused q → Early (q .number) → r ≡ noCounts q
+pub answered-refused : (l : ForceInput) (o : Outcome (Counted Flow)) (q : Refusal) (r : Counts) → o ≡ refused q → Early q → r ≡ noCounts q
     → Answered l o r (l .buffer) (l .work)
 unfolding forceAnswer bufferAfter
 answered-refused l o q r e h er = record { answer = er ∙ rw e; bytes = rw e; slots = rw (e, early-keeps q h) }
@@ -274,25 +276,18 @@ module _ (places : List Float) (buffer : List ℕ) (start : ℕ) (draws : List F
     answered-part o (refused q) r part' work' eo long a =
         record { answer = a .answer ∙ rw eo; bytes = rw (eo, a .bytes) (part-kept buffer start k room); slots = a .slots ∙ rw eo }
 
--- ---- checks 1 to 5 refuse by 1 to 5
+-- ---- what the checks refuse by
 
-pub real-lent : (l : ForceInput) (f : Push) (w : Bool) → Real (lentCheck l f w)
-real-lent l f w =
-    real-then (countCheck mostParticles (count l) then pushCounts f then lengthsCheck (inputLengths l && w && pushLengths (count l) f)) (pushEnds (count l) f)
-    (real-then (countCheck mostParticles (count l) then pushCounts f) (lengthsCheck (inputLengths l && w && pushLengths (count l) f))
-    (real-then (countCheck mostParticles (count l)) (pushCounts f) (real-require (leb (count l) 4096) 1 0 (omega arith)) (real-counts f))
-    (real-require (inputLengths l && w && pushLengths (count l) f) 2 0 (omega arith)))
-    (real-ends (count l) f)
+pub lent-early : (l : ForceInput) (f : Push) (w : Bool) → Refuses Early (lentCheck l f w)
+lent-early l f w =
+    count-early mostParticles (count l)
+    then· counts-early f
+    then· lengths-early (inputLengths l && w && pushLengths (count l) f)
+    then· ends-early (count l) f
 
-pub real-numbers : (places vs : List Float) (f : Push) (draws settings : List Float) → Real (numbersCheck places vs f draws settings)
-real-numbers places vs f draws settings =
-    real-then (points then pushRanges f then drawsCheck draws) (settingsCheck settings)
-    (real-then (points then pushRanges f) (drawsCheck draws)
-    (real-then points (pushRanges f)
-    (real-then (coordinatesCheck (length places / 2) places) (velocitiesCheck (length places / 2) vs) (real-coordinates (length places / 2) places) (real-velocities (length places / 2) vs))
-    (real-ranges f))
-    (real-all drawRange 5 (omega arith) draws))
-    (real-settings settings)
-  where
-    points : Check
-    points = coordinatesCheck (length places / 2) places then velocitiesCheck (length places / 2) vs
+pub numbers-early : (places vs : List Float) (f : Push) (draws settings : List Float) → Refuses Early (numbersCheck places vs f draws settings)
+numbers-early places vs f draws settings =
+    points-early (length places / 2) (length places / 2) places vs
+    then· ranges-early f
+    then· of-all drawRange 5 five draws
+    then· settings-early settings

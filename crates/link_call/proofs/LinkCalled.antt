@@ -5,24 +5,26 @@ use mathlib.Core.List.{List, [], _∷_}
 use Prim.Native.Nat.{ℕ, _/_, _%_, _<_}
 use native.Mathlib.Omega.{arith}
 use borrow.Author.Tests.{not-true, not-false, eq-eqb, ne-eqb, eqb-true, leb-true}
-use lib.Dec.{eqb, leb}
+use lib.Dec.{eqb}
 use lib.ListN.{length}
 use lib.Ieee.{Float}
 use Rattle.rules.specs.declared.Refusal.{Refusal}
 use Rattle.rules.specs.Outcome.{Outcome, requireAll, _then_, refusalOf}
-use Rattle.rules.specs.Number.{within, distanceRange, drawRange}
+use Rattle.rules.specs.Number.{within, drawRange}
 use Rattle.rules.specs.Refusal.{countCheck, lengthsCheck, drawsCheck, settingsCheck, strengthsCheck, distancesCheck}
 use Rattle.rules.specs.Walk.{Counted, counted}
 use Rattle.rules.specs.Flow.{Flow}
 use Rattle.rules.specs.Link.{Ends, runLink}
 use Rattle.rules.specs.Force.{link, endsOf, endsRange, noneOr, pushLengths, run}
 use Rattle.rules.specs.Calls.{ForceInput, count, inputLengths}
+use Rattle.rules.proofs.RefusalLaws.{of-all}
+use Rattle.rules.proofs.RefusalNumbers.{five, count-early, counts-early, lengths-early, ranges-early}
 use Rattle.force.specs.Ran.{visited}
 use Rattle.lists.specs.Checks.{coordinatesCheck, velocitiesCheck, firstOf}
 use Rattle.force_call.specs.Calls.{lentCheck, numbersCheck}
 use Rattle.link.specs.Links.{EndsLent, ListsLent}
 use Rattle.link.proofs.EndsRange.{ends-count, ends-range}
-use Rattle.lists.proofs.Scans.{real-require, real-then, real-all, real-coordinates, real-velocities, first-then}
+use Rattle.lists.proofs.Scans.{first-then, points-early}
 use Rattle.force_call.proofs.Called.{Lent}
 use Rattle.lists.proofs.Checks.{and-both, then-both, require-true, first-four}
 
@@ -93,16 +95,15 @@ pub lent-answer : (l : ForceInput) (links : List ℕ) (ss ds : List Float) (iter
 lent-answer l links ss ds iterations particles many often counts lengths sizes both ends r agree e1 e2 e3 e4 e5 e6 e7 e8 e9 e10 =
     let e2' : many ≡ refusalOf (countCheck 8192 (length (endsOf links))) = e2 ∙ ap (λ (k : ℕ). refusalOf (countCheck 8192 k)) (sym (ends-count links)) in
     e10
-    ∙ rw (e9, e8, e7, e6, e5, e4, e3, e2', e1, first-then (countCheck 8192 (length (endsOf links))) (countCheck 64 iterations) (real-require (leb (length (endsOf links)) 8192) 1 0 (omega arith)))
+    ∙ rw (e9, e8, e7, e6, e5, e4, e3, e2', e1, first-then (countCheck 8192 (length (endsOf links))) (countCheck 64 iterations) (count-early 8192 (length (endsOf links))))
     (first-four
     (countCheck 4096 (count l))
     (countCheck 8192 (length (endsOf links)) then countCheck 64 iterations)
     (lengthsCheck (inputLengths l && eqb (length links % 2) 0 && pushLengths (count l) (link (endsOf links) ss ds 0)))
     (requireAll (endsRange (count l)) 3 (endsOf links))
-    (real-require (leb (count l) 4096) 1 0 (omega arith))
-    (real-then (countCheck 8192 (length (endsOf links))) (countCheck 64 iterations) (real-require (leb (length (endsOf links)) 8192) 1 0 (omega arith))
-    (real-require (leb iterations 64) 1 0 (omega arith)))
-    (real-require (inputLengths l && eqb (length links % 2) 0 && pushLengths (count l) (link (endsOf links) ss ds 0)) 2 0 (omega arith)))
+    (count-early 4096 (count l))
+    (counts-early (link (endsOf links) ss ds iterations))
+    (lengths-early (inputLengths l && eqb (length links % 2) 0 && pushLengths (count l) (link (endsOf links) ss ds 0))))
 
 -- 4 and 5
 pub numbers-answer : (places vs ss ds draws : List Float) (alpha : Float) (points some lengths lists both more all r : Refusal)
@@ -118,15 +119,15 @@ pub numbers-answer : (places vs ss ds draws : List Float) (alpha : Float) (point
     → r ≡ refusalOf (numbersCheck places vs (link [] ss ds 0) draws (alpha ∷ []))
 numbers-answer places vs ss ds draws alpha points some lengths lists both more all r k e1 e2 e3 e4 e5 e6 e7 e8 =
     e8
-    ∙ rw (e7, e6, e5, e4, e3, e2, e1, k, first-then (strengthsCheck ss) (distancesCheck ds) (real-all within 5 (omega arith) ss))
+    ∙ rw (e7, e6, e5, e4, e3, e2, e1, k, first-then (strengthsCheck ss) (distancesCheck ds) (of-all within 5 five ss))
     (first-four
     (coordinatesCheck (length places / 2) places then velocitiesCheck (length places / 2) vs)
     (strengthsCheck ss then distancesCheck ds)
     (drawsCheck draws)
     (settingsCheck (alpha ∷ []))
-    (real-then (coordinatesCheck (length places / 2) places) (velocitiesCheck (length places / 2) vs) (real-coordinates (length places / 2) places) (real-velocities (length places / 2) vs))
-    (real-then (strengthsCheck ss) (distancesCheck ds) (real-all within 5 (omega arith) ss) (real-all distanceRange 5 (omega arith) ds))
-    (real-all drawRange 5 (omega arith) draws))
+    (points-early (length places / 2) (length places / 2) places vs)
+    (ranges-early (link [] ss ds 0))
+    (of-all drawRange 5 five draws))
 
 -- ---- the run
 

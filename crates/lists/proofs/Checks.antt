@@ -1,21 +1,19 @@
--- Checks in a row: what passes them, that checks 1 to 5 refuse by 1 to 5, and which refusal of several is answered.
+-- Checks in a row: what passes them, and which refusal of several is answered.
 use mathlib.Core.Path.{_≡_, refl, sym, ap, _∙_}
 use mathlib.Core.Bool.{Bool, true, false, _&&_, false≢true}
-use mathlib.Core.List.{List, [], _∷_}
-use Prim.Native.Nat.{ℕ, _-_}
+use mathlib.Core.List.{List}
+use Prim.Native.Nat.{ℕ}
 use native.Mathlib.Omega.{arith}
-use borrow.Author.Tests.{ne-eqb, lt-leb}
-use lib.Dec.{leb}
-use lib.ListN.{length}
 use lib.Ieee.{Float}
 use Rattle.rules.specs.declared.Refusal.{Refusal}
 use Rattle.rules.specs.Plain.{all}
-use Rattle.rules.specs.Number.{within, finite, distanceRange}
-use Rattle.rules.specs.Outcome.{done, refused, refusal, Check, fine, require, _then_, _>>=_, refusalOf, zeroesWork}
-use Rattle.rules.specs.Refusal.{mostLinks, mostIterations, countCheck, strengthsCheck, distancesCheck, resultCheck, settingsCheck}
-use Rattle.rules.specs.Force.{Push, manyBody, collide, link, endsRange, pushCounts, pushEnds, pushRanges}
+use Rattle.rules.specs.Number.{within, finite}
+use Rattle.rules.specs.Outcome.{done, refused, Check, fine, require, _then_, _>>=_, refusalOf}
+use Rattle.rules.specs.Refusal.{resultCheck}
+use Rattle.rules.proofs.RefusalLaws.{Refuses, _then·_}
+use Rattle.rules.proofs.RefusalNumbers.{Early}
 use Rattle.lists.specs.Checks.{firstOf}
-use Rattle.lists.proofs.Scans.{Early, Real, real-require, real-then, real-from, real-all, passes, first-then}
+use Rattle.lists.proofs.Scans.{passes, stops, first-then}
 
 pub then-both : (c d : Check) → c then d ≡ fine → (c ≡ fine) × (d ≡ fine)
 then-both (done t) d h = (refl, h)
@@ -47,48 +45,21 @@ result-fine places vs h = go (all within places && all finite vs) h
     go true e = refl
     go false e = absurd (omega arith)
 
--- a refusal by 1 to 5 leaves everything as it was
-pub early-keeps : (q : Refusal) → Early (q .number) → zeroesWork q ≡ false
-unfolding zeroesWork
-early-keeps q h = rw (ne-eqb (q .number) 0 (λ z. omega arith), lt-leb 6 (q .number) (omega arith))
-
--- ---- checks 1 to 5 refuse by 1 to 5
-
-pub real-counts : (f : Push) → Real (pushCounts f)
-real-counts (manyBody strengths) = tt
-real-counts (collide radii strength iterations) = real-require (leb iterations 64) 1 0 (omega arith)
-real-counts (link links strengths distances iterations) =
-    real-then (countCheck mostLinks (length links)) (countCheck mostIterations iterations) (real-require (leb (length links) 8192) 1 0 (omega arith)) (real-require (leb iterations 64) 1 0 (omega arith))
-
-pub real-ends : (n : ℕ) (f : Push) → Real (pushEnds n f)
-real-ends n (manyBody strengths) = tt
-real-ends n (collide radii strength iterations) = tt
-real-ends n (link links strengths distances iterations) = real-all (endsRange n) 3 (omega arith) links
-
-pub real-settings : (l : List Float) → Real (settingsCheck l)
-real-settings l = real-from (λ _ x. require (within x) 5 0) (λ i x. real-require (within x) 5 0 (omega arith)) 0 l
-
-pub real-ranges : (f : Push) → Real (pushRanges f)
-real-ranges (manyBody strengths) = real-all within 5 (omega arith) strengths
-real-ranges (collide radii strength iterations) =
-    real-then (distancesCheck radii) (settingsCheck (strength ∷ [])) (real-all distanceRange 5 (omega arith) radii) (real-settings (strength ∷ []))
-real-ranges (link links strengths distances iterations) =
-    real-then (strengthsCheck strengths) (distancesCheck distances) (real-all within 5 (omega arith) strengths) (real-all distanceRange 5 (omega arith) distances)
-
 -- a check that an answer with a number stands for
-pub stopped : (c : Check) (q : Refusal) → Real c → q ≡ refusalOf c → (q .number ≡ 0 → ⊥) → (c ≡ refused q) × Early (q .number)
-stopped (done t) q real e h = absurd (h (ap (λ (r : Refusal). r .number) e))
-stopped (refused r) q real e h = (ap refused (sym e), rw e real)
+pub stopped : (c : Check) (q : Refusal) → Refuses Early c → q ≡ refusalOf c → (q .number ≡ 0 → ⊥) → (c ≡ refused q) × Early q
+stopped c q early e h =
+    let s = stops c (λ z. h (ap (λ (r : Refusal). r .number) e ∙ z)) ∙ ap refused (sym e) in
+    (s, early .by q s)
 
 -- and one that number 0 stands for
-pub passed : (c : Check) (q : Refusal) → Real c → q ≡ refusalOf c → q .number ≡ 0 → c ≡ fine
-passed c q real e h = passes c real (sym (ap (λ (r : Refusal). r .number) e) ∙ h)
+pub passed : (c : Check) (q : Refusal) → Refuses Early c → q ≡ refusalOf c → q .number ≡ 0 → c ≡ fine
+passed c q early e h = passes c early (sym (ap (λ (r : Refusal). r .number) e) ∙ h)
 
 -- three checks in a row
-pub first-three : (c d e : Check) → Real c → Real d → firstOf (firstOf (refusalOf c) (refusalOf d)) (refusalOf e) ≡ refusalOf (c then d then e)
-first-three c d e hc hd = rw (first-then c d hc) (first-then (c then d) e (real-then c d hc hd))
+pub first-three : (c d e : Check) → Refuses Early c → Refuses Early d → firstOf (firstOf (refusalOf c) (refusalOf d)) (refusalOf e) ≡ refusalOf (c then d then e)
+first-three c d e hc hd = rw (first-then c d hc) (first-then (c then d) e (hc then· hd))
 
 -- four of them
-pub first-four : (c d e g : Check) → Real c → Real d → Real e
+pub first-four : (c d e g : Check) → Refuses Early c → Refuses Early d → Refuses Early e
     → firstOf (firstOf (firstOf (refusalOf c) (refusalOf d)) (refusalOf e)) (refusalOf g) ≡ refusalOf (c then d then e then g)
-first-four c d e g hc hd he = rw (first-three c d e hc hd) (first-then (c then d then e) g (real-then (c then d) e (real-then c d hc hd) he))
+first-four c d e g hc hd he = rw (first-three c d e hc hd) (first-then (c then d then e) g (hc then· hd then· he))

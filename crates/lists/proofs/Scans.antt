@@ -1,6 +1,6 @@
 -- Checks: what an answered refusal says of a check, and scans for the first that refuses.
 use mathlib.Core.Path.{_≡_, refl, sym, ap, _∙_}
-use mathlib.Core.Bool.{Bool, true, false, _&&_, not}
+use mathlib.Core.Bool.{Bool, true, false, _&&_, not, false≢true}
 use mathlib.Core.List.{List, [], _∷_}
 use Prim.Native.Nat.{ℕ, suc, _+_, _-_, _*_, _/_, _≤_, _<_}
 use native.Mathlib.Nat.{sub-zero}
@@ -13,46 +13,38 @@ use lib.Seq.{drop-cons}
 use lib.Ieee.{Float}
 use Rattle.rules.specs.declared.Refusal.{Refusal}
 use Rattle.rules.specs.Plain.{all, countFrom, upTo}
-use Rattle.rules.specs.Outcome.{done, refused, refusal, Check, fine, require, _then_, _>>=_, refusalOf, checkFrom, requireAll}
+use Rattle.rules.specs.Outcome.{done, refused, refusal, Check, fine, require, _then_, _>>=_, refusalOf, checkFrom, zeroesWork}
 use Rattle.rules.specs.Link.{Ends}
 use Rattle.rules.specs.Force.{endsFrom, endsOf}
-use Rattle.rules.specs.Number.{xAt, yAt, placeRange, speedRange}
-use Rattle.rules.specs.Refusal.{coordinateCheck, velocityCheck}
+use Rattle.rules.specs.Number.{xAt, yAt}
+use Rattle.rules.proofs.RefusalLaws.{Refuses, _then·_, of-each}
+use Rattle.rules.proofs.RefusalNumbers.{Early, one, two, three, four, five, ten, coordinate-early, velocity-early}
 use Rattle.lists.specs.declared.Pair.{Pair}
 use Rattle.lists.specs.declared.Pair.the-variants.{Place, Velocity}
-use Rattle.lists.specs.Checks.{pairCheck, endsAt, firstOf, coordinatesCheck, velocitiesCheck}
+use Rattle.lists.specs.Checks.{pairCheck, pairsCheck, endsAt, firstOf, coordinatesCheck, velocitiesCheck}
 use Rattle.sheet.proofs.PairLists.{pair-off}
 
 -- ---- one check and the refusal that was answered for it
 
--- a check that refuses by 1 to 5
-abbrev pub Early : ℕ → Type 0
-Early n = (1 ≤ n) × (n ≤ 5)
+-- a refusal by 1 to 5 or 10 leaves everything as it was
+pub early-keeps : (q : Refusal) → Early q → zeroesWork q ≡ false
+unfolding zeroesWork
+early-keeps q one = refl
+early-keeps q two = refl
+early-keeps q (three i) = refl
+early-keeps q (four i) = refl
+early-keeps q (five i) = refl
+early-keeps q (ten i) = refl
 
-abbrev pub Real : Check → Type 0
-Real (done t) = Unit {0}
-Real (refused r) = Early (r .number)
-
-pub real-require : (ok : Bool) (n i : ℕ) → Early n → Real (require ok n i)
-real-require true n i h = tt
-real-require false n i h = h
-
-pub real-then : (c d : Check) → Real c → Real d → Real (c then d)
-real-then (done t) d hc hd = hd
-real-then (refused r) d hc hd = hc
-
-real-bind : (c : Check) (f : Unit {0} → Check) → Real c → Real (f tt) → Real (c >>= f)
-real-bind (done t) f hc hf = hf
-real-bind (refused r) f hc hf = hc
-
-pub real-from : {A : Type 0} (f : ℕ → A → Check) → ((i : ℕ) (a : A) → Real (f i a)) → (i : ℕ) (l : List A) → Real (checkFrom f i l)
-real-from f h i [] = tt
-real-from f h i (a ∷ l) = real-bind (f i a) (λ _. checkFrom f (i + 1) l) (h i a) (real-from f h (i + 1) l)
+-- as number 0 doesn't
+early-numbered : (q : Refusal) → Early q → q .number ≡ 0 → ⊥
+unfolding zeroesWork
+early-numbered q h z = false≢true (sym (early-keeps q h) ∙ rw z)
 
 -- number 0 is a check that is fine
-pub passes : (c : Check) → Real c → refusalOf c .number ≡ 0 → c ≡ fine
+pub passes : (c : Check) → Refuses Early c → refusalOf c .number ≡ 0 → c ≡ fine
 passes (done t) h e = refl
-passes (refused r) h e = absurd (omega arith)
+passes (refused r) h e = absurd (early-numbered r (h .by r refl) e)
 
 -- any other is a check that refuses
 pub stops : (c : Check) → (refusalOf c .number ≡ 0 → ⊥) → c ≡ refused (refusalOf c)
@@ -60,10 +52,10 @@ stops (done t) h = absurd (h refl)
 stops (refused r) h = refl
 
 -- two checks one after the other
-pub first-then : (c d : Check) → Real c → firstOf (refusalOf c) (refusalOf d) ≡ refusalOf (c then d)
+pub first-then : (c d : Check) → Refuses Early c → firstOf (refusalOf c) (refusalOf d) ≡ refusalOf (c then d)
 unfolding firstOf
 first-then (done t) d h = refl
-first-then (refused r) d h = rw (ne-eqb (r .number) 0 (λ z. omega arith))
+first-then (refused r) d h = rw (ne-eqb (r .number) 0 (early-numbered r (h .by r refl)))
 
 -- ---- a scan, `left i` being what is left from number i on
 
@@ -78,8 +70,8 @@ module _ {A : Type 0} (f : ℕ → A → Check) (left : ℕ → List A) (i : ℕ
   pub answer-stop : (r : Refusal) → r ≡ refusalOf (f i a) → (r .number ≡ 0 → ⊥) → r ≡ refusalOf (checkFrom f i (left i))
   answer-stop r is h = is ∙ scan-stop (refusalOf (f i a)) (stops (f i a) (λ z. h (ap (λ (r : Refusal). r .number) is ∙ z)))
 
-  pub answer-on : (r : Refusal) → r ≡ refusalOf (f i a) → Real (f i a) → r .number ≡ 0 → checkFrom f i (left i) ≡ checkFrom f (i + 1) (left (i + 1))
-  answer-on r is real z = scan-on (passes (f i a) real (sym (ap (λ (r : Refusal). r .number) is) ∙ z))
+  pub answer-on : (r : Refusal) → r ≡ refusalOf (f i a) → Refuses Early (f i a) → r .number ≡ 0 → checkFrom f i (left i) ≡ checkFrom f (i + 1) (left (i + 1))
+  answer-on r is early z = scan-on (passes (f i a) early (sym (ap (λ (r : Refusal). r .number) is) ∙ z))
 
 -- the same where the code tests ok, and b is what it found
 module _ {A : Type 0} (ok : A → Bool) (number : ℕ) (left : ℕ → List A) (i : ℕ) (a : A) (e : left i ≡ a ∷ left (i + 1)) (b : Bool) (is : b ≡ ok a) where
@@ -138,19 +130,14 @@ all-unrefused ok i (a ∷ l) = go (ok a) (all-unrefused ok (i + 1) l)
     go true h = h
     go false h = refl
 
--- ---- the checks of pairs and of lists have numbers
+-- ---- the checks of pairs refuse by 4 and 5
 
-pub real-pair : (pair : Pair) (i : ℕ) (x y : Float) → Real (pairCheck pair i x y)
-real-pair Place i x y = real-require (placeRange x y) 4 i (omega arith)
-real-pair Velocity i x y = real-require (speedRange x y) 5 i (omega arith)
+pub pair-early : (pair : Pair) (i : ℕ) (x y : Float) → Refuses Early (pairCheck pair i x y)
+pair-early Place i x y = coordinate-early i x y
+pair-early Velocity i x y = velocity-early i x y
 
-pub real-coordinates : (n : ℕ) (places : List Float) → Real (coordinatesCheck n places)
-real-coordinates n places =
-    real-from (λ i _. coordinateCheck i (xAt places i) (yAt places i)) (λ i a. real-require (placeRange (xAt places i) (yAt places i)) 4 i (omega arith)) 0 (upTo n)
+pub pairs-early : (pair : Pair) (n : ℕ) (l : List Float) → Refuses Early (pairsCheck (pairCheck pair) n l)
+pairs-early pair n l = of-each (λ i _. pair-early pair i (xAt l i) (yAt l i)) (upTo n)
 
-pub real-velocities : (n : ℕ) (speeds : List Float) → Real (velocitiesCheck n speeds)
-real-velocities n speeds =
-    real-from (λ i _. velocityCheck i (xAt speeds i) (yAt speeds i)) (λ i a. real-require (speedRange (xAt speeds i) (yAt speeds i)) 5 i (omega arith)) 0 (upTo n)
-
-pub real-all : {A : Type 0} (ok : A → Bool) (number : ℕ) → Early number → (l : List A) → Real (requireAll ok number l)
-real-all ok number h l = real-from (λ i a. require (ok a) number i) (λ i a. real-require (ok a) number i h) 0 l
+pub points-early : (n m : ℕ) (places speeds : List Float) → Refuses Early (coordinatesCheck n places then velocitiesCheck m speeds)
+points-early n m places speeds = pairs-early Place n places then· pairs-early Velocity m speeds

@@ -3,8 +3,6 @@ use mathlib.Core.Path.{_≡_, sym, ap, _∙_}
 use mathlib.Core.Bool.{Bool, true, _&&_}
 use mathlib.Core.List.{List, [], _∷_}
 use Prim.Native.Nat.{ℕ, _/_}
-use native.Mathlib.Omega.{arith}
-use lib.Dec.{leb}
 use lib.ListN.{length}
 use lib.Ieee.{Float}
 use Rattle.rules.specs.declared.Refusal.{Refusal}
@@ -17,9 +15,11 @@ use Rattle.rules.specs.Flow.{Flow}
 use Rattle.rules.specs.ManyBody.{standard, runManyBody}
 use Rattle.rules.specs.Force.{manyBody, pushLengths, run}
 use Rattle.rules.specs.Calls.{ForceInput, count, inputLengths}
+use Rattle.rules.proofs.RefusalLaws.{of-all}
+use Rattle.rules.proofs.RefusalNumbers.{five, count-early}
 use Rattle.lists.specs.Checks.{coordinatesCheck, velocitiesCheck, firstOf}
 use Rattle.force_call.specs.Calls.{lentCheck, numbersCheck}
-use Rattle.lists.proofs.Scans.{real-require, real-then, real-all, real-coordinates, real-velocities, first-then}
+use Rattle.lists.proofs.Scans.{first-then, points-early}
 use Rattle.lists.proofs.Checks.{then-fine, first-four}
 
 -- ---- the answers
@@ -32,7 +32,7 @@ pub lent-answer : (l : ForceInput) (ss : List Float) (particles lengths r : Refu
     → r ≡ firstOf particles lengths
     → r ≡ refusalOf (lentCheck l (manyBody ss) true)
 lent-answer l ss particles lengths r agree e1 e2 e3 e4 =
-    e4 ∙ rw (e3, e2, e1) (first-then many sizes (real-require (leb (count l) 4096) 1 0 (omega arith)) ∙ ap refusalOf (sym alone))
+    e4 ∙ rw (e3, e2, e1) (first-then many sizes (count-early 4096 (count l)) ∙ ap refusalOf (sym alone))
   where
     many : Check
     many = countCheck 4096 (count l)
@@ -63,9 +63,9 @@ numbers-answer places vs ss draws alpha points some both more all setting r k e1
     (strengthsCheck ss)
     (drawsCheck draws)
     (settingsCheck (alpha ∷ []))
-    (real-then (coordinatesCheck (length places / 2) places) (velocitiesCheck (length places / 2) vs) (real-coordinates (length places / 2) places) (real-velocities (length places / 2) vs))
-    (real-all within 5 (omega arith) ss)
-    (real-all drawRange 5 (omega arith) draws))
+    (points-early (length places / 2) (length places / 2) places vs)
+    (of-all within 5 five ss)
+    (of-all drawRange 5 five draws))
 
 -- ---- the run
 

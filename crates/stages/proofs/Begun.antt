@@ -14,13 +14,13 @@ use Rattle.rules.specs.Outcome.{Check, refused, fine, refusalOf}
 use Rattle.rules.specs.Number.{within, floatOf}
 use Rattle.rules.specs.Sheet.{recordSize, wholeRecords, countOf, particlesOf, placesOf}
 use Rattle.rules.specs.Tick.{SheetInput, state, entries, count, sheetCheck}
+use Rattle.rules.proofs.RefusalNumbers.{sheet-early}
 use Rattle.sheet.proofs.Checked.{records-sound}
-use Rattle.lists.proofs.Scans.{stops}
+use Rattle.lists.proofs.Scans.{passes, stops}
 use Rattle.lists.proofs.Checks.{require-true}
 use Rattle.checks.specs.Fits.{Fits}
 use Rattle.checks.specs.Input.{lentSheet}
-use Rattle.checks.proofs.Early.{prior-passes}
-use Rattle.checks.proofs.Whole.{check-same, prior-check, passed}
+use Rattle.checks.proofs.Whole.{check-same, passed}
 use Rattle.stages.specs.Stage.{Columns, Chains, stateOf}
 use Rattle.stages.proofs.Flags.{columns-of}
 use Rattle.stages.specs.Columns.{Lists, Read}
@@ -39,7 +39,7 @@ module _ (l : SheetInput) (ticks : ℕ) (settings : List Float) (q : Refusal) (e
   stopped h = stops (sheetCheck l ticks settings) (λ z. h (ap (λ (r : Refusal). r .number) e ∙ z)) ∙ ap refused (sym e)
 
   pub past : q .number ≡ 0 → sheetCheck l ticks settings ≡ fine
-  past z = prior-passes (sheetCheck l ticks settings) q (prior-check l ticks settings) e z
+  past z = passes (sheetCheck l ticks settings) (sheet-early l ticks settings) (sym (ap (λ (r : Refusal). r .number) e) ∙ z)
 
 -- whole records
 whole-records : (s : List ℕ) → wholeRecords s ≡ fine → length s ≡ countOf s * 40

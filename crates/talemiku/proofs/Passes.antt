@@ -18,7 +18,8 @@ use Rattle.rules.specs.Outcome.{refused, Check, fine, require, _>>=_, refusalOf
 use Rattle.rules.specs.Refusal.{countCheck, settingsCheck, resultCheck}
 use Rattle.rules.specs.Sheet.{particle, placesOf, speedsOf}
 use Rattle.rules.specs.Particle.{offset, shifted, centered, moved, closing}
-use Rattle.lists.proofs.Scans.{real-require, real-from, passes}
+use Rattle.rules.proofs.RefusalNumbers.{count-early, settings-early}
+use Rattle.lists.proofs.Scans.{passes}
 use Rattle.talemiku.specs.declared.centring.Pair.{Pair}
 use Rattle.talemiku.specs.Pass.{resultOf, pair, addedTo, offsetsOf}
 
@@ -71,10 +72,10 @@ module _ (f : Particle → Particle) where
 -- ---- number 0 is a check that is fine
 
 pub count-fine : (m n : ℕ) → refusalOf (countCheck m n) .number ≡ 0 → countCheck m n ≡ fine
-count-fine m n z = passes (countCheck m n) (real-require (leb n m) 1 0 (omega arith, omega arith)) z
+count-fine m n z = passes (countCheck m n) (count-early m n) z
 
 pub settings-fine : (l : List Float) → refusalOf (settingsCheck l) .number ≡ 0 → settingsCheck l ≡ fine
-settings-fine l z = passes (settingsCheck l) (real-from (λ _ x. require (within x) 5 0) (λ i x. real-require (within x) 5 0 (omega arith, omega arith)) 0 l) z
+settings-fine l z = passes (settingsCheck l) (settings-early l) z
 
 -- and then the count is within the limit
 pub count-within : (m n : ℕ) → countCheck m n ≡ fine → n ≤ m

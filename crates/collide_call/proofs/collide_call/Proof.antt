@@ -10,7 +10,7 @@ use Rattle.rules.specs.Outcome.{fine}
 use Rattle.rules.specs.Force.{Push, collide}
 use Rattle.rules.specs.Calls.{ForceInput}
 use Rattle.force_call.specs.Calls.{lent, lentCheck}
-use Rattle.force_call.proofs.Called.{Lent, lent-all, real-lent, result-lent, answered-refused, part-size, lent-part, result-part, answered-part}
+use Rattle.force_call.proofs.Called.{Lent, lent-all, lent-early, result-lent, answered-refused, part-size, lent-part, result-part, answered-part}
 use Rattle.lists.proofs.Checks.{stopped, passed}
 use Rattle.collide_call.proofs.collide_call.Statement.{statement}
 use Rattle.collide_call.proofs.collide_call.Tie as tie
@@ -30,7 +30,7 @@ force s = collide (s .args .radii .now) (s .args .strength) (s .args .iterations
 past : (c : tie.Else1) → lentCheck (input (start (c .before))) (force (start (c .before))) true ≡ fine
 past c =
     let s = start (c .before) in
-    passed (lentCheck (input s) (force s) true) (c .before .lent-check .result) (real-lent (input s) (force s) true) (c .before .lent-check .ensures) (c .if1 .left)
+    passed (lentCheck (input s) (force s) true) (c .before .lent-check .result) (lent-early (input s) (force s) true) (c .before .lent-check .ensures) (c .if1 .left)
 
 passed-lent : (c : tie.Else1) → Lent (input (start (c .before))) (force (start (c .before))) true
 passed-lent c = lent-all (input (start (c .before))) (force (start (c .before))) true (past c)
@@ -39,7 +39,7 @@ returns : tie.Need-returns
 returns c =
     let n = c .before .before in
     let s = start n in
-    let st = stopped (lentCheck (input s) (force s) true) (n .lent-check .result) (real-lent (input s) (force s) true) (n .lent-check .ensures) (c .before .if1 .taken) in
+    let st = stopped (lentCheck (input s) (force s) true) (n .lent-check .result) (lent-early (input s) (force s) true) (n .lent-check .ensures) (c .before .if1 .taken) in
     answered-refused (input s) _ (n .lent-check .result) (c .refused .result) (result-lent (input s) (force s) true 0· [] (n .lent-check .result) (st .0)) (st .1) (c .refused .ensures)
 
 -- how many bytes the part has

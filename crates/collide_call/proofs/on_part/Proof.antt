@@ -12,7 +12,7 @@ use Rattle.rules.specs.Force.{Push, collide}
 use Rattle.rules.specs.Calls.{ForceInput, slotsOf, speeds}
 use Rattle.force.specs.Ran.{ranOf}
 use Rattle.force_call.specs.Calls.{lent, numbersCheck}
-use Rattle.force_call.proofs.Called.{Lent, lent-all, real-numbers, result-numbers, result-ran, answered-refused, answered-ran, settled-slots}
+use Rattle.force_call.proofs.Called.{Lent, lent-all, numbers-early, result-numbers, result-ran, answered-refused, answered-ran, settled-slots}
 use Rattle.lists.proofs.Checks.{stopped, passed}
 use Rattle.force_call.proofs.CalledTree.{can-build}
 use Rattle.collide.specs.Collide.{begun}
@@ -59,7 +59,7 @@ returns c =
     let vs = d .read-pairs .last .1 .1 .1 .0 in
     let q = n .numbers-check .result in
     let st =
-    stopped (numbersCheck (a .places .now) vs (force s) (a .draws .now) []) q (real-numbers (a .places .now) vs (force s) (a .draws .now) []) (n .numbers-check .ensures) (c .before .if1 .taken) in
+    stopped (numbersCheck (a .places .now) vs (force s) (a .draws .now) []) q (numbers-early (a .places .now) vs (force s) (a .draws .now) []) (n .numbers-check .ensures) (c .before .if1 .taken) in
     answered-refused (input s) _ q (c .refused .result) (result-numbers (input s) (force s) true 0· [] (s .pre .0) vs (read d) q (st .0)) (st .1) (c .refused .ensures)
 
 -- 4 and 5 are past
@@ -69,7 +69,7 @@ past c =
     let d = n .before .before .before .before in
     let a = start d .args in
     let vs = d .read-pairs .last .1 .1 .1 .0 in
-    passed (numbersCheck (a .places .now) vs (force (start d)) (a .draws .now) []) (n .numbers-check .result) (real-numbers (a .places .now) vs (force (start d)) (a .draws .now) []) (n .numbers-check .ensures) (c .if1 .left)
+    passed (numbersCheck (a .places .now) vs (force (start d)) (a .draws .now) []) (n .numbers-check .result) (numbers-early (a .places .now) vs (force (start d)) (a .draws .now) []) (n .numbers-check .ensures) (c .if1 .left)
 
 collide-requires : tie.Need-collide-requires
 collide-requires c κs =

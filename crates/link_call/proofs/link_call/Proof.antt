@@ -9,7 +9,7 @@ use Rattle.rules.specs.Outcome.{fine}
 use Rattle.rules.specs.Force.{Push, link, endsOf}
 use Rattle.rules.specs.Calls.{ForceInput}
 use Rattle.force_call.specs.Calls.{lent, lentCheck}
-use Rattle.force_call.proofs.Called.{Lent, lent-all, real-lent, result-lent, answered-refused, part-size, lent-part, result-part, answered-part}
+use Rattle.force_call.proofs.Called.{Lent, lent-all, lent-early, result-lent, answered-refused, part-size, lent-part, result-part, answered-part}
 use Rattle.lists.proofs.Checks.{stopped, passed}
 use Rattle.link_call.proofs.link_call.Statement.{statement}
 use Rattle.link_call.proofs.link_call.Tie as tie
@@ -26,7 +26,7 @@ past : (c : tie.Else1) → lentCheck (input (c .before .before .before .before .
 past c =
     let s = c .before .before .before .before .before .before .before .before .before .before in
     let w = eqb (length (s .args .links .now) % 2) 0 in
-    passed (lentCheck (input s) (force s) w) (c .before .lent-check .result) (real-lent (input s) (force s) w) (c .before .lent-check .ensures) (c .if1 .left)
+    passed (lentCheck (input s) (force s) w) (c .before .lent-check .result) (lent-early (input s) (force s) w) (c .before .lent-check .ensures) (c .if1 .left)
 
 passed-lent : (c : tie.Else1) → Lent (input (c .before .before .before .before .before .before .before .before .before .before)) (force (c .before .before .before .before .before .before .before .before .before .before)) (eqb (length (c .before .before .before .before .before .before .before .before .before .before .args .links .now) % 2) 0)
 passed-lent c = lent-all (input (c .before .before .before .before .before .before .before .before .before .before)) (force (c .before .before .before .before .before .before .before .before .before .before)) (eqb (length (c .before .before .before .before .before .before .before .before .before .before .args .links .now) % 2) 0) (past c)
@@ -37,7 +37,7 @@ returns c =
     let s = n .before .before .before .before .before .before .before .before .before in
     let a = s .args in
     let w = eqb (length (a .links .now) % 2) 0 in
-    let st = stopped (lentCheck (input s) (force s) w) (n .lent-check .result) (real-lent (input s) (force s) w) (n .lent-check .ensures) (c .before .if1 .taken) in
+    let st = stopped (lentCheck (input s) (force s) w) (n .lent-check .result) (lent-early (input s) (force s) w) (n .lent-check .ensures) (c .before .if1 .taken) in
     answered-refused (input s) _ (n .lent-check .result) (c .refused .result)
     (result-lent (input s) (force s) w (a .alpha) (a .alpha ∷ []) (n .lent-check .result) (st .0)) (st .1) (c .refused .ensures)
 

@@ -12,7 +12,7 @@ use Rattle.rules.specs.Calls.{ForceInput, slotsOf, speeds}
 use Rattle.force.specs.Ran.{ranOf}
 use Rattle.link.specs.Links.{EndsLent}
 use Rattle.force_call.specs.Calls.{lent, numbersCheck}
-use Rattle.force_call.proofs.Called.{Lent, lent-all, real-numbers, result-numbers, result-ran, answered-refused, answered-ran}
+use Rattle.force_call.proofs.Called.{Lent, lent-all, numbers-early, result-numbers, result-ran, answered-refused, answered-ran}
 use Rattle.lists.proofs.Checks.{stopped, passed}
 use Rattle.link_call.proofs.LinkCalled.{ends-lent, lists-lent, link-runs}
 use Rattle.link_call.proofs.on_part.Statement.{statement}
@@ -51,7 +51,7 @@ returns c =
     let q = n .numbers-check .result in
     let st =
     stopped (numbersCheck (a .places .now) vs (force s) (a .draws .now) (a .alpha ∷ [])) q
-    (real-numbers (a .places .now) vs (force s) (a .draws .now) (a .alpha ∷ [])) (n .numbers-check .ensures) (c .before .if1 .taken) in
+    (numbers-early (a .places .now) vs (force s) (a .draws .now) (a .alpha ∷ [])) (n .numbers-check .ensures) (c .before .if1 .taken) in
     answered-refused (input s) _ q (c .refused .result)
     (result-numbers (input s) (force s) (eqb (length (a .links .now) % 2) 0) (a .alpha) (a .alpha ∷ []) (s .pre .0) vs (read d) q (st .0))
     (st .1) (c .refused .ensures)
@@ -93,7 +93,7 @@ returns-2 c =
     let vs = d .read-pairs .last .1 .1 .1 .0 in
     let ok =
     passed (numbersCheck (a .places .now) vs (force s) (a .draws .now) (a .alpha ∷ [])) (n .numbers-check .result)
-    (real-numbers (a .places .now) vs (force s) (a .draws .now) (a .alpha ∷ [])) (n .numbers-check .ensures) (e .before .before .if1 .left) in
+    (numbers-early (a .places .now) vs (force s) (a .draws .now) (a .alpha ∷ [])) (n .numbers-check .ensures) (e .before .before .if1 .left) in
     answered-ran (input s) _ (e .link .result) (e .link .last .1 .0) (t .settle .result) (t .settle .last .1 .0) (t .settle .last .1 .1 .1 .1 .0)
     (result-ran (input s) (force s) (eqb (length (a .links .now) % 2) 0) (a .alpha) (a .alpha ∷ []) (s .pre .0) vs (read d) ok (e .link .last .1 .0) (e .link .result)
     (link-runs (ranOf (e .link .last .1 .0) (a .draws .now) (e .link .result)) (endsOf (a .links .now)) (a .strengths .now) (a .distances .now) (a .iterations) (a .places .now) (a .alpha) (slotsOf (a .work .now)) 0 (flow vs (a .draws .now))

@@ -8,7 +8,7 @@ use Rattle.rules.specs.Plain.{countFrom}
 use Rattle.rules.specs.Number.{xAt, yAt}
 use Rattle.rules.specs.Outcome.{checkFrom}
 use Rattle.lists.specs.Checks.{pairCheck, pairsCheck}
-use Rattle.lists.proofs.Scans.{real-pair, count-left, count-none, answer-stop, answer-on}
+use Rattle.lists.proofs.Scans.{pair-early, count-left, count-none, answer-stop, answer-on}
 use Rattle.lists.proofs.pairs_check.Statement.{statement}
 use Rattle.lists.proofs.pairs_check.Tie as tie
 
@@ -40,7 +40,7 @@ loop-again c =
       omega arith,
       o .inv .1
           ∙ answer-on (λ i _. pairCheck (a .pair) i (xAt l i) (yAt l i)) (λ i. countFrom i (n - i)) (o .i) (o .i) (count-left n (o .i) (omega arith))
-          (w .pair-check .result) (w .pair-check .ensures) (real-pair (a .pair) (o .i) (xAt l (o .i)) (yAt l (o .i))) (c .if1 .left),
+          (w .pair-check .result) (w .pair-check .ensures) (pair-early (a .pair) (o .i) (xAt l (o .i)) (yAt l (o .i))) (c .if1 .left),
     )
 
 returns-2 : tie.Need-returns-2 Inv-loop μ-loop

@@ -2,8 +2,9 @@ use mathlib.Core.Path.{_∙_}
 use Prim.Native.Nat.{_/_}
 use borrow.Author.Needs.{needs}
 use lib.ListN.{length}
+use Rattle.lists.specs.declared.Pair.the-variants.{Place}
 use Rattle.lists.specs.Checks.{coordinatesCheck, velocitiesCheck}
-use Rattle.lists.proofs.Scans.{real-coordinates, first-then}
+use Rattle.lists.proofs.Scans.{first-then, pairs-early}
 use Rattle.lists.proofs.points_check.Statement.{statement}
 use Rattle.lists.proofs.points_check.Tie as tie
 
@@ -13,7 +14,7 @@ returns c =
     let n = length (a .places .now) / 2 in
     c .first .ensures
     ∙ rw (c .before .pairs-check2 .ensures, c .before .before .pairs-check .ensures)
-    (first-then (coordinatesCheck n (a .places .now)) (velocitiesCheck (length (a .speeds .now) / 2) (a .speeds .now)) (real-coordinates n (a .places .now)))
+    (first-then (coordinatesCheck n (a .places .now)) (velocitiesCheck (length (a .speeds .now) / 2) (a .speeds .now)) (pairs-early Place n (a .places .now)))
 
 pub points-check-spec : {M : Type 1} → statement M
 points-check-spec =

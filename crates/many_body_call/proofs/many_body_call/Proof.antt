@@ -9,7 +9,7 @@ use Rattle.rules.specs.Outcome.{fine}
 use Rattle.rules.specs.Force.{Push, manyBody}
 use Rattle.rules.specs.Calls.{ForceInput}
 use Rattle.force_call.specs.Calls.{lent, lentCheck}
-use Rattle.force_call.proofs.Called.{Lent, lent-all, real-lent, result-lent, answered-refused, part-size, lent-part, result-part, answered-part}
+use Rattle.force_call.proofs.Called.{Lent, lent-all, lent-early, result-lent, answered-refused, part-size, lent-part, result-part, answered-part}
 use Rattle.lists.proofs.Checks.{stopped, passed}
 use Rattle.many_body_call.proofs.many_body_call.Statement.{statement}
 use Rattle.many_body_call.proofs.many_body_call.Tie as tie
@@ -28,7 +28,7 @@ start c = c .before .before .before .before .before .before .before .before
 past : (c : tie.Else1) → lentCheck (input (start c)) (force (start c)) true ≡ fine
 past c =
     let s = start c in
-    passed (lentCheck (input s) (force s) true) (c .before .lent-check .result) (real-lent (input s) (force s) true) (c .before .lent-check .ensures) (c .if1 .left)
+    passed (lentCheck (input s) (force s) true) (c .before .lent-check .result) (lent-early (input s) (force s) true) (c .before .lent-check .ensures) (c .if1 .left)
 
 passed-lent : (c : tie.Else1) → Lent (input (start c)) (force (start c)) true
 passed-lent c = lent-all (input (start c)) (force (start c)) true (past c)
@@ -38,7 +38,7 @@ returns c =
     let n = c .before .before in
     let s = n .before .before .before .before .before .before .before in
     let a = s .args in
-    let st = stopped (lentCheck (input s) (force s) true) (n .lent-check .result) (real-lent (input s) (force s) true) (n .lent-check .ensures) (c .before .if1 .taken) in
+    let st = stopped (lentCheck (input s) (force s) true) (n .lent-check .result) (lent-early (input s) (force s) true) (n .lent-check .ensures) (c .before .if1 .taken) in
     answered-refused (input s) _ (n .lent-check .result) (c .refused .result)
     (result-lent (input s) (force s) true (a .alpha) (a .alpha ∷ []) (n .lent-check .result) (st .0)) (st .1) (c .refused .ensures)
 

@@ -14,7 +14,7 @@ use Rattle.rules.specs.Force.{Push, manyBody}
 use Rattle.rules.specs.Calls.{ForceInput, slotsOf, speeds}
 use Rattle.force.specs.Ran.{ranOf}
 use Rattle.force_call.specs.Calls.{lent, numbersCheck}
-use Rattle.force_call.proofs.Called.{Lent, lent-all, real-numbers, result-numbers, result-ran, answered-refused, answered-ran, settled-slots}
+use Rattle.force_call.proofs.Called.{Lent, lent-all, numbers-early, result-numbers, result-ran, answered-refused, answered-ran, settled-slots}
 use Rattle.lists.proofs.Checks.{stopped, passed}
 use Rattle.force_call.proofs.CalledTree.{can-build}
 use Rattle.many_body_call.proofs.ManyBodyCalled.{many-body-runs}
@@ -63,7 +63,7 @@ returns c =
     let q = n .numbers-check .result in
     let st =
     stopped (numbersCheck (a .places .now) vs (force s) (a .draws .now) (a .alpha ∷ [])) q
-    (real-numbers (a .places .now) vs (force s) (a .draws .now) (a .alpha ∷ [])) (n .numbers-check .ensures) (c .before .if1 .taken) in
+    (numbers-early (a .places .now) vs (force s) (a .draws .now) (a .alpha ∷ [])) (n .numbers-check .ensures) (c .before .if1 .taken) in
     answered-refused (input s) _ q (c .refused .result)
     (result-numbers (input s) (force s) true (a .alpha) (a .alpha ∷ []) (s .pre .0) vs (read d) q (st .0))
     (st .1) (c .refused .ensures)
@@ -78,7 +78,7 @@ past c =
     let a = start (begun c) .args in
     let vs = begun c .read-pairs .last .1 .1 .1 .0 in
     passed (numbersCheck (a .places .now) vs (manyBody (a .strengths .now)) (a .draws .now) (a .alpha ∷ [])) (c .before .numbers-check .result)
-    (real-numbers (a .places .now) vs (manyBody (a .strengths .now)) (a .draws .now) (a .alpha ∷ [])) (c .before .numbers-check .ensures) (c .if1 .left)
+    (numbers-early (a .places .now) vs (manyBody (a .strengths .now)) (a .draws .now) (a .alpha ∷ [])) (c .before .numbers-check .ensures) (c .if1 .left)
 
 small : 0 < 2 ^ 63
 small = omega arith

@@ -1,10 +1,13 @@
+use Prim.Native.Nat.{_*_}
 use borrow.Author.Needs.{needs}
 use Rattle.rules.specs.Refusal.{drawsCheck}
 use Rattle.rules.specs.Sheet.{countOf, particlesOf, recordsCheck}
-use Rattle.rules.specs.Tick.{entriesOf}
-use Rattle.checks.specs.Parts.{endsEach, rangesEach}
-use Rattle.checks.proofs.Early.{answer-four}
-use Rattle.checks.proofs.Whole.{prior-ends, prior-records, prior-ranges}
+use Rattle.rules.specs.Force.{endsOf, endsRange}
+use Rattle.rules.specs.Tick.{entriesOf, linksNeeded, numbersNeeded}
+use Rattle.rules.proofs.RefusalLaws.{of-all}
+use Rattle.rules.proofs.RefusalNumbers.{three, records-early}
+use Rattle.checks.specs.Parts.{ownEnds, ownRanges, endsEach, rangesEach}
+use Rattle.checks.proofs.Early.{answer-four, own-early, each-early}
 use Rattle.checks.proofs.check.contents_check.Statement.{statement}
 use Rattle.checks.proofs.check.contents_check.Tie as tie
 
@@ -19,7 +22,9 @@ returns c =
     let es = entriesOf (a .forces .now) in
     answer-four (endsEach n es (a .links .now)) (recordsCheck (particlesOf (a .sheet .now))) (rangesEach n es (a .numbers .now)) (drawsCheck (a .draws .now))
     (e .all-ends .result) (r .records-check .result) (g .all-ranges .result) (d .draws-check .result) (c .before .before .first .result) (c .before .first2 .result) (c .first3 .result)
-    (prior-ends n es (a .links .now)) (prior-records (particlesOf (a .sheet .now))) (prior-ranges n es (a .numbers .now))
+    (each-early (λ e. linksNeeded e * 2) (λ _ part. ownEnds n part) (λ _ part. of-all (endsRange n) 3 three (endsOf part)) es (a .links .now))
+    (records-early (particlesOf (a .sheet .now)))
+    (each-early (numbersNeeded n) ownRanges own-early es (a .numbers .now))
     (e .all-ends .ensures) (r .records-check .ensures) (g .all-ranges .ensures) (d .draws-check .ensures) (c .before .before .first .ensures) (c .before .first2 .ensures) (c .first3 .ensures)
 
 pub contents-check-spec : {M : Type 1} → statement M

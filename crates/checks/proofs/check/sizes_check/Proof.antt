@@ -3,8 +3,8 @@ use Rattle.rules.specs.Outcome.{checkEach}
 use Rattle.rules.specs.Refusal.{mostParticles, mostTicks, countCheck}
 use Rattle.rules.specs.Sheet.{countOf, wholeRecords}
 use Rattle.rules.specs.Tick.{entryCounts, entriesOf}
+use Rattle.rules.proofs.RefusalNumbers.{count-early, length-early}
 use Rattle.checks.proofs.Early.{answer-four}
-use Rattle.checks.proofs.Whole.{prior-length, prior-count}
 use Rattle.checks.proofs.check.sizes_check.Statement.{statement}
 use Rattle.checks.proofs.check.sizes_check.Tie as tie
 
@@ -18,7 +18,7 @@ returns c =
     let n = countOf (a .sheet .now) in
     answer-four (wholeRecords (a .sheet .now)) (countCheck mostParticles n) (countCheck mostTicks (a .ticks)) (checkEach (λ _ e. entryCounts e) (entriesOf (a .forces .now)))
     (l .whole-records .result) (p .count-check .result) (t .count-check2 .result) (d .counts-check .result) (c .before .before .first .result) (c .before .first2 .result) (c .first3 .result)
-    (prior-length (a .sheet .now)) (prior-count mostParticles n) (prior-count mostTicks (a .ticks))
+    (length-early (a .sheet .now)) (count-early mostParticles n) (count-early mostTicks (a .ticks))
     (l .whole-records .ensures) (p .count-check .ensures) (t .count-check2 .ensures) (d .counts-check .ensures) (c .before .before .first .ensures) (c .before .first2 .ensures) (c .first3 .ensures)
 
 pub sizes-check-spec : {M : Type 1} → statement M

@@ -5,8 +5,8 @@ use borrow.Author.Needs.{needs}
 use Rattle.rules.specs.declared.ForceEntry.{ForceEntry}
 use Rattle.rules.specs.Outcome.{Check, refusalOf, checkEach, checkFrom}
 use Rattle.rules.specs.Tick.{entryAt, entryCounts, entriesOf}
+use Rattle.rules.proofs.RefusalNumbers.{entry-early}
 use Rattle.lists.proofs.Scans.{answer-stop, answer-on}
-use Rattle.checks.proofs.Early.{real-counts}
 use Rattle.checks.proofs.Entries.{entriesLeft, entries-left, entries-none}
 use Rattle.checks.proofs.counts.counts_check.Statement.{statement}
 use Rattle.checks.proofs.counts.counts_check.Tie as tie
@@ -34,7 +34,7 @@ loop-again c =
       omega arith,
       o .inv .1
           ∙ answer-on (λ _ e. entryCounts e) (entriesLeft l) (o .i) (entryAt l (o .i * 7)) (entries-left l (o .i) (omega arith)) (w .entry-counts .result)
-          (w .entry-counts .ensures ∙ ap (λ (e : ForceEntry). refusalOf (entryCounts e)) (w .before .entry-at .ensures)) (real-counts (entryAt l (o .i * 7))) (c .if1 .left),
+          (w .entry-counts .ensures ∙ ap (λ (e : ForceEntry). refusalOf (entryCounts e)) (w .before .entry-at .ensures)) (entry-early (entryAt l (o .i * 7))) (c .if1 .left),
     )
 
 returns-2 : tie.Need-returns-2 Inv-loop μ-loop

@@ -2,9 +2,9 @@ use mathlib.Core.Path.{sym, ap}
 use borrow.Author.Needs.{needs}
 use Rattle.rules.specs.Outcome.{Check, fine, _then_, refusalOf}
 use Rattle.rules.specs.Refusal.{mostLinks, mostIterations, countCheck}
+use Rattle.rules.proofs.RefusalNumbers.{count-early}
 use Rattle.lists.proofs.Scans.{first-then}
 use Rattle.checks.proofs.ByKind.{not-repeated}
-use Rattle.checks.proofs.Early.{real-count}
 use Rattle.checks.proofs.counts.entry_counts.Statement.{statement}
 use Rattle.checks.proofs.counts.entry_counts.Tie as tie
 
@@ -16,7 +16,7 @@ returns-2 c =
     let w = c .before in
     let e = w .before .before .before .args .e in
     rw (w .match .keys2, c .first .ensures, w .before .count-check2 .ensures, w .before .before .count-check .ensures)
-    (first-then (countCheck mostLinks (e .links)) (countCheck mostIterations (e .iterations)) (real-count mostLinks (e .links)))
+    (first-then (countCheck mostLinks (e .links)) (countCheck mostIterations (e .iterations)) (count-early mostLinks (e .links)))
 
 returns-3 : tie.Need-returns-3
 returns-3 c =

@@ -8,7 +8,8 @@ use Rattle.rules.specs.declared.ForceEntry.{ForceEntry}
 use Rattle.rules.specs.Outcome.{Check, refusalOf}
 use Rattle.rules.specs.Force.{endsOf, endsRange}
 use Rattle.rules.specs.Tick.{linksNeeded, entriesOf}
-use Rattle.lists.proofs.Scans.{real-all}
+use Rattle.rules.proofs.RefusalLaws.{of-all}
+use Rattle.rules.proofs.RefusalNumbers.{three}
 use Rattle.checks.specs.Parts.{ownEnds}
 use Rattle.checks.proofs.Entries.{sum-twice}
 use Rattle.checks.proofs.Parts.{part-size, Walked, walk-start, walk-room, walk-stop, walk-on, walk-end}
@@ -66,7 +67,7 @@ loop-again c =
     let a = e .before .before .before .before .args in
     walk-on need (check (a .n)) (a .forces .now) (a .links .now) (o .at) (o .i) (o .inv) (omega arith)
     (e .entry-at .result) (e .entry-at .ensures) (m .links-needed .result * 2) (ap (λ (k : ℕ). k * 2) (m .links-needed .ensures))
-    (r .ends-check .result) (answered r) (real-all (endsRange (a .n)) 3 (omega arith) (endsOf (take (m .links-needed .result * 2) (drop (o .at) (a .links .now))))) (c .if1 .left)
+    (r .ends-check .result) (answered r) (of-all (endsRange (a .n)) 3 three (endsOf (take (m .links-needed .result * 2) (drop (o .at) (a .links .now))))) (c .if1 .left)
 
 returns-2 : tie.Need-returns-2 Inv-loop μ-loop
 returns-2 c =

@@ -6,7 +6,7 @@ use lib.ListN.{length, take, drop}
 use Rattle.rules.specs.Outcome.{refusalOf}
 use Rattle.rules.specs.Tick.{numbersNeeded}
 use Rattle.checks.specs.Parts.{ownRanges}
-use Rattle.checks.proofs.Early.{real-own}
+use Rattle.checks.proofs.Early.{own-early}
 use Rattle.checks.proofs.Parts.{part-size, part-long, Walked, walk-start, walk-room, walk-stop, walk-on, walk-end}
 use Rattle.checks.proofs.ranges.all_ranges.Statement.{statement}
 use Rattle.checks.proofs.ranges.all_ranges.Tie as tie
@@ -74,7 +74,7 @@ loop-again c =
     let a = e .before .before .before .before .args in
     walk-on (numbersNeeded (a .n)) ownRanges (a .forces .now) (a .numbers .now) (o .at) (o .i) (o .inv) (omega arith)
     (e .entry-at .result) (e .entry-at .ensures) (m .numbers-needed .result) (m .numbers-needed .ensures)
-    (r .entry-ranges .result) (answered r) (real-own (e .entry-at .result) (take (m .numbers-needed .result) (drop (o .at) (a .numbers .now)))) (c .if1 .left)
+    (r .entry-ranges .result) (answered r) (own-early (e .entry-at .result) (take (m .numbers-needed .result) (drop (o .at) (a .numbers .now)))) (c .if1 .left)
 
 returns-2 : tie.Need-returns-2 Inv-loop μ-loop
 returns-2 c =

@@ -4,9 +4,12 @@ use mathlib.Core.Bool.{false}
 use borrow.Author.Needs.{needs}
 use Rattle.rules.specs.Outcome.{Check, fine, require, refusalOf}
 use Rattle.rules.specs.Refusal.{distancesCheck, settingsCheck}
+use Rattle.rules.specs.Number.{distanceRange}
+use Rattle.rules.proofs.RefusalLaws.{of-all}
+use Rattle.rules.proofs.RefusalNumbers.{five}
 use Rattle.checks.specs.Parts.{ownRanges}
 use Rattle.checks.proofs.ByKind.{unknown-kind}
-use Rattle.checks.proofs.Early.{prior, real-distances, answer-then}
+use Rattle.checks.proofs.Early.{answer-then}
 use Rattle.checks.proofs.ranges.entry_ranges.Statement.{statement}
 use Rattle.checks.proofs.ranges.entry_ranges.Tie as tie
 
@@ -26,7 +29,7 @@ returns-3 c =
     let a = d .before .before .before .args in
     rw (d .before .match .keys3)
     (answer-then (distancesCheck (a .part .now)) (settingsCheck (a .e .a ∷ [])) (d .distances-check .result) (s .setting-check .result) (c .first .result)
-    (prior (distancesCheck (a .part .now)) (real-distances (a .part .now))) (d .distances-check .ensures) (s .setting-check .ensures) (c .first .ensures))
+    (of-all distanceRange 5 five (a .part .now)) (d .distances-check .ensures) (s .setting-check .ensures) (c .first .ensures))
 
 returns-4 : tie.Need-returns-4
 unfolding ownRanges

@@ -8,7 +8,10 @@ use lib.Seq.{length-take-le, take-all}
 use lib.Ieee.{Float}
 use Rattle.rules.specs.Outcome.{refusalOf}
 use Rattle.rules.specs.Refusal.{strengthsCheck, distancesCheck}
-use Rattle.checks.proofs.Early.{prior, real-strengths, answer-then}
+use Rattle.rules.specs.Number.{within}
+use Rattle.rules.proofs.RefusalLaws.{of-all}
+use Rattle.rules.proofs.RefusalNumbers.{five}
+use Rattle.checks.proofs.Early.{answer-then}
 use Rattle.checks.proofs.ranges.link_ranges.Statement.{statement}
 use Rattle.checks.proofs.ranges.link_ranges.Tie as tie
 
@@ -20,7 +23,7 @@ returns c =
     let strengths = take (a .strengths) (a .part .now) in
     let distances = drop (a .strengths) (a .part .now) in
     answer-then (strengthsCheck strengths) (distancesCheck distances) (s .strengths-check .result) (d .distances-check .result) (c .first .result)
-    (prior (strengthsCheck strengths) (real-strengths strengths)) (s .strengths-check .ensures)
+    (of-all within 5 five strengths) (s .strengths-check .ensures)
     (d .distances-check .ensures ∙ ap (λ (l : List Float). refusalOf (distancesCheck l)) (take-all (length (a .part .now) - a .strengths) distances (simp length-drop (omega arith))))
     (c .first .ensures)
 
