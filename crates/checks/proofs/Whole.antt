@@ -45,7 +45,7 @@ rest l c = c then lengths l then ends l then records l then ranges l then drawsC
 
 module _ (l : SheetInput) (ticks : ℕ) where
   abbrev sizes : Check
-  sizes = sizesCheck (l .sheet) (l .forces) ticks
+  sizes = sizesCheck (l .sheet) (l .words) ticks
 
   check-is : (settings : List Float) → sheetCheck l ticks settings ≡ rest l sizes then settingsCheck settings
   unfolding sheetCheck
@@ -93,7 +93,7 @@ passed l ticks settings h =
     let d = then-both (s then lengths l then ends l) (records l) (c .0) in
     let e = then-both (s then lengths l) (ends l) (d .0) in
     let f = then-both s (lengths l) (e .0) in
-    let g = sizes-passed (l .sheet) (l .forces) ticks (f .0) in
+    let g = sizes-passed (l .sheet) (l .words) ticks (f .0) in
     (record { few = g .1; counts = g .2; lengths = require-true (listLengths l) 2 0 (f .1); ends = e .1 }, g .0, d .1, g .3)
 
 -- ---- how the code answers it: q was answered for what comes before 2, b for 2, and r for what comes after
@@ -102,7 +102,7 @@ passed l ticks settings h =
 abbrev onward : SheetInput → Bool → Check
 onward l b = lengthsCheck b then ends l then records l then ranges l then drawsCheck (l .draws)
 
-module _ (l : SheetInput) (ticks : ℕ) (q : Refusal) (iq : q ≡ refusalOf (sizesCheck (l .sheet) (l .forces) ticks)) where
+module _ (l : SheetInput) (ticks : ℕ) (q : Refusal) (iq : q ≡ refusalOf (sizesCheck (l .sheet) (l .words) ticks)) where
   pub stopped-sizes : (q .number ≡ 0 → ⊥) → q ≡ refusalOf (sheetCheck l ticks [])
   stopped-sizes h =
       iq
@@ -110,7 +110,7 @@ module _ (l : SheetInput) (ticks : ℕ) (q : Refusal) (iq : q ≡ refusalOf (siz
       ∙ ap (λ (c : Check). refusalOf c) (sym (check-plain l ticks))
 
   module _ (z : q .number ≡ 0) where
-    pub sizes-fine : sizesCheck (l .sheet) (l .forces) ticks ≡ fine
+    pub sizes-fine : sizesCheck (l .sheet) (l .words) ticks ≡ fine
     sizes-fine = passes (sizes l ticks) early (sym (ap (λ (r : Refusal). r .number) iq) ∙ z)
       where
         early : Refuses Early (sizes l ticks)
@@ -118,7 +118,7 @@ module _ (l : SheetInput) (ticks : ℕ) (q : Refusal) (iq : q ≡ refusalOf (siz
             length-early (l .sheet)
             then· count-early mostParticles (countOf (l .sheet))
             then· count-early mostTicks ticks
-            then· of-each (λ _ e. entry-early e) (entriesOf (l .forces))
+            then· of-each (λ _ e. entry-early e) (entriesOf (l .words))
 
     past-sizes : sheetCheck l ticks [] ≡ onward l (listLengths l)
     past-sizes = check-plain l ticks ∙ ap (rest l) sizes-fine
@@ -139,13 +139,13 @@ module _ (l : SheetInput) (ticks : ℕ) (q : Refusal) (iq : q ≡ refusalOf (siz
             let a = and-both (all strengthsRight (entries l) && numbers) links agree in
             (eqb-true (length (l .numbers)) _ (and-both (all strengthsRight (entries l)) numbers (a .0) .1), eqb-true (length (l .links)) _ (a .1))
 
-        same-contents : onward l true ≡ contentsCheck (l .sheet) (l .forces) (l .numbers) (l .links) (l .draws)
+        same-contents : onward l true ≡ contentsCheck (l .sheet) (l .words) (l .numbers) (l .links) (l .draws)
         same-contents =
             ap₂ (λ (c d : Check). c then records l then d then drawsCheck (l .draws))
             (ends-each (count l) 0 (entries l) (l .numbers) (l .links) (le-of-eq (sym (long-enough .1 ∙ sum-twice (entries l)))))
             (ranges-each (count l) 0 (entries l) (l .numbers) (l .links))
 
-        pub answered-contents : (r : Refusal) → r ≡ refusalOf (contentsCheck (l .sheet) (l .forces) (l .numbers) (l .links) (l .draws)) → r ≡ refusalOf (sheetCheck l ticks [])
+        pub answered-contents : (r : Refusal) → r ≡ refusalOf (contentsCheck (l .sheet) (l .words) (l .numbers) (l .links) (l .draws)) → r ≡ refusalOf (sheetCheck l ticks [])
         answered-contents r ir = ir ∙ ap (λ (c : Check). refusalOf c) (sym (past-sizes ∙ ap (onward l) agree ∙ same-contents))
 
 -- the settings were answered s

@@ -10,7 +10,7 @@ use Rattle.checks.specs.Parts.{endsEach, rangesEach}
 
 abbrev pub lentSheet : List ℕ → ℕ → List ℕ → List Float → List ℕ → List Float → List ℕ → SheetInput
 lentSheet sheet alpha forces numbers links draws work =
-    record { sheet = sheet; alpha = alpha; forces = forces; numbers = numbers; links = links; draws = draws; work = work }
+    record { sheet = sheet; alpha = alpha; words = forces; numbers = numbers; links = links; draws = draws; work = work }
 
 -- before 2: the sheet's length (10), then 1
 abbrev pub sizesCheck : List ℕ → List ℕ → ℕ → Check

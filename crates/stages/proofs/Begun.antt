@@ -29,9 +29,9 @@ use Rattle.stages.specs.Columns.{Lists, Read}
 
 -- alpha and the work slots are not looked at
 pub answered : (l : SheetInput) (ticks : ℕ) (settings : List Float) (q : Refusal)
-    → q ≡ refusalOf (sheetCheck (lentSheet (l .sheet) 0 (l .forces) (l .numbers) (l .links) (l .draws) []) ticks settings) → q ≡ refusalOf (sheetCheck l ticks settings)
+    → q ≡ refusalOf (sheetCheck (lentSheet (l .sheet) 0 (l .words) (l .numbers) (l .links) (l .draws) []) ticks settings) → q ≡ refusalOf (sheetCheck l ticks settings)
 answered l ticks settings q e =
-    e ∙ ap (λ (c : Check). refusalOf c) (check-same (l .sheet) (l .alpha) (l .forces) (l .numbers) (l .links) (l .draws) (l .work) ticks settings)
+    e ∙ ap (λ (c : Check). refusalOf c) (check-same (l .sheet) (l .alpha) (l .words) (l .numbers) (l .links) (l .draws) (l .work) ticks settings)
 
 -- q was answered
 module _ (l : SheetInput) (ticks : ℕ) (settings : List Float) (q : Refusal) (e : q ≡ refusalOf (sheetCheck l ticks settings)) where

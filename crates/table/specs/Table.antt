@@ -261,7 +261,7 @@ centring x y strength = entry 4 0 0 0 x y strength
 -- these particles at alpha 1 under these slots, with their numbers and draws
 sheet : List Particle → List ℕ → List Float → List Float → SheetInput
 sheet ps slots numbers draws =
-    record { sheet = sheetOf ps; alpha = bitsOf 1·; forces = padded 56 0 slots; numbers = numbers; links = []; draws = draws; work = replicate 64 7 }
+    record { sheet = sheetOf ps; alpha = bitsOf 1·; words = padded 56 0 slots; numbers = numbers; links = []; draws = draws; work = replicate 64 7 }
 
 -- target 0, and both decays a half
 halving : Settings
