@@ -10,7 +10,7 @@ use lib.ListN.{length}
 use lib.Ieee.{Float}
 use Rattle.rules.specs.declared.Refusal.{Refusal}
 use Rattle.rules.specs.Plain.{all, sum}
-use Rattle.rules.specs.Outcome.{Check, done, refused, refusal, fine, _then_, refusalOf, checkEach, zeroesWork}
+use Rattle.rules.specs.Outcome.{Check, refused, refusal, fine, _then_, refusalOf, checkEach, zeroesWork}
 use Rattle.rules.specs.Refusal.{mostParticles, mostTicks, countCheck, lengthsCheck, drawsCheck, settingsCheck}
 use Rattle.rules.specs.Sheet.{countOf, particlesOf, wholeRecords, recordsCheck}
 use Rattle.rules.specs.Tick.{SheetInput, entryCounts, strengthsRight, numbersNeeded, linksNeeded, entriesOf, forceEnds, forceRanges, count, entries, forces, listLengths, sheetCheck}
@@ -18,7 +18,7 @@ use Rattle.rules.proofs.RefusalLaws.{Refuses, _then·_, of-each}
 use Rattle.rules.proofs.RefusalNumbers.{Early, count-early, length-early, entry-early, sheet-early}
 use Rattle.lists.specs.Checks.{firstOf}
 use Rattle.lists.proofs.Scans.{early-keeps, passes, stops}
-use Rattle.lists.proofs.Checks.{then-both, require-true, and-both}
+use Rattle.lists.proofs.Checks.{then-both, then-fine, require-true, and-both}
 use Rattle.checks.specs.Fits.{Fits}
 use Rattle.checks.specs.Input.{lentSheet, sizesCheck, contentsCheck}
 use Rattle.checks.proofs.Early.{answer-then}
@@ -53,10 +53,6 @@ module _ (l : SheetInput) (ticks : ℕ) where
 
   check-plain : sheetCheck l ticks [] ≡ rest l sizes
   check-plain = check-is [] ∙ then-fine (rest l sizes)
-    where
-      then-fine : (c : Check) → c then fine ≡ c
-      then-fine (done t) = refl
-      then-fine (refused r) = refl
 
   -- the settings come last
   pub check-settings : (settings : List Float) → sheetCheck l ticks settings ≡ sheetCheck l ticks [] then settingsCheck settings

@@ -36,7 +36,7 @@ early-keeps q (four i) = refl
 early-keeps q (five i) = refl
 early-keeps q (ten i) = refl
 
--- as number 0 doesn't
+-- so its number isn't 0, by which the work slots are cleared
 early-numbered : (q : Refusal) → Early q → q .number ≡ 0 → ⊥
 unfolding zeroesWork
 early-numbered q h z = false≢true (sym (early-keeps q h) ∙ rw z)
@@ -60,10 +60,10 @@ first-then (refused r) d h = rw (ne-eqb (r .number) 0 (early-numbered r (h .by r
 -- ---- a scan, `left i` being what is left from number i on
 
 module _ {A : Type 0} (f : ℕ → A → Check) (left : ℕ → List A) (i : ℕ) (a : A) (e : left i ≡ a ∷ left (i + 1)) where
-  pub scan-stop : (r : Refusal) → f i a ≡ refused r → r ≡ refusalOf (checkFrom f i (left i))
+  scan-stop : (r : Refusal) → f i a ≡ refused r → r ≡ refusalOf (checkFrom f i (left i))
   scan-stop r h = rw (e, h)
 
-  pub scan-on : f i a ≡ fine → checkFrom f i (left i) ≡ checkFrom f (i + 1) (left (i + 1))
+  scan-on : f i a ≡ fine → checkFrom f i (left i) ≡ checkFrom f (i + 1) (left (i + 1))
   scan-on h = rw (e, h)
 
   -- the same where r was answered for number i
