@@ -1,5 +1,5 @@
-// Cases of the calls below the ticks: each `.._is_right` runs a case of the sample, and says whether the answer and every lent buffer after the call are what the
-// sample says. Of ticks and steps what stands below their calls is here.
+// Cases of every call but the step: each `.._is_right` runs a case of the sample, and says whether the answer and every lent buffer after the call are what the
+// sample says. Of steps what stands below their call is here.
 mod forces;
 mod numbers;
 mod sheets;
@@ -11,5 +11,5 @@ pub use numbers::root_is_right;
 pub use sheets::force_words;
 pub use sheets::settings;
 pub use sheets::step_ended_right;
-pub use sheets::tick_ended_right;
+pub use sheets::tick_is_right;
 pub use trees::tree_is_right;

@@ -1,4 +1,4 @@
-// What a case says of a tick and of a step: the settings, the words of the force slots, and how it ends. The program runs them, and says there what the parts are.
+// Cases of a tick, and what a case says of a step: the settings, the words of the force slots, and how it ends. The program says what the parts are, and runs the steps.
 use number::float_of;
 use rules::Counts;
 use rules::Settings;
@@ -63,6 +63,21 @@ fn of_tick(a: Counts) -> StepAnswer {
     }
 }
 
-pub fn tick_ended_right(case: &[u8], a: Counts, alpha: u64, sheet: &[u8], work: &[u64]) -> bool {
+fn tick_ended_right(case: &[u8], a: Counts, alpha: u64, sheet: &[u8], work: &[u64]) -> bool {
     step_ended_right(case, of_tick(a), alpha, sheet, work)
+}
+
+pub fn tick_is_right(
+    case: &[u8],
+    sheet: &mut [u8],
+    numbers: &[f64],
+    links: &[u32],
+    draws: &[f64],
+    work: &mut [u64],
+) -> bool {
+    let s = settings(case);
+    let forces = force_words(case);
+    let mut alpha = argument(case, 0);
+    let a = tick_call::tick(sheet, &mut alpha, &forces, numbers, links, draws, s, work);
+    tick_ended_right(case, a, alpha, sheet, work)
 }

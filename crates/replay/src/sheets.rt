@@ -3,28 +3,13 @@
 use answers::force_words;
 use answers::settings;
 use answers::step_ended_right;
-use answers::tick_ended_right;
+use answers::tick_is_right;
 use number::float_of;
 use sample::argument;
 use sample::read_bytes;
 use sample::read_halves;
 use sample::read_numbers;
 use sample::read_words;
-
-fn tick_is_right(
-    case: &[u8],
-    sheet: &mut [u8],
-    numbers: &[f64],
-    links: &[u32],
-    draws: &[f64],
-    work: &mut [u64],
-) -> bool {
-    let s = settings(case);
-    let forces = force_words(case);
-    let mut alpha = argument(case, 0);
-    let a = tick_call::tick(sheet, &mut alpha, &forces, numbers, links, draws, s, work);
-    tick_ended_right(case, a, alpha, sheet, work)
-}
 
 fn step_is_right(
     case: &[u8],
