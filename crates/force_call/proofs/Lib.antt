@@ -1,2 +1,2 @@
 pub mod Called
-pub mod CalledTree
+pub mod Ranged

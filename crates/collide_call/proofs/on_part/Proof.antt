@@ -14,7 +14,7 @@ use Rattle.force.specs.Ran.{ranOf}
 use Rattle.force_call.specs.Calls.{lent, numbersCheck}
 use Rattle.force_call.proofs.Called.{Lent, lent-all, numbers-early, result-numbers, result-ran, answered-refused, answered-ran, settled-slots}
 use Rattle.lists.proofs.Checks.{stopped, passed}
-use Rattle.force_call.proofs.CalledTree.{can-build}
+use Rattle.force_call.proofs.Ranged.{places-within}
 use Rattle.collide.specs.Collide.{begun}
 use Rattle.collide_call.proofs.CollideCalled.{times, spread, collide-runs}
 use Rattle.collide_call.proofs.on_part.Statement.{statement}
@@ -79,7 +79,7 @@ collide-requires c κs =
     let a = s .args in
     let l = passed-lent s in
     let vs = d .read-pairs .last .1 .1 .1 .0 in (
-      can-build (input s) (force s) true vs (a .draws .now) [] (a .next .now) (a .tail .now) l (past e) (s .pre .3) (s .pre .4),
+      record { ranged = places-within (input s) (force s) vs (a .draws .now) [] (past e); few = l .few; links = s .pre .3; tails = s .pre .4 },
       spread (input s) (a .radii .now) (a .strength) (a .iterations) l vs (a .draws .now) (d .read-pairs .kept .1 .1 .1 .0 ∙ s .pre .2),
       times (input s) (a .radii .now) (a .strength) (a .iterations) l,
       omega arith,

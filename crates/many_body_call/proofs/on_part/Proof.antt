@@ -16,7 +16,7 @@ use Rattle.force.specs.Ran.{ranOf}
 use Rattle.force_call.specs.Calls.{lent, numbersCheck}
 use Rattle.force_call.proofs.Called.{Lent, lent-all, numbers-early, result-numbers, result-ran, answered-refused, answered-ran, settled-slots}
 use Rattle.lists.proofs.Checks.{stopped, passed}
-use Rattle.force_call.proofs.CalledTree.{can-build}
+use Rattle.force_call.proofs.Ranged.{places-within}
 use Rattle.many_body_call.proofs.ManyBodyCalled.{many-body-runs}
 use Rattle.many_body_call.proofs.on_part.Statement.{statement}
 use Rattle.many_body_call.proofs.on_part.Tie as tie
@@ -91,7 +91,7 @@ many-body-requires c κs =
     let a = s .args in
     let l = passed-lent s in
     let each = fits-each _ _ _ (l .pairs) (d .read-pairs .kept .1 .1 .1 .0 ∙ s .pre .2) (eqb-true (length (a .strengths .now)) (length (a .places .now) / 2) (l .lengths)) in (
-      can-build (input s) (force s) true (d .read-pairs .last .1 .1 .1 .0) (a .draws .now) (a .alpha ∷ []) (a .next .now) (a .tail .now) l (past e) (s .pre .3) (s .pre .4),
+      record { ranged = places-within (input s) (force s) (d .read-pairs .last .1 .1 .1 .0) (a .draws .now) (a .alpha ∷ []) (past e); few = l .few; links = s .pre .3; tails = s .pre .4 },
       (each .0, each .1, zero-le, small),
     )
 
