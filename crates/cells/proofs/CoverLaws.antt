@@ -5,11 +5,11 @@ use mathlib.Core.Bool.{true, false, true≢false, _&&_}
 use mathlib.Core.List.{List, [], _∷_, _++_, map, List·Memᴰ}
 use Prim.Native.Nat.{ℕ, _^_, _≤_, _<_}
 use lib.Dec.{T}
-use lib.IntN.{ℤ, natAbs, _-ℤ_, +ℤ-comm, +ℤ-negℤ-cancel}
+use lib.IntN.{ℤ, natAbs}
 use lib.Signed.{ltZ, leZ}
 use lib.Ieee.{Float, lt, le}
 use Rattle.rules.specs.declared.Extent.{Extent}
-use Rattle.rules.specs.Number.{_⊖_, within, xAt, yAt}
+use Rattle.rules.specs.Number.{within, xAt, yAt}
 use Rattle.rules.specs.Floor.{floor}
 use Rattle.rules.specs.Cell.{quadrant, quarter}
 use Rattle.rules.specs.Cover.{Square, inside, mostDoublings, Covered, holds, coverPoint, coverAll, whole, extentOf}

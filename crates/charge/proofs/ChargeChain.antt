@@ -1,112 +1,17 @@
--- Chains followed by their links: what is still to come, and that it falls at each turn. Assumes nothing.
-use mathlib.Core.Path.{_≡_, refl, sym, ap, _∙_, subst, subst⁻¹}
+-- That the chains of a tree have few members. Assumes nothing.
 use mathlib.Core.Bool.{Bool, true, false, cond}
 use mathlib.Core.List.{List, [], _∷_}
-use Prim.Native.Nat.{ℕ, zero, suc, _+_, _-_, _≤_, _<_}
-use native.Mathlib.Numerals.{add-one}
+use Prim.Native.Nat.{ℕ, suc, _≤_}
 use native.Mathlib.Omega.{arith}
-use lib.ListN.{length, getD}
+use lib.ListN.{length}
 use lib.Ieee.{Float}
-use Rattle.rules.specs.declared.Extent.{Extent}
-use Rattle.rules.specs.Plain.{keep, countFrom, upTo, branch}
-use Rattle.rules.specs.Cell.{quarter}
-use Rattle.rules.specs.Tree.{Tree, none, leaf, node, inQuarter, pointsIn, alike, grow, treeIn, treeOf}
+use Rattle.rules.specs.Plain.{keep, upTo}
+use Rattle.rules.proofs.CellCount.{length-upTo}
 use Rattle.slots.specs.declared.Quadtree.{Quadtree}
-use Rattle.slots.specs.Trees.{Follows, first, Stands, Below}
-use Rattle.walk.specs.Walk.{EachChain, ChainFrom}
-use Rattle.walk.proofs.WalkStands.{chains-cells}
-use Rattle.charge.specs.Charge.{Few, Chain}
-
--- the members that come from a link on
-abbrev pub Trails : List ℕ → ℕ → List ℕ → Type 0
-Trails next l [] = l ≡ 0
-Trails next l (i ∷ is) = (l ≡ i + 1) × Trails next (getD next i 0) is
-
-pub follows-trails : (next is : List ℕ) → Follows next is → Trails next (first is + 1) is
-follows-trails next [] h = absurd h
-follows-trails next (i ∷ []) h = (refl, h)
-follows-trails next (i ∷ j ∷ is) h = (refl, (h .0, follows-trails next (j ∷ is) (h .1) .1))
-
--- how many come from a link on, of at most k
-unfoldable pub linksLeft : List ℕ → ℕ → ℕ → ℕ
-linksLeft next zero l = 0
-linksLeft next (suc k) zero = 0
-linksLeft next (suc k) (suc i) = suc (linksLeft next k (getD next i 0))
-
-pub left-trails : (next : List ℕ) (k l : ℕ) (is : List ℕ) → Trails next l is → length is ≤ k → linksLeft next k l ≡ length is
-unfolding linksLeft
-left-trails next zero l [] t h = refl
-left-trails next (suc k) l [] t h = rw t
-left-trails next zero l (i ∷ is) t h = absurd (omega arith)
-left-trails next (suc k) l (i ∷ is) t h = rw (t .0, add-one i, left-trails next k (getD next i 0) is (t .1) (omega arith))
-
--- A chain of at most n members below n is followed, and has come to a link: what `act` makes of the members that are left is what it made of them all.
-pub record Along {S : Type 0} (act : S → List ℕ → S) (next : List ℕ) (n : ℕ) (whole : S) (link : ℕ) (now : S) : Type 0 where
-  pub rest : List ℕ
-  pub trails : Trails next link rest
-  pub good : Few n rest
-  pub same : act now rest ≡ whole
-
-module _ {S : Type 0} {act : S → List ℕ → S} {next : List ℕ} {n : ℕ} {whole : S} {link : ℕ} {now : S} (a : Along act next n whole link now) where
-  -- at the end
-  pub ends : link ≡ 0 → act now [] ≡ whole
-  ends z = go (a .rest) (a .trails) (a .same)
-    where
-      go : (is : List ℕ) → Trails next link is → act now is ≡ whole → act now [] ≡ whole
-      go [] t e = e
-      go (i ∷ is) t e = absurd (omega (arith, z, t .0))
-
-  module _ (z : link ≡ 0 → ⊥) where
-    -- the next member, and those after it
-    split : (i : ℕ) × (is : List ℕ) × (a .rest ≡ i ∷ is) × (link ≡ i + 1)
-    split = go (a .rest) (a .trails)
-      where
-        go : (is : List ℕ) → Trails next link is → (i : ℕ) × (js : List ℕ) × (is ≡ i ∷ js) × (link ≡ i + 1)
-        go [] t = absurd (z t)
-        go (i ∷ is) t = (i, is, refl, t .0)
-
-    member : split .0 ≡ link - 1
-    member = omega (arith, split .3)
-
-    parts : Trails next link (split .0 ∷ split .1) × Few n (split .0 ∷ split .1) × (act now (split .0 ∷ split .1) ≡ whole)
-    parts = (subst (Trails next link) (split .2) (a .trails), subst (Few n) (split .2) (a .good), ap (act now) (sym (split .2)) ∙ a .same)
-
-    pub in-reach : link - 1 < n
-    in-reach = subst (λ (i : ℕ). i < n) member (parts .1 .below .0)
-
-    -- the member has acted
-    pub along : (s : S) → ((is : List ℕ) → act now ((link - 1) ∷ is) ≡ act s is) → Along act next n whole (getD next (link - 1) 0) s
-    along s e =
-        record {
-          rest = split .1;
-          trails = subst (λ (i : ℕ). Trails next (getD next i 0) (split .1)) member (parts .0 .1);
-          good = record { below = parts .1 .below .1; few = omega (arith, parts .1 .few) };
-          same = sym (e (split .1)) ∙ ap (λ (i : ℕ). act now (i ∷ split .1)) (sym member) ∙ parts .2;
-        }
-
-    -- fewer are left
-    pub fewer : linksLeft next n (getD next (link - 1) 0) < linksLeft next n link
-    fewer =
-        omega (
-          arith,
-          left-trails next n link (split .0 ∷ split .1) (parts .0) (parts .1 .few),
-          left-trails next n (getD next (link - 1) 0) (split .1) (subst (λ (i : ℕ). Trails next (getD next i 0) (split .1)) member (parts .0 .1)) (omega (arith, parts .1 .few)),
-        )
-
--- ---- the chains of a tree
-
-module _ (P : List ℕ → Type 0) (kept : (p : ℕ → Bool) (is : List ℕ) → P is → P (keep p is)) (at : List Float) where
-  chains-grow : (k : ℕ) (c : Extent) (is : List ℕ) → P is → EachChain P (grow at k c is)
-  unfolding grow
-  chains-grow zero c is h = tt
-  chains-grow (suc k) c [] h = tt
-  chains-grow (suc k) c (i ∷ is) h = go (alike at (i ∷ is)) (λ q. chains-grow k (quarter q c) (pointsIn at c q (i ∷ is)) (kept (inQuarter at c q) (i ∷ is) h))
-    where
-      go : (b : Bool) → ((q : ℕ) → EachChain P (grow at k (quarter q c) (pointsIn at c q (i ∷ is))))
-          → EachChain P (branch b (λ _. leaf c (i ∷ is)) (λ _. node c (grow at k (quarter 0 c) (pointsIn at c 0 (i ∷ is))) (grow at k (quarter 1 c) (pointsIn at c 1 (i ∷ is)))
-          (grow at k (quarter 2 c) (pointsIn at c 2 (i ∷ is))) (grow at k (quarter 3 c) (pointsIn at c 3 (i ∷ is)))))
-      go true f = h
-      go false f = (f 0, f 1, f 2, f 3)
+use Rattle.slots.specs.Trees.{Stands}
+use Rattle.walk.specs.Walk.{EachChain}
+use Rattle.walk.proofs.WalkStands.{below-keep, below-upTo, chains-have}
+use Rattle.chains.specs.Chain.{Few}
 
 shorter : (p : ℕ → Bool) (is : List ℕ) → length (keep p is) ≤ length is
 shorter p [] = omega arith
@@ -117,61 +22,10 @@ shorter p (i ∷ is) = go (p i) (shorter p is)
     go false h = omega arith
 
 few-keep : (n : ℕ) (p : ℕ → Bool) (is : List ℕ) → Few n is → Few n (keep p is)
-few-keep n p [] h = h
-few-keep n p (i ∷ is) h = go (p i) (few-keep n p is (record { below = h .below .1; few = omega (arith, h .few) })) (shorter p is)
-  where
-    go : (b : Bool) → Few n (keep p is) → length (keep p is) ≤ length is → Few n (cond b (i ∷ keep p is) (keep p is))
-    go true k s = record { below = (h .below .0, k .below); few = omega (arith, h .few, s) }
-    go false k s = k
+few-keep n p is h = record { below = below-keep n p is (h .below); few = omega (arith, shorter p is, h .few) }
 
-pub count-length : (i k : ℕ) → length (countFrom i k) ≡ k
-count-length i zero = refl
-count-length i (suc k) = ap suc (count-length (i + 1) k)
+few-upTo : (n : ℕ) → Few n (upTo n)
+few-upTo n = record { below = below-upTo n; few = omega (arith, length-upTo n) }
 
-few-count : (n i k : ℕ) → i + k ≤ n → Few n (countFrom i k)
-few-count n i zero h = record { below = tt; few = omega arith }
-few-count n i (suc k) h = let r = few-count n (i + 1) k (omega arith) in record { below = (omega arith, r .below); few = omega (arith, count-length (i + 1) k) }
-
-few-tree : (at : List Float) (n : ℕ) → EachChain (Few n) (treeOf at n)
-unfolding treeOf treeIn
-few-tree at n = chains-grow (Few n) (few-keep n) at _ _ (upTo n) (few-count n 0 n (omega arith))
-
-pub chains-few : {at : List Float} {n : ℕ} {m next : List ℕ} {q : Quadtree} (s : Stands at n m next q) → EachChain (Few n) (s .tree)
-chains-few {at} {n} {q = q} s = chains-cells (Few n) (q .extent) (s .tree) (subst (EachChain (Few n)) (sym (s .is)) (few-tree at n))
-
--- ---- the chain of a leaf
-
-abbrev pub restOf : List ℕ → List ℕ
-restOf [] = []
-restOf (i ∷ is) = is
-
-module _ {next : List ℕ} {n f : ℕ} (h : Chain next n f) where
-  -- its first particle and the rest
-  pub chain-whole : h .members ≡ f ∷ restOf (h .members)
-  chain-whole = go (h .members) (h .follows) (h .starts)
-    where
-      go : (is : List ℕ) → Follows next is → first is ≡ f → is ≡ f ∷ restOf is
-      go [] l e = absurd l
-      go (i ∷ is) l e = ap (λ (j : ℕ). j ∷ is) e
-
-  pieces : Trails next (f + 1) (f ∷ restOf (h .members)) × Few n (f ∷ restOf (h .members))
-  pieces = (
-    subst (Trails next (f + 1)) chain-whole (subst (λ (i : ℕ). Trails next (i + 1) (h .members)) (h .starts) (follows-trails next (h .members) (h .follows))),
-    subst (Few n) chain-whole (h .good),
-  )
-
-  pub chain-first : f < n
-  chain-first = pieces .1 .below .0
-
-  pub chain-trails : Trails next (f + 1) (h .members)
-  chain-trails = subst⁻¹ (Trails next (f + 1)) chain-whole (pieces .0)
-
-  pub rest-trails : Trails next (getD next f 0) (restOf (h .members))
-  rest-trails = pieces .0 .1
-
-  pub rest-few : Few n (restOf (h .members))
-  rest-few = record { below = pieces .1 .below .1; few = omega (arith, pieces .1 .few) }
-
--- from its beginning on
-pub alongside : {S : Type 0} {act : S → List ℕ → S} {next : List ℕ} {n link : ℕ} {is : List ℕ} (s : S) → Trails next link is → Few n is → Along act next n (act s is) link s
-alongside {is = is} s t f = record { rest = is; trails = t; good = f; same = refl }
+pub chains-few : {at : List Float} {n : ℕ} {m next : List ℕ} {q : Quadtree} → (s : Stands at n m next q) → EachChain (Few n) (s .tree)
+chains-few {n = n} s = chains-have s (Few n) (few-keep n) (few-upTo n)

@@ -1,31 +1,22 @@
 -- Charges of leaves and nodes as the code sums them, and that they can be laid in a slot. Assumes nothing.
-use mathlib.Core.Path.{_≡_, refl, sym, ap, _∙_}
-use mathlib.Core.List.{List, [], _∷_, map}
+use mathlib.Core.Path.{_≡_, refl}
+use mathlib.Core.List.{List, [], _∷_}
 use Prim.Native.Nat.{ℕ}
 use lib.Dec.{T}
-use lib.ListN.{length, getD}
+use lib.ListN.{getD}
 use lib.Ieee.{Float, nan, fits, binary64}
 use lib.Ieee.Bits.{ofBits-fits}
 use lib.Ieee.Fits.{nan-fits, add-fits, div-fits}
 use Rattle.rules.specs.Plain.{foldl}
-use Rattle.rules.specs.Number.{_⊕_, _⊘_, 0·, xAt, yAt}
-use Rattle.rules.specs.ManyBody.{Charge, charge, Sums, withChild, nodeCharge, strengthOf, leafCharge}
+use Rattle.rules.specs.Number.{_⊘_, 0·, xAt, yAt}
+use Rattle.rules.specs.ManyBody.{Charge, charge, Sums, withChild, nodeCharge, leafCharge}
 use Rattle.walk.proofs.WalkValues.{Writes, three-values}
-use Rattle.charge.specs.Charge.{readCharge, putCharge, Few, Chain}
-use Rattle.charge.proofs.ChargeChain.{restOf, chain-whole}
-
--- the strengths of more members added
-abbrev pub added : List Float → Float → List ℕ → Float
-added strengths s is = foldl _⊕_ s (map (strengthOf strengths) is)
-
-leaf-of : (at strengths : List Float) (is : List ℕ) (f : ℕ) (js : List ℕ) → is ≡ f ∷ js → leafCharge at strengths is ≡ charge (xAt at f) (yAt at f) (strengthOf strengths f ⊕ added strengths 0· js)
-unfolding leafCharge
-leaf-of at strengths is f js e = rw e
+use Rattle.chains.specs.Chain.{Few, Chain}
+use Rattle.chains.proofs.Chains.{restOf, chain-whole}
+use Rattle.chains.proofs.Strengths.{leaf-of}
+use Rattle.charge.specs.Charge.{readCharge, putCharge}
 
 module _ {next : List ℕ} {n f : ℕ} (h : Chain next n f) (strengths : List Float) where
-  pub chain-sum : (own rest : Float) → own ≡ strengthOf strengths f → rest ≡ added strengths 0· (restOf (h .members)) → own ⊕ rest ≡ leafCharge strengths strengths (h .members) .strength
-  chain-sum own rest p q = rw (p, q, leaf-of strengths strengths (h .members) f (restOf (h .members)) (chain-whole h))
-
   pub leaf-charge : (at : List Float) (s : Float) → s ≡ leafCharge strengths strengths (h .members) .strength → charge (xAt at f) (yAt at f) s ≡ leafCharge at strengths (h .members)
   leaf-charge at s e = rw (e, leaf-of strengths strengths (h .members) f (restOf (h .members)) (chain-whole h), leaf-of at strengths (h .members) f (restOf (h .members)) (chain-whole h))
 

@@ -1,13 +1,12 @@
--- A node's charge as its value words hold it, and what a chain is like that is followed by its links. Definitions only.
+-- A node's charge as its value words hold it. Definitions only.
 use mathlib.Core.List.{List}
-use Prim.Native.Nat.{ℕ, _≤_}
+use Prim.Native.Nat.{ℕ}
 use lib.ListN.{length}
 use lib.Ieee.{Float}
 use Rattle.rules.specs.ManyBody as Rule
 use Rattle.rules.specs.ManyBody.{charge, leafCharge, nodeCharge}
 use Rattle.slots.specs.declared.Quadtree.{Quadtree}
-use Rattle.slots.specs.Trees.{value, putValue, Below}
-use Rattle.walk.specs.Walk.{ChainFrom}
+use Rattle.slots.specs.Trees.{value, putValue}
 use Rattle.walk.specs.WalkAfter.{Valued}
 use Rattle.charge.specs.declared.Charge.{Charge}
 use Rattle.charge.specs.declared.Sums.{Sums}
@@ -28,17 +27,6 @@ readCharge m s = charge (value m s 0) (value m s 1) (value m s 2)
 
 abbrev pub putCharge : List ℕ → ℕ → Rule.Charge → List ℕ
 putCharge m s q = putValue (putValue (putValue m s 0 (q .x)) s 1 (q .y)) s 2 (q .strength)
-
--- ---- chains
-
--- at most n members, each below n
-pub record Few (n : ℕ) (is : List ℕ) : Type 0 where
-  pub below : Below n is
-  pub few : length is ≤ n
-
--- the chain of a leaf whose first particle is f
-abbrev pub Chain : List ℕ → ℕ → ℕ → Type 0
-Chain next n f = ChainFrom next (Few n) f
 
 -- ---- the tree with its charges
 

@@ -1,8 +1,8 @@
 // many_body.rs: the charge of each node, laid in its value words, children first.
+use chains::chain_strength;
 use force::index;
 use force::wide;
 use number::abs;
-use number::plain_zero;
 use slots::Quadtree;
 use slots::store;
 use walk::visit_after;
@@ -12,10 +12,11 @@ ghost use Prim.Native.Nat.{_+_, _*_, _≤_, _<_};
 ghost use lib.ListN.{length};
 ghost use Rattle.rules.specs.Plain.{foldl};
 ghost use Rattle.rules.specs.Number.{_⊗_};
-ghost use Rattle.rules.specs.ManyBody.{strengthOf, withChild, nodeCharge, leafCharge};
+ghost use Rattle.rules.specs.ManyBody.{withChild, nodeCharge, leafCharge};
 ghost use Rattle.slots.specs.Trees.{Stands};
 ghost use Rattle.walk.specs.WalkAfter.{Lent, KidsLent, valuesAt, kidValues};
-ghost use Rattle.charge.specs.Charge.{chargeOf, sumsOf, readCharge, putCharge, Chain, Charged};
+ghost use Rattle.chains.specs.Chain.{Chain};
+ghost use Rattle.charge.specs.Charge.{chargeOf, sumsOf, readCharge, putCharge, Charged};
 
 // A place and the strength that acts from there.
 pub struct Charge {
@@ -30,30 +31,6 @@ pub struct Sums {
     pub y: f64,
     pub strength: f64,
     pub weight: f64,
-}
-
-// Of particle j; -0.0 is read as 0.0.
-pub fn strength_of(strengths: &[f64], j: usize) -> f64
-    requires { ⌜ j < length (now strengths) ⌝ }
-    ensures { λ r. ⌜ r ≡ strengthOf (now (strengths .entry)) j ⌝ }
-{
-    plain_zero(strengths[j])
-}
-
-// The first particle's strength plus the sum of the rest of its chain, from 0.0.
-fn chain_strength(strengths: &[f64], next: &[u32], f: usize) -> f64
-    requires { ⌜ Chain (now next) (length (now strengths)) f × (length (now next) ≡ length (now strengths)) ⌝ }
-    ensures { λ r. ⌜ ((h : Chain (now (next .entry)) (length (now (strengths .entry))) f) → r ≡ leafCharge (now (strengths .entry)) (now (strengths .entry)) (h .members) .strength) ⌝ }
-{
-    let own = strength_of(strengths, f);
-    let mut link = next[f];
-    let mut rest = 0.0;
-    while link != 0 {
-        let j = wide(link - 1);
-        rest = rest + strength_of(strengths, j);
-        link = next[j];
-    }
-    own + rest
 }
 
 // A leaf has its first particle's place.

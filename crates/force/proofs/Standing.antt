@@ -2,15 +2,13 @@
 use mathlib.Core.Path.{_≡_, refl}
 use mathlib.Core.Bool.{Bool, true, false, cond, _&&_}
 use mathlib.Core.List.{List}
-use Prim.Native.Nat.{_-_}
 use borrow.Author.Tests.{eq-eqb, ne-eqb}
 use lib.Dec.{eqb}
 use lib.Ieee.{Float}
 use Rattle.rules.specs.Plain.{all}
 use Rattle.rules.specs.Number.{within, finite}
-use Rattle.rules.specs.Outcome.{refused, refusal, fine, require, _then_, refusalOf, zeroesWork}
+use Rattle.rules.specs.Outcome.{refused, fine, require, _then_, refusalOf, zeroesWork}
 use Rattle.rules.specs.Refusal.{resultCheck}
-use Rattle.rules.specs.Force.{run}
 use Rattle.force.specs.declared.Ran.{Ran}
 use Rattle.force.specs.Ran.{standing}
 

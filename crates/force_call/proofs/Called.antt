@@ -14,7 +14,7 @@ use Rattle.rules.specs.declared.Refusal.{Refusal}
 use Rattle.rules.specs.declared.Counts.{Counts}
 use Rattle.rules.specs.Plain.{overwritten, zeros}
 use Rattle.rules.specs.Number.{drawRange}
-use Rattle.rules.specs.Outcome.{Outcome, done, refused, refusal, Check, fine, _then_, _>>=_, refusalOf, zeroesWork}
+use Rattle.rules.specs.Outcome.{Outcome, done, refused, Check, fine, _then_, _>>=_, refusalOf, zeroesWork}
 use Rattle.rules.specs.Refusal.{mostParticles, countCheck, lengthsCheck, resultCheck, drawsCheck, settingsCheck}
 use Rattle.rules.specs.Sheet.{wordOf, wordAt, pairsFrom, pairsBytes}
 use Rattle.rules.specs.Walk.{Counted, counted}

@@ -17,8 +17,8 @@ use Rattle.force.specs.declared.Ran.{Ran}
 use Rattle.lists.proofs.Checks.{then-both, and-both}
 use Rattle.checks.specs.Fits.{Fits}
 use Rattle.checks.proofs.Entries.{entriesLeft, entries-left, entries-none, bind-then}
-use Rattle.stages.specs.Stage.{SlotFits, stateOf, stagedOf}
-use Rattle.stages.proofs.Staged.{staged-refused, staged-done}
+use Rattle.columns.specs.Stage.{SlotFits, stateOf, stagedOf}
+use Rattle.columns.proofs.Staged.{staged-refused, staged-done}
 
 -- ---- what 1, 2 and 3 say of the first slot and of the others
 

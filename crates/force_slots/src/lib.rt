@@ -2,15 +2,15 @@
 use checks::entry::entry_at;
 use checks::entry::links_needed;
 use checks::entry::numbers_needed;
+use columns::untouched;
 use force::Ran;
 use stages::stage::stage;
-use stages::stage::untouched;
 ghost use Prim.Native.Nat.{_+_, _/_, _<_, _^_};
 ghost use lib.ListN.{length};
 ghost use Rattle.rules.specs.Outcome.{foldStages};
 ghost use Rattle.rules.specs.Tick.{entriesOf, forcesFrom, forceStage};
 ghost use Rattle.checks.specs.Fits.{Fits};
-ghost use Rattle.stages.specs.Stage.{Columns, Chains, stateOf, Stages};
+ghost use Rattle.columns.specs.Stage.{Columns, Chains, stateOf, Stages};
 
 // Each slot on the state that the one before it left; its lists begin where those of the one before it end.
 pub fn run_slots(

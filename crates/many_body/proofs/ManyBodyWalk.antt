@@ -20,7 +20,8 @@ use Rattle.slots.specs.Trees.{word, Follows, first}
 use Rattle.walk.specs.Walk.{stackOf, Sized, lay, seen}
 use Rattle.walk.proofs.Walking.{Walking, Turn, start, turn-refused, turn-refused-leaf}
 use Rattle.walk.proofs.WalkStands.{found, nodes-stands}
-use Rattle.charge.specs.Charge.{readCharge, Few, Charged}
+use Rattle.chains.specs.Chain.{Few}
+use Rattle.charge.specs.Charge.{readCharge, Charged}
 use Rattle.charge.proofs.ChargeChain.{chains-few}
 
 -- what is read at a slot whose cell is given

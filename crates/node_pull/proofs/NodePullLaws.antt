@@ -1,8 +1,8 @@
 -- What the steps of ManyBody's code answer, against the rules. Assumes nothing.
-use mathlib.Core.Path.{_≡_, refl, sym, ap, _∙_, subst}
-use mathlib.Core.Bool.{Bool, true, false, cond, not, _||_}
+use mathlib.Core.Path.{_≡_, refl, sym, ap, _∙_}
+use mathlib.Core.Bool.{Bool, true, false, cond, _||_}
 use mathlib.Core.List.{List, [], _∷_}
-use Prim.Native.Nat.{ℕ, _+_}
+use Prim.Native.Nat.{ℕ}
 use native.Mathlib.Omega.{arith}
 use lib.Dec.{eqb}
 use lib.ListN.{getD, drop}
@@ -12,55 +12,21 @@ use Rattle.rules.specs.declared.Extent.{Extent}
 use Rattle.rules.specs.declared.Tuning.{Tuning}
 use Rattle.rules.specs.declared.Visit.{Visit}
 use Rattle.rules.specs.declared.Visit.the-variants.{Continue, Skip}
-use Rattle.rules.specs.Plain.{foldl, branch, keep}
+use Rattle.rules.specs.Plain.{branch}
 use Rattle.rules.specs.Outcome.{Outcome, done, refused, refusal, _>>=_}
 use Rattle.rules.specs.Number.{_⊕_, _⊗_, _⊘_}
 use Rattle.rules.specs.Walk.{internal, tip, After, after}
-use Rattle.rules.specs.Flow.{Flow, flow, Gap, gap, Shaken, shaken, length², lengthened, pushed}
-use Rattle.rules.specs.ManyBody.{Charge, far, softened, others, alone, strengthOf, pullWhole, pullMember, pullMembers, acted, actFar, actNear, meetNode, gapTo, manyBodyStep}
+use Rattle.rules.specs.Flow.{Flow, flow, Gap, gap, length², pushed}
+use Rattle.rules.specs.ManyBody.{Charge, far, alone, pullWhole, pullMembers, acted, actFar, actNear, meetNode, gapTo, manyBodyStep}
 use Rattle.slots.specs.Trees.{Follows, first}
-use Rattle.force.specs.declared.draws.Jiggled.{Jiggled}
 use Rattle.force.specs.declared.draws.Spent.{Spent}
-use Rattle.node_pull.specs.declared.Aim.{Aim}
+use Rattle.pulls.specs.declared.aim.Aim.{Aim}
+use Rattle.pulls.specs.Aims.{aimed, aimOf}
+use Rattle.pulls.proofs.AimLaws.{acted-dry, acted-on}
 use Rattle.node_pull.specs.declared.Met.{Met}
-use Rattle.force.specs.Draws.{shakenOf, spentOf}
-use Rattle.charge.specs.Charge.{Chain}
-use Rattle.node_pull.specs.NodePull.{Aimed, aimAt, aimed, aimOf, metOf}
-
--- ---- the aim
-
-module _ (t : Tuning) (ds left : List Float) (g : Gap) (l : Float) where
-  pub aim-is : (j : Jiggled) (n : Float) → shakenOf ds j ≡ shaken g left → n ≡ softened t (lengthened l g (gap (j .x) (j .y)))
-      → aimOf ds (record { x = j .x; y = j .y; l = n; used = j .used; dry = j .dry }) ≡ aimed t g l left
-  unfolding aimOf aimed shakenOf
-  aim-is j n e k = rw (← e, k) (go (j .dry))
-    where
-      go : (b : Bool)
-          → cond b (refused (refusal 8 0)) (done (aimAt (gap (j .x) (j .y)) (softened t (lengthened l g (gap (j .x) (j .y)))) (drop (j .used) ds)))
-          ≡ (cond b (refused (refusal 8 0)) (done (record { gap = gap (j .x) (j .y); left = drop (j .used) ds }))
-          >>= λ (s : Shaken). done (aimAt (s .gap) (softened t (lengthened l g (s .gap))) (s .left)))
-      go true = refl
-      go false = refl
-
--- what follows an aim
-follow : {A B C : Type 0} (o : Outcome A) (f : A → B) (h : B → C) → (o >>= λ a. done (h (f a))) ≡ (o >>= (λ a. done (f a)) >>= λ b. done (h b))
-follow (done a) f h = refl
-follow (refused r) f h = refl
-
-module _ (t : Tuning) (strengths : List Float) (alpha : Float) (i : ℕ) (pull : Gap → Float → List Float → List Float) (g : Gap) (l : Float) (vs left ds : List Float) (a : Aim) (e : aimOf ds a ≡ aimed t g l left) where
-  acted-aim : acted t strengths alpha i pull g l (flow vs left) ≡ (aimOf ds a >>= λ b. done (flow (pull (b .gap) (b .length) vs) (b .left)))
-  unfolding aimed
-  acted-aim =
-      follow (shaken g left) (λ s. aimAt (s .gap) (softened t (lengthened l g (s .gap))) (s .left)) (λ b. flow (pull (b .gap) (b .length) vs) (b .left))
-      ∙ ap (λ (o : Outcome Aimed). o >>= λ b. done (flow (pull (b .gap) (b .length) vs) (b .left))) (sym e)
-
-  pub acted-dry : a .dry ≡ true → refused (refusal 8 0) ≡ acted t strengths alpha i pull g l (flow vs left)
-  unfolding aimOf
-  acted-dry d = sym (acted-aim ∙ rw d)
-
-  pub acted-on : a .dry ≡ false → {ws : List Float} → ws ≡ pull (gap (a .x) (a .y)) (a .l) vs → done (flow ws (drop (a .used) ds)) ≡ acted t strengths alpha i pull g l (flow vs left)
-  unfolding aimOf
-  acted-on d {ws} p = sym (acted-aim ∙ rw (d, p))
+use Rattle.force.specs.Draws.{spentOf}
+use Rattle.chains.specs.Chain.{Chain}
+use Rattle.node_pull.specs.NodePull.{metOf}
 
 -- ---- a far cell
 
@@ -82,22 +48,6 @@ module _ (t : Tuning) (alpha : Float) (i : ℕ) (q : Charge) (g : Gap) (l : Floa
 -- ---- a near leaf
 
 module _ (t : Tuning) (strengths : List Float) (alpha : Float) (i : ℕ) (g : Gap) (l : Float) where
-  -- the particle itself doesn't act
-  pub member-self : (vs : List Float) (j : ℕ) → j ≡ i → vs ≡ pullMembers t strengths alpha i (j ∷ []) g l vs
-  member-self vs j e = rw (eq-eqb j i e)
-
-  pub member-other : (vs ws : List Float) (j : ℕ) → (j ≡ i → ⊥) → ws ≡ pullMember t strengths alpha i g l vs j → ws ≡ pullMembers t strengths alpha i (j ∷ []) g l vs
-  member-other vs ws j n e = rw (ne-eqb j i n, e)
-
-  -- one member after the other
-  pub member-on : (vs ws : List Float) (j : ℕ) → ws ≡ pullMembers t strengths alpha i (j ∷ []) g l vs → (is : List ℕ) → pullMembers t strengths alpha i (j ∷ is) g l vs ≡ pullMembers t strengths alpha i is g l ws
-  member-on vs ws j e is = go (eqb j i) e
-    where
-      go : (b : Bool) → ws ≡ foldl (pullMember t strengths alpha i g l) vs (cond (not b) (j ∷ []) [])
-          → foldl (pullMember t strengths alpha i g l) vs (cond (not b) (j ∷ others i is) (others i is)) ≡ foldl (pullMember t strengths alpha i g l) ws (others i is)
-      go true e = rw e
-      go false e = rw e
-
   -- nothing is drawn
   pub near-alone : (is : List ℕ) (σ : Flow) → alone i is ≡ true → done σ ≡ actNear t strengths alpha i is g l σ
   unfolding actNear

@@ -1,38 +1,28 @@
 // ManyBody for one particle at one node: a far cell pulls it as a whole, the members of a near leaf one by one.
 use charge::Charge;
 use charge::charge_at;
-use charge::strength_of;
 use force::Spent;
 use force::index;
 use force::push_on;
-use force::shaken;
-use force::wide;
+use pulls::pull_members;
+use pulls::take_aim;
 use rules::Extent;
 use rules::Tuning;
 use rules::Visit;
 use slots::store;
-use square_root::root;
 ghost use mathlib.Core.Path.{_≡_};
 ghost use mathlib.Core.List.{[], _∷_};
 ghost use Prim.Native.Nat.{ℕ, _+_, _*_, _-_, _≤_, _<_};
 ghost use lib.ListN.{length, drop};
-ghost use Rattle.rules.specs.Flow.{gap, flow, lengthened};
+ghost use Rattle.rules.specs.Flow.{gap, flow};
 ghost use Rattle.rules.specs.ManyBody as Rule;
 ghost use Rattle.rules.specs.declared.Tuning as T;
 ghost use Rattle.rules.specs.Walk.{internal, tip};
 ghost use Rattle.slots.specs.Trees.{word};
 ghost use Rattle.force.specs.Draws.{spentOf, From};
-ghost use Rattle.charge.specs.Charge.{chargeOf, readCharge, Chain};
-ghost use Rattle.node_pull.specs.NodePull.{aimed, aimOf, metOf, Bodies};
-
-// A gap with neither difference zero and its length, or dry where a draw was needed and none was left.
-pub struct Aim {
-    pub x: f64,
-    pub y: f64,
-    pub l: f64,
-    pub used: usize,
-    pub dry: bool,
-}
+ghost use Rattle.chains.specs.Chain.{Chain};
+ghost use Rattle.charge.specs.Charge.{chargeOf, readCharge};
+ghost use Rattle.node_pull.specs.NodePull.{metOf, Bodies};
 
 // What a node that was met leaves.
 pub struct Met {
@@ -47,48 +37,6 @@ fn is_far(t: Tuning, c: Extent, l: f64) -> bool
 {
     let w = c.x1 - c.x0;
     w * w / t.theta2 < l
-}
-
-// No closer than the least distance.
-fn soften(t: Tuning, l: f64) -> f64
-    ensures { λ r. ⌜ r ≡ Rule.softened t l ⌝ }
-{
-    if l < t.least2 {
-        return root(t.least2 * l);
-    }
-    l
-}
-
-// The square of each draw is added: of the differences x and y as they were, and a and b as they are now.
-fn lengthen(l: f64, x: f64, y: f64, a: f64, b: f64) -> f64
-    ensures { λ r. ⌜ r ≡ lengthened l (gap x y) (gap a b) ⌝ }
-{
-    if x == 0.0 {
-        if y == 0.0 {
-            return l + a * a + b * b;
-        }
-        return l + a * a;
-    }
-    if y == 0.0 {
-        return l + b * b;
-    }
-    l
-}
-
-// The draws that are needed, and the length that follows.
-fn take_aim(t: Tuning, draws: &[f64], used: usize, x: f64, y: f64, l: f64) -> Aim
-    requires { ⌜ used ≤ length (now draws) ⌝ }
-    ensures { λ r. ⌜ (aimOf (now (draws .entry)) r ≡ aimed t (gap x y) l (drop used (now (draws .entry)))) × From (now (draws .entry)) used (r .used) ⌝ }
-{
-    let g = shaken(draws, used, x, y);
-    let longer = soften(t, lengthen(l, x, y, g.x, g.y));
-    Aim {
-        x: g.x,
-        y: g.y,
-        l: longer,
-        used: g.used,
-        dry: g.dry,
-    }
 }
 
 // A far cell acts whole.
@@ -131,50 +79,6 @@ fn act_far(
         };
     }
     Spent { used, dry: false }
-}
-
-// A member j of a near leaf acts, unless it is the particle itself.
-fn pull_member(
-    vs: &mut [f64],
-    strengths: &[f64],
-    alpha: f64,
-    i: usize,
-    x: f64,
-    y: f64,
-    l: f64,
-    j: usize,
-)
-    requires { ⌜ (i * 2 + 1 < length (now vs)) × (j < length (now strengths)) ⌝ }
-    ensures { λ _. ⌜ ((t : T.Tuning) → now (vs .exit) ≡ Rule.pullMembers t (now (strengths .entry)) alpha i (j ∷ []) (gap x y) l (now (vs .entry))) ⌝ }
-{
-    if j == i {
-        return;
-    }
-    let w = strength_of(strengths, j) * alpha / l;
-    push_on(vs, i, x * w, y * w);
-}
-
-// All members of a near leaf but the particle itself, from the chain's first.
-fn pull_members(
-    vs: &mut [f64],
-    strengths: &[f64],
-    alpha: f64,
-    i: usize,
-    x: f64,
-    y: f64,
-    l: f64,
-    next: &[u32],
-    f: usize,
-)
-    requires { ⌜ (i * 2 + 1 < length (now vs)) × Chain (now next) (length (now strengths)) f × (length (now next) ≡ length (now strengths)) × (length (now strengths) ≤ 4096) ⌝ }
-    ensures { λ _. ⌜ ((t : T.Tuning) (h : Chain (now (next .entry)) (length (now (strengths .entry))) f) → now (vs .exit) ≡ Rule.pullMembers t (now (strengths .entry)) alpha i (h .members) (gap x y) l (now (vs .entry))) ⌝ }
-{
-    let mut link = (f + 1) as u32;
-    while link != 0 {
-        let j = wide(link - 1);
-        pull_member(vs, strengths, alpha, i, x, y, l, j);
-        link = next[j];
-    }
 }
 
 // Whether the particle i is alone in the leaf whose first particle is f.

@@ -1,6 +1,6 @@
 -- The floor against whole floats: x is at or above one where its floor is. Assumes nothing.
 use mathlib.Core.Path.{_≡_, refl, sym, ap, _∙_, subst}
-use mathlib.Core.Bool.{Bool, true, false, not, _&&_}
+use mathlib.Core.Bool.{Bool, true, false, not}
 use Prim.Native.Nat.{ℕ, zero, suc, _+_, _*_, _/_, _^_, _≤_, _<_}
 use native.Mathlib.Nat.{le-trans, le-of-eq, mul-comm, mul-one, mul-right-comm, mul-le-mul-right, le-of-mul-le-mul-right, le-div-iff-mul-le, div-le-of-le-mul}
 use native.Mathlib.Omega.{arith}

@@ -9,7 +9,7 @@ use lib.Ieee.{Float}
 use Rattle.rules.specs.declared.Extent.{Extent}
 use Rattle.rules.specs.Plain.{upTo}
 use Rattle.rules.specs.Number.{within, xAt, yAt}
-use Rattle.rules.specs.Tree.{Tree, none, leaf, node, depth, nodes, same}
+use Rattle.rules.specs.Tree.{Tree, none, leaf, node, depth, same}
 use Rattle.rules.proofs.CellList.{In, both}
 use Rattle.rules.proofs.CellChain.{Points}
 use Rattle.rules.proofs.CellRule.{points}

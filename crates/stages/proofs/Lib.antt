@@ -1,5 +1,1 @@
-pub mod Flags
-pub mod Staged
 mod Slot
-mod ByColumns
-pub mod Begun

@@ -1,4 +1,4 @@
--- One force slot: what 1, 2 and 3 say of its lists, and which force it is.
+-- One force slot: what 1, 2 and 3 say of its lists, which force it is, and that a tree can be built of its particles.
 use mathlib.Core.Path.{_≡_, refl, _∙_}
 use mathlib.Core.Bool.{true}
 use mathlib.Core.List.{List}
@@ -17,7 +17,9 @@ use Rattle.link.specs.Links.{EndsLent, ListsLent}
 use Rattle.link.proofs.EndsRange.{ends-range}
 use Rattle.lists.proofs.Checks.{then-both, require-true}
 use Rattle.checks.proofs.Parts.{first-ends}
-use Rattle.stages.specs.Stage.{SlotFits}
+use Rattle.columns.specs.Stage.{Columns, Chains, SlotFits}
+use Rattle.quadtree.specs.Build as Build
+use Rattle.sheet.proofs.Checked.{all-ranged}
 
 -- ---- which force
 
@@ -119,3 +121,14 @@ module _ {n s k : ℕ} {xs : List Float} {ls : List ℕ} (h : LinkFits n s k xs 
 
       distances-long : length (take d (drop s xs)) ≡ k
       distances-long = length-take-le d (drop s xs) (simp length-drop (omega (arith, h .numbers))) ∙ e
+
+-- ---- what a tree is built of
+
+pub can-build : {places speeds ds : List Float} {next tail : List ℕ} {n used : ℕ} → Columns places speeds ds n used → Chains n next tail → Build.Lent places next tail
+can-build {places} h k =
+    record {
+      ranged = all-ranged places (h .ranged);
+      few = omega (arith, h .few, h .places);
+      links = omega (arith, k .links, h .places);
+      tails = omega (arith, k .tails, h .places);
+    }

@@ -1,3 +1,2 @@
-// Particles by columns: read from a sheet and written back, and one force slot of a tick run on them.
-pub mod columns;
+// One force slot of a tick, run on particles by columns.
 pub mod stage;

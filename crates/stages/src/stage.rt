@@ -1,14 +1,14 @@
 // One force slot of a tick: the force of its kind runs, then 9 is tested.
+use center::center_all;
 use collide::collide::collide;
+use columns::settled;
+use columns::untouched;
 use force::Ran;
 use force::index;
 use link::link::link;
-use lists::result_check;
 use many_body::many_body::many_body;
 use many_body::standard;
-use moves::center::center_all;
 use rules::ForceEntry;
-use rules::Refusal;
 ghost use mathlib.Core.Path.{_≡_};
 ghost use mathlib.Core.List.{List};
 ghost use Prim.Native.Nat.{ℕ, _+_, _*_, _/_, _%_, _<_, _≤_, _^_};
@@ -20,37 +20,7 @@ ghost use Rattle.rules.specs.Tick as Rule;
 ghost use Rattle.rules.specs.Outcome.{fine};
 ghost use Rattle.rules.specs.Tick.{entryCounts, numbersNeeded, forceOf, pushStage, forceStage};
 ghost use Rattle.link.specs.Links.{EndsLent, ListsLent};
-ghost use Rattle.stages.specs.Stage.{Columns, Chains, SlotFits, stateOf, idle, settledRan, Stages};
-
-// What a force answered, and after it 9.
-pub fn settled(places: &[f64], speeds: &[f64], ran: Ran) -> Ran
-    ensures { λ r. ⌜ r ≡ settledRan (now (places .entry)) (now (speeds .entry)) ran ⌝ }
-{
-    let refusal = ran.refusal;
-    let number = refusal.number;
-    if number != 0 {
-        return ran;
-    }
-    Ran {
-        refusal: result_check(places, speeds),
-        used: ran.used,
-        visits: ran.visits,
-    }
-}
-
-// Where no force runs everything is as it was.
-pub fn untouched(used: usize, visits: u64) -> Ran
-    ensures { λ r. ⌜ r ≡ idle used visits ⌝ }
-{
-    Ran {
-        refusal: Refusal {
-            number: 0,
-            place: 0,
-        },
-        used,
-        visits,
-    }
-}
+ghost use Rattle.columns.specs.Stage.{Columns, Chains, SlotFits, stateOf, Stages};
 
 // ManyBody, of a strength for each particle. No force looks at a flag, so any flags serve.
 fn many_body_stage(

@@ -14,12 +14,12 @@ use Rattle.rules.specs.Calls.{slotsOf}
 use Rattle.rules.specs.Tick.{SheetInput, ranFor, count, entries, forces, forcesFrom, sheetCheck, begun, tickSettings, ticksFrom, stepResult, stepAnswer, sheetAfterStep, alphaAfterStep, workAfterStep}
 use Rattle.checks.proofs.Whole.{keeps-slots}
 use Rattle.tick_ends.specs.declared.Stepped.{Stepped}
-use Rattle.stages.specs.Stage.{stateOf}
+use Rattle.columns.specs.Stage.{stateOf}
 use Rattle.steps.specs.Step.{Steps}
-use Rattle.stages.specs.Columns.{Read}
+use Rattle.columns.specs.Columns.{Read}
 use Rattle.tick_ends.specs.Settled.{noTicks, StepSettled}
 use Rattle.step_call.specs.Step.{AfterStep}
-use Rattle.stages.proofs.Begun.{begun-is, spent}
+use Rattle.columns.proofs.Begun.{begun-is, spent}
 
 -- an accepted step leaves the work slots zero
 none-zeroes : zeroesWork (refusal 0 0) ≡ true

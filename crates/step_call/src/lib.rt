@@ -1,9 +1,9 @@
 // A step of many ticks, called on a sheet.
 use checks::step_check;
+use columns::read_columns;
 use number::float_of;
 use rules::Settings;
 use rules::StepAnswer;
-use stages::columns::read_columns;
 use steps::step_on;
 use tick_ends::settle::refused_step;
 use tick_ends::settle::settle_step;
@@ -13,7 +13,7 @@ ghost use Rattle.rules.specs.Outcome.{fine};
 ghost use Rattle.rules.specs.Sheet.{countOf};
 ghost use Rattle.rules.specs.Tick.{sheetCheck, tickSettings};
 ghost use Rattle.checks.specs.Input.{lentSheet};
-ghost use Rattle.stages.specs.Columns.{Lists};
+ghost use Rattle.columns.specs.Columns.{Lists};
 ghost use Rattle.step_call.specs.Step.{AfterStep};
 
 // With lists for the particles by columns and for the trees. Every check is past.

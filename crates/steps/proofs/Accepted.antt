@@ -21,7 +21,7 @@ use Rattle.rules.specs.Tick.{State, state, Force, empty, push, center, unknown,
 use Rattle.sheet.specs.Columns.{flagsOf}
 use Rattle.sheet.proofs.Checked.{records-sound, sound-records}
 use Rattle.ticks.specs.Tick.{stagesFrom}
-use Rattle.stages.proofs.Flags.{pushed-flags, centered-flags, closing-flags}
+use Rattle.columns.proofs.Flags.{pushed-flags, centered-flags, closing-flags}
 use Rattle.ticks.proofs.Ticking.{tick-is}
 
 -- ---- a stage that refuses nothing

@@ -12,7 +12,7 @@ use Rattle.rules.specs.Outcome.{Outcome, done, refused, refusal, zeroesWork}
 use Rattle.rules.specs.Tick.{State, Force, tick, Run, ranFor, ticksFrom}
 use Rattle.tick_ends.specs.declared.Ticked.{Ticked}
 use Rattle.tick_ends.specs.declared.Stepped.{Stepped}
-use Rattle.stages.specs.Stage.{Columns, stateOf}
+use Rattle.columns.specs.Stage.{Columns, stateOf}
 use Rattle.ticks.specs.Tick.{Ticks}
 use Rattle.tick_ends.specs.Ends.{unrefused}
 use Rattle.steps.specs.Step.{Steps}

@@ -6,11 +6,11 @@ use Prim.Native.Nat.{ℕ, _*_, _≤_, _^_}
 use lib.ListN.{length}
 use lib.Ieee.{Float}
 use Rattle.rules.specs.Plain.{all}
-use Rattle.rules.specs.Outcome.{refusal, zeroesWork}
+use Rattle.rules.specs.Outcome.{zeroesWork}
 use Rattle.rules.specs.Number.{within}
 use Rattle.rules.specs.Tick.{Run, ranFor}
 use Rattle.tick_ends.specs.declared.Stepped.{Stepped}
-use Rattle.stages.specs.Stage.{stateOf}
+use Rattle.columns.specs.Stage.{stateOf}
 
 -- The ticks ran as o, and left these columns. A tick that ended them refused by none but 6 to 9.
 pub record Steps (places speeds : List Float) (flags : List ℕ) (ds : List Float) (budget : ℕ) (r : Stepped) (o : Run) : Type 0 where

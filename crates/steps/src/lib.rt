@@ -8,7 +8,7 @@ ghost use Prim.Native.Nat.{_*_, _/_, _≤_};
 ghost use lib.ListN.{length};
 ghost use Rattle.rules.specs.Tick.{entriesOf, forcesFrom, ticksFrom};
 ghost use Rattle.checks.specs.Fits.{Fits};
-ghost use Rattle.stages.specs.Stage.{Columns, Chains, stateOf};
+ghost use Rattle.columns.specs.Stage.{Columns, Chains, stateOf};
 ghost use Rattle.steps.specs.Step.{Steps};
 
 // No draw is used and no node handed out before it. A refused tick leaves what the ticks before it left.

@@ -2,7 +2,7 @@
 use mathlib.Core.Path.{_≡_, refl}
 use mathlib.Core.Bool.{Bool, true, false, _&&_, _||_, not, cond}
 use mathlib.Core.List.{List, [], _∷_, _++_, map}
-use Prim.Native.Nat.{ℕ, zero, _+_, _*_, _^_}
+use Prim.Native.Nat.{ℕ, _+_, _*_, _^_}
 use lib.Dec.{eqb}
 use lib.IntN.{pos, negℤ}
 use lib.ListN.{length, replicate}
@@ -11,7 +11,7 @@ use Rattle.rules.specs.declared.Particle.{Particle}
 use Rattle.rules.specs.declared.Refusal.{Refusal}
 use Rattle.rules.specs.declared.Settings.{Settings}
 use Rattle.rules.specs.Plain.{all, padded}
-use Rattle.rules.specs.Outcome.{Outcome, refused, refusalOf, workAfter}
+use Rattle.rules.specs.Outcome.{Outcome, refusalOf, workAfter}
 use Rattle.rules.specs.Number.{_⊖_, _⊗_, _⊘_, 0·, 1·, 2·, limit, floatOf, bitsOf}
 use Rattle.rules.specs.Root.{rootBits}
 use Rattle.rules.specs.Refusal.{mostParticles}

@@ -16,10 +16,10 @@ use Rattle.rules.specs.Particle.{shifted, centered, moved, closing}
 use Rattle.rules.specs.Calls.{listResult, listAnswer, centerResult, closingResult}
 use Rattle.sheet.specs.Columns.{flagsOf}
 use Rattle.sheet.proofs.Checked.{record-fine}
-use Rattle.moves.specs.Columns.{particlesFrom}
+use Rattle.closing.specs.Columns.{particlesFrom}
 use Rattle.lists.proofs.Checks.{result-fine}
-use Rattle.moves.proofs.Closing.{particles-back}
-use Rattle.moves.proofs.Centring.{centered-speeds}
+use Rattle.closing.proofs.Closing.{particles-back}
+use Rattle.center.proofs.Centring.{center-speeds}
 use Rattle.talemiku.specs.Answered.{Answered}
 use Rattle.talemiku.proofs.Passes.{count-fine, settings-fine, closing-each, centered-each}
 
@@ -94,4 +94,4 @@ module _ (ps : List Particle) (r : Refusal) (after : List Particle) (z : r .numb
       → (places : List Float) → ((qs : List Particle) → placesOf qs ≡ placesOf ps → places ≡ placesOf (centered x y strength qs))
       → particlesFrom places (speedsOf ps) (flagsOf ps) ≡ after
   center-agrees x y strength a places h =
-      rw (h ps refl, ← centered-speeds x y strength ps, ← centered-flags x y strength ps) (particles-back (centered x y strength ps)) ∙ sym (left (x ∷ y ∷ strength ∷ []) (centered x y strength) ps r after a z)
+      rw (h ps refl, ← center-speeds x y strength ps, ← centered-flags x y strength ps) (particles-back (centered x y strength ps)) ∙ sym (left (x ∷ y ∷ strength ∷ []) (centered x y strength) ps r after a z)

@@ -1,8 +1,8 @@
 // center.rs: the mean of all places is drawn to a point.
 use crate::check::result_check;
 use crate::check::settings_check;
+use center::shifted;
 use lists::count_check;
-use moves::center::shifted;
 use rules::Particle;
 use rules::Refusal;
 use sheet::record_check;

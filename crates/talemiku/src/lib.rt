@@ -1,10 +1,10 @@
 // The entries for a host: numbers and slices in, a struct out. Each only calls the function that does the work, and says the same of it.
+mod applying;
 mod centring;
 mod check;
-mod closing;
 
+pub use applying::talemiku_apply_velocities;
 pub use centring::talemiku_center;
-pub use closing::talemiku_apply_velocities;
 use rules::Counts;
 use rules::FloorAnswer;
 use rules::Settings;

@@ -18,12 +18,12 @@ use Rattle.sheet.specs.Columns.{flagsOf}
 use Rattle.force_call.specs.Calls.{noCounts}
 use Rattle.checks.proofs.Whole.{keeps-slots}
 use Rattle.tick_ends.specs.declared.Ticked.{Ticked}
-use Rattle.stages.specs.Stage.{stateOf}
+use Rattle.columns.specs.Stage.{stateOf}
 use Rattle.ticks.specs.Tick.{tickedOf, Ticks}
-use Rattle.stages.specs.Columns.{Read}
+use Rattle.columns.specs.Columns.{Read}
 use Rattle.tick_ends.specs.Settled.{standing, TickSettled}
 use Rattle.tick_call.specs.Tick.{AfterTick}
-use Rattle.stages.proofs.Begun.{begun-is, spent}
+use Rattle.columns.proofs.Begun.{begun-is, spent}
 
 -- ---- what stands
 

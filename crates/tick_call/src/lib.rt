@@ -1,10 +1,10 @@
 // One tick, called on a sheet.
 use checks::tick_check;
+use columns::read_columns;
 use force_call::refused;
 use number::float_of;
 use rules::Counts;
 use rules::Settings;
-use stages::columns::read_columns;
 use tick_ends::settle::settle_tick;
 use ticks::tick_on;
 ghost use mathlib.Core.Path.{_≡_};
@@ -12,7 +12,7 @@ ghost use Rattle.rules.specs.Outcome.{fine};
 ghost use Rattle.rules.specs.Sheet.{countOf};
 ghost use Rattle.rules.specs.Tick.{sheetCheck, tickSettings};
 ghost use Rattle.checks.specs.Input.{lentSheet};
-ghost use Rattle.stages.specs.Columns.{Lists};
+ghost use Rattle.columns.specs.Columns.{Lists};
 ghost use Rattle.tick_call.specs.Tick.{AfterTick};
 
 // With lists for the particles by columns and for the trees. Every check is past.

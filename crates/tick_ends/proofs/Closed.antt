@@ -5,14 +5,14 @@ use Prim.Native.Nat.{ℕ}
 use native.Mathlib.Omega.{arith}
 use lib.Ieee.{Float}
 use Rattle.rules.specs.declared.Particle.{Particle}
-use Rattle.rules.specs.Outcome.{Outcome, refused, refusal}
+use Rattle.rules.specs.Outcome.{Outcome}
 use Rattle.rules.specs.Particle.{closing}
 use Rattle.rules.specs.Tick.{State, settled}
 use Rattle.force.specs.declared.Ran.{Ran}
-use Rattle.moves.specs.Columns.{particlesFrom}
+use Rattle.closing.specs.Columns.{particlesFrom}
 use Rattle.force.proofs.Standing.{standing-fine}
-use Rattle.stages.specs.Stage.{stateOf, idle, settledRan, Stages}
-use Rattle.stages.proofs.Staged.{staged-refused, staged-done}
+use Rattle.columns.specs.Stage.{stateOf, idle, settledRan, Stages}
+use Rattle.columns.proofs.Staged.{staged-refused, staged-done}
 use Rattle.tick_ends.specs.Ends.{closed}
 
 -- where forces refused nothing 9 is tested as after none

@@ -5,13 +5,12 @@ use Prim.Native.Nat.{ℕ}
 use borrow.Author.Tests.{eq-eqb, ne-eqb}
 use lib.Ieee.{Float}
 use Rattle.rules.specs.declared.Counts.{Counts}
-use Rattle.rules.specs.Outcome.{refused, fine}
+use Rattle.rules.specs.Outcome.{fine}
 use Rattle.rules.specs.Plain.{zeros}
 use Rattle.rules.specs.Number.{bitsOf}
-use Rattle.rules.specs.Tick.{tick}
 use Rattle.force_call.specs.Calls.{noCounts, countsAfter}
 use Rattle.tick_ends.specs.declared.Ticked.{Ticked}
-use Rattle.stages.specs.Columns.{written}
+use Rattle.columns.specs.Columns.{written}
 use Rattle.tick_ends.specs.Settled.{standing, TickSettled}
 
 module _ (t : Ticked) (places speeds : List Float) (sheet : List ℕ) (alpha : ℕ) (work work' : List ℕ) where

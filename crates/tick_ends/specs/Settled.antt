@@ -11,7 +11,7 @@ use Rattle.rules.specs.Outcome.{Check, fine, refused, ifDone}
 use Rattle.rules.specs.Number.{bitsOf}
 use Rattle.force_call.specs.Calls.{countsAfter}
 use Rattle.tick_ends.specs.declared.Ticked.{Ticked}
-use Rattle.stages.specs.Columns.{written}
+use Rattle.columns.specs.Columns.{written}
 use Rattle.rules.specs.declared.Refusal.{Refusal}
 use Rattle.rules.specs.declared.StepAnswer.{StepAnswer}
 use Rattle.tick_ends.specs.declared.Stepped.{Stepped}

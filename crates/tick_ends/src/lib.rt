@@ -1,11 +1,11 @@
 // What a tick does before and after its force slots: alpha's step, the closing move, and how it ends; and how a call of a tick or a step is settled.
 pub mod settle;
 
+use closing::close_all;
+use columns::settled;
 use force::Ran;
-use moves::particle::close_all;
 use rules::Refusal;
 use rules::Settings;
-use stages::stage::settled;
 ghost use mathlib.Core.Path.{_≡_};
 ghost use mathlib.Core.List.{List};
 ghost use Prim.Native.Nat.{ℕ, _*_};
@@ -13,8 +13,8 @@ ghost use lib.ListN.{length};
 ghost use lib.Ieee.{Float};
 ghost use Rattle.rules.specs.Tick as Rule;
 ghost use Rattle.rules.specs.Outcome.{Outcome};
-ghost use Rattle.moves.specs.Columns.{particlesFrom};
-ghost use Rattle.stages.specs.Stage.{Stages};
+ghost use Rattle.closing.specs.Columns.{particlesFrom};
+ghost use Rattle.columns.specs.Stage.{Stages};
 ghost use Rattle.tick_ends.specs.Ends.{closed, unrefused, EndsTick};
 
 // How a tick ended: the refusal, or number 0; alpha, the draws used and the nodes handed out after it, as they were handed in where it was refused.

@@ -1,14 +1,14 @@
 // What a call of a tick or a step answers and leaves once its ticks have run by columns.
 use crate::Stepped;
 use crate::Ticked;
+use columns::write_columns;
 use force_call::refused;
 use number::bits_of;
 use rules::Counts;
 use rules::Refusal;
 use rules::StepAnswer;
-use stages::columns::write_columns;
 ghost use mathlib.Core.Path.{_≡_};
-ghost use Rattle.stages.specs.Columns.{Writable};
+ghost use Rattle.columns.specs.Columns.{Writable};
 ghost use Rattle.tick_ends.specs.Settled.{standing, TickSettled, noTicks, StepSettled};
 
 // Sheet and alpha are written only where the tick is not refused. The work slots are zero in any case.

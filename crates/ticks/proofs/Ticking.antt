@@ -15,12 +15,12 @@ use Rattle.rules.specs.Refusal.{alphaCheck}
 use Rattle.rules.specs.Particle.{closing}
 use Rattle.rules.specs.Tick.{State, state, Force, nextAlpha, alphaStage, settled, forceStage, tick}
 use Rattle.force.specs.declared.Ran.{Ran}
-use Rattle.moves.specs.Columns.{particlesFrom}
+use Rattle.closing.specs.Columns.{particlesFrom}
 use Rattle.tick_ends.specs.declared.Ticked.{Ticked}
-use Rattle.stages.specs.Stage.{Columns, stateOf, stagedOf, Stages}
+use Rattle.columns.specs.Stage.{Columns, stateOf, stagedOf, Stages}
 use Rattle.tick_ends.specs.Ends.{closed, EndsTick}
 use Rattle.ticks.specs.Tick.{stagesFrom, tickedOf, Ticks}
-use Rattle.stages.proofs.Staged.{staged-refused, staged-done}
+use Rattle.columns.proofs.Staged.{staged-refused, staged-done}
 
 -- ---- from alpha's test on
 

@@ -14,7 +14,7 @@ use Rattle.rules.specs.Tick.{State, Force, forceStage}
 use Rattle.force.specs.Draws.{From}
 use Rattle.tick_ends.specs.declared.Ticked.{Ticked}
 use Rattle.tick_ends.specs.Ends.{closed}
-use Rattle.stages.specs.Stage.{stateOf}
+use Rattle.columns.specs.Stage.{stateOf}
 
 -- the stages of a tick from alpha's test on, beside the particles at tick entry
 unfoldable pub stagesFrom : Float → List Particle → List Force → ℕ → State → Outcome State

@@ -16,9 +16,9 @@ ghost use lib.ListN.{length};
 ghost use lib.Ieee.{Float};
 ghost use Rattle.rules.specs.Tick as Rule;
 ghost use Rattle.rules.specs.Tick.{entriesOf, forcesFrom};
-ghost use Rattle.moves.specs.Columns.{particlesFrom};
+ghost use Rattle.closing.specs.Columns.{particlesFrom};
 ghost use Rattle.checks.specs.Fits.{Fits};
-ghost use Rattle.stages.specs.Stage.{Columns, Chains, stateOf, Stages};
+ghost use Rattle.columns.specs.Stage.{Columns, Chains, stateOf, Stages};
 ghost use Rattle.ticks.specs.Tick.{stagesFrom, Ticks};
 
 // The stages from alpha's test on.

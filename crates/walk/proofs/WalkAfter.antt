@@ -11,8 +11,8 @@ use Rattle.rules.specs.Walk.{Entry, internal, tip, valued, parentLast}
 use Rattle.slots.specs.declared.Quadtree.{Quadtree}
 use Rattle.walk.specs.declared.visit_after.Path.{Path}
 use Rattle.walk.specs.declared.visit_after.Handed.{Handed}
-use Rattle.slots.specs.Trees.{word, kid, kids, Follows, first, Stands}
-use Rattle.walk.specs.Walk.{EachChain, ChainFrom}
+use Rattle.slots.specs.Trees.{word, kid, kids, Follows, first, Stands, ChainFrom}
+use Rattle.walk.specs.Walk.{EachChain}
 use Rattle.walk.specs.WalkAfter.{Step, stepsAt, stepsOf, rooted, Steps, Climbs, Climbing, EntryAt, First, Descends, Lent, KidsLent, EachTip, valuesAt, kidValues, Valued}
 use Rattle.walk.proofs.WalkClimb.{climb-start, climb-end}
 use Rattle.walk.proofs.WalkValues.{Alike, alike-refl, alike-trans, leads-alike, Writes}

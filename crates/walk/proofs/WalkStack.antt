@@ -12,7 +12,7 @@ use Rattle.rules.specs.Cell.{quarter}
 use Rattle.walk.specs.declared.visit.Walk.{Walk}
 use Rattle.walk.specs.declared.visit.Waiting.{Waiting}
 use Rattle.slots.specs.Trees.{kids}
-use Rattle.walk.specs.Walk.{waiting, cellAt, waitingAt, stackAt, walkOf, stackOf, Sized, lay, layKids, above, putSlot, putCell, height2, height1, height0, heightAfter, putSlots, putCells}
+use Rattle.walk.specs.Walk.{cellAt, waitingAt, stackAt, walkOf, stackOf, Sized, lay, layKids, above, putSlot, putCell, height2, height1, height0, heightAfter, putSlots, putCells}
 
 -- ---- a number is that of a slot, or none
 

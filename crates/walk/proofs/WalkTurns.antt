@@ -17,8 +17,8 @@ use Rattle.rules.specs.Cell.{quarter}
 use Rattle.rules.specs.Tree.{Tree, none, leaf, node, nodes, depth}
 use Rattle.rules.specs.Walk.{Entry, internal, tip, Counted, counted, After, after, walk}
 use Rattle.walk.specs.declared.visit.Waiting.{Waiting}
-use Rattle.slots.specs.Trees.{word, kid, Follows, first, Leads, EachSlot}
-use Rattle.walk.specs.Walk.{lay, layKids, seen, EachChain, ChainFrom}
+use Rattle.slots.specs.Trees.{word, kid, Follows, first, Leads, EachSlot, ChainFrom}
+use Rattle.walk.specs.Walk.{lay, layKids, seen, EachChain}
 
 -- ---- what follows what was done
 

@@ -13,8 +13,8 @@ use Rattle.rules.specs.Tree.{Tree, nodes, depth}
 use Rattle.rules.specs.Walk.{Entry, internal, tip, Counted, counted, After, after, walk}
 use Rattle.walk.specs.declared.visit.Walk.{Walk}
 use Rattle.walk.specs.declared.visit.Waiting.{Waiting}
-use Rattle.slots.specs.Trees.{word, kids, Follows, first}
-use Rattle.walk.specs.Walk.{waitingAt, stackAt, stackOf, Sized, lay, layKids, heightAfter, putSlots, putCells, seen, ChainFrom}
+use Rattle.slots.specs.Trees.{word, kids, Follows, first, ChainFrom}
+use Rattle.walk.specs.Walk.{waitingAt, stackAt, stackOf, Sized, lay, layKids, heightAfter, putSlots, putCells, seen}
 use Rattle.walk.proofs.WalkStack.{length-stack, top-of, height-kids, pushed-kids, pushed-sized}
 use Rattle.walk.proofs.WalkTurns as turns
 

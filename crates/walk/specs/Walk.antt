@@ -9,7 +9,7 @@ use Rattle.rules.specs.Cell.{cell, quarter}
 use Rattle.rules.specs.Tree.{Tree, none, leaf, node}
 use Rattle.walk.specs.declared.visit.Walk.{Walk}
 use Rattle.walk.specs.declared.visit.Waiting.{Waiting}
-use Rattle.slots.specs.Trees.{kid, Follows, first}
+use Rattle.slots.specs.Trees.{kid}
 
 -- ---- what waits
 
@@ -102,10 +102,3 @@ abbrev pub EachChain : {A : Type 0} → (List ℕ → Type 0) → Tree A → Typ
 EachChain P none = Unit {0}
 EachChain P (leaf a is) = P is
 EachChain P (node a t0 t1 t2 t3) = EachChain P t0 × EachChain P t1 × EachChain P t2 × EachChain P t3
-
--- the chain that begins with the particle f
-pub record ChainFrom (next : List ℕ) (P : List ℕ → Type 0) (f : ℕ) : Type 0 where
-  pub members : List ℕ
-  pub follows : Follows next members
-  pub starts : first members ≡ f
-  pub good : P members

@@ -6,14 +6,14 @@ use borrow.Author.Needs.{needs}
 use lib.ListN.{length}
 use lib.Ieee.{Float}
 use Rattle.rules.specs.Tree.{Tree}
-use Rattle.rules.specs.ManyBody.{Charge, leafCharge, nodeCharge}
+use Rattle.rules.specs.ManyBody.{leafCharge, nodeCharge}
 use Rattle.slots.specs.declared.Quadtree.{Quadtree}
 use Rattle.walk.specs.declared.visit_after.Path.{Path}
-use Rattle.walk.specs.declared.visit_after.Handed.{Handed}
 use Rattle.slots.specs.Trees.{word, Stands}
 use Rattle.walk.specs.WalkAfter.{stepsOf, rooted}
 use Rattle.walk.proofs.WalkAfter.{Filling, Taken, start, climbing, reach, kids-lent, chain, turn-node, turn-leaf, finish}
-use Rattle.charge.specs.Charge.{readCharge, putCharge, Few, Chain}
+use Rattle.chains.specs.Chain.{Few, Chain}
+use Rattle.charge.specs.Charge.{readCharge, putCharge}
 use Rattle.charge.proofs.ChargeChain.{chains-few}
 use Rattle.charge.proofs.ChargeLaws.{charge-values, node-fit, leaf-fit}
 use Rattle.charge.proofs.charges.Statement.{statement}

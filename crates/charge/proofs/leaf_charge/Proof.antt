@@ -1,6 +1,6 @@
 use native.Mathlib.Omega.{arith}
 use borrow.Author.Needs.{needs}
-use Rattle.charge.proofs.ChargeChain.{chain-first}
+use Rattle.chains.proofs.Chains.{chain-first}
 use Rattle.charge.proofs.ChargeLaws.{leaf-charge}
 use Rattle.charge.proofs.leaf_charge.Statement.{statement}
 use Rattle.charge.proofs.leaf_charge.Tie as tie

@@ -7,7 +7,7 @@ use Rattle.rules.specs.Outcome.{foldStages, zeroesWork}
 use Rattle.rules.specs.Tick.{numbersNeeded, linksNeeded, forceOf, forceStage}
 use Rattle.force.specs.Draws.{From}
 use Rattle.force.specs.Ran.{standing}
-use Rattle.stages.specs.Stage.{Columns, Chains, SlotFits, stateOf, stagedOf}
+use Rattle.columns.specs.Stage.{Columns, Chains, SlotFits, stateOf, stagedOf}
 use Rattle.force_slots.proofs.SlotsLeft.{Left, forcesLeft, left-first, left-none, left-slot, left-next, left-forces, rest-is, staged-rest, stage-stop, stage-on}
 use Rattle.force_slots.proofs.run_slots.Statement.{statement}
 use Rattle.force_slots.proofs.run_slots.Tie as tie

@@ -1,9 +1,9 @@
 use mathlib.Core.Path.{sym, _∙_}
 use native.Mathlib.Omega.{arith}
 use borrow.Author.Needs.{needs}
-use Rattle.rules.specs.Flow.{flow, gap}
+use Rattle.rules.specs.Flow.{gap}
 use Rattle.force.specs.Draws.{spentOf}
-use Rattle.charge.proofs.ChargeChain.{chain-first}
+use Rattle.chains.proofs.Chains.{chain-first}
 use Rattle.node_pull.proofs.NodePullLaws.{near-alone, near-beyond, near-dry, near-on}
 use Rattle.node_pull.proofs.act_near.Statement.{statement}
 use Rattle.node_pull.proofs.act_near.Tie as tie

@@ -7,7 +7,8 @@ use lib.ListN.{length, drop}
 use Rattle.rules.specs.Flow.{flow}
 use Rattle.slots.specs.Trees.{word}
 use Rattle.force.specs.Draws.{spentOf}
-use Rattle.charge.specs.Charge.{chargeOf, readCharge, Chain}
+use Rattle.chains.specs.Chain.{Chain}
+use Rattle.charge.specs.Charge.{chargeOf, readCharge}
 use Rattle.node_pull.proofs.NodePullLaws.{far-inner, far-leaf, near-inner, near-leaf}
 use Rattle.node_pull.proofs.meet.Statement.{statement}
 use Rattle.node_pull.proofs.meet.Tie as tie

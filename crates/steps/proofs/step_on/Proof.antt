@@ -6,7 +6,7 @@ use native.Mathlib.Omega.{arith}
 use borrow.Author.Needs.{needs}
 use lib.ListN.{length}
 use Rattle.rules.specs.Tick.{Force, entriesOf, forcesFrom, tick}
-use Rattle.stages.specs.Stage.{Columns, Chains, stateOf}
+use Rattle.columns.specs.Stage.{Columns, Chains, stateOf}
 use Rattle.ticks.specs.Tick.{tickedOf}
 use Rattle.ticks.proofs.Ticking.{ticked-refused, ticked-done}
 use Rattle.steps.proofs.Stepping.{ticksLeft, ticks-first, ticks-end, ticks-low, ticks-stop, ticks-on, ended-steps, stopped-steps}

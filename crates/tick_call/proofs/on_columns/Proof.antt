@@ -4,8 +4,8 @@ use native.Mathlib.Omega.{arith}
 use borrow.Author.Needs.{needs}
 use Rattle.rules.specs.Tick.{SheetInput, count, tickSettings}
 use Rattle.checks.specs.Input.{lentSheet}
-use Rattle.stages.specs.Columns.{Lists}
-use Rattle.stages.proofs.Begun.{Checked, checked, lists-kept, pairs, fits-columns, columns, chains}
+use Rattle.columns.specs.Columns.{Lists}
+use Rattle.columns.proofs.Begun.{Checked, checked, lists-kept, pairs, fits-columns, columns, chains}
 use Rattle.tick_call.proofs.TickCalled.{tick-ran}
 use Rattle.tick_call.proofs.on_columns.Statement.{statement}
 use Rattle.tick_call.proofs.on_columns.Tie as tie

@@ -1,8 +1,8 @@
 use mathlib.Core.Path.{_∙_}
 use native.Mathlib.Omega.{arith}
 use borrow.Author.Needs.{needs}
-use Rattle.moves.specs.Columns.{particlesFrom}
-use Rattle.stages.proofs.Staged.{closed-stages}
+use Rattle.closing.specs.Columns.{particlesFrom}
+use Rattle.columns.proofs.Staged.{closed-stages}
 use Rattle.tick_ends.proofs.Closed.{settled-same, stopped-stages, moved-stages}
 use Rattle.tick_ends.proofs.close.Statement.{statement}
 use Rattle.tick_ends.proofs.close.Tie as tie

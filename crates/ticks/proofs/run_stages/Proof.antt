@@ -4,7 +4,7 @@ use borrow.Author.Needs.{needs}
 use borrow.Author.Tests.{not-true, not-false}
 use lib.ListN.{length}
 use Rattle.rules.specs.Tick.{entriesOf, forcesFrom}
-use Rattle.moves.specs.Columns.{particlesFrom}
+use Rattle.closing.specs.Columns.{particlesFrom}
 use Rattle.ticks.proofs.Ticking.{hot-stages, cool-stages}
 use Rattle.ticks.proofs.run_stages.Statement.{statement}
 use Rattle.ticks.proofs.run_stages.Tie as tie

@@ -1,6 +1,5 @@
 use borrow.Author.Needs.{needs}
 use native.Mathlib.Omega.{arith}
-use Prim.Native.Nat.{_≤_}
 use Rattle.tree.specs.Tree.{lent}
 use Rattle.listing.proofs.Inputs.{Lent, refuses, lists}
 use Rattle.listing.proofs.input.list_tree.Statement.{statement}

@@ -12,7 +12,8 @@ use Rattle.walk.specs.Walk.{stackAt, walkOf, Sized, lay}
 use Rattle.walk.proofs.Walking.{Pushed, leftOf, finish, low, reach, falls, room, chain, turn-skip, turn-down, falls-down, turn-leaf}
 use Rattle.force.specs.Draws.{From}
 use Rattle.force.specs.Ran.{standing, ranOf}
-use Rattle.charge.specs.Charge.{Few, Chain, Charged}
+use Rattle.chains.specs.Chain.{Few, Chain}
+use Rattle.charge.specs.Charge.{Charged}
 use Rattle.node_pull.proofs.NodePullLaws.{met-dry, met-on}
 use Rattle.many_body.proofs.ManyBodyWalk.{Pulling, PullingAt, charged-nodes, pull-start, refused-there}
 use Rattle.many_body.proofs.many_body.pull.Statement.{statement}

@@ -1,7 +1,7 @@
 use mathlib.Core.Path.{_∙_}
 use native.Mathlib.Omega.{arith}
 use borrow.Author.Needs.{needs}
-use Rattle.stages.proofs.Staged.{centered-stages}
+use Rattle.columns.proofs.Staged.{centered-stages}
 use Rattle.stages.proofs.stage.center_stage.Statement.{statement}
 use Rattle.stages.proofs.stage.center_stage.Tie as tie
 

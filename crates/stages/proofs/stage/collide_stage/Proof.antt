@@ -2,7 +2,8 @@ use Prim.Native.Nat.{_/_}
 use borrow.Author.Needs.{needs}
 use lib.ListN.{length}
 use Rattle.rules.specs.Force.{collide, run}
-use Rattle.stages.proofs.Staged.{can-build, pushed-stages}
+use Rattle.columns.proofs.Staged.{pushed-stages}
+use Rattle.stages.proofs.Slot.{can-build}
 use Rattle.stages.proofs.stage.collide_stage.Statement.{statement}
 use Rattle.stages.proofs.stage.collide_stage.Tie as tie
 

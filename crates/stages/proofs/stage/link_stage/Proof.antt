@@ -7,7 +7,7 @@ use Rattle.rules.specs.Flow.{flow}
 use Rattle.rules.specs.Link.{runLink}
 use Rattle.rules.specs.Force.{link, endsOf, run}
 use Rattle.link.specs.Links.{EndsLent}
-use Rattle.stages.proofs.Staged.{visits-kept, pushed-stages}
+use Rattle.columns.proofs.Staged.{visits-kept, pushed-stages}
 use Rattle.stages.proofs.stage.link_stage.Statement.{statement}
 use Rattle.stages.proofs.stage.link_stage.Tie as tie
 

@@ -3,7 +3,8 @@ use native.Mathlib.Omega.{arith}
 use borrow.Author.Needs.{needs}
 use lib.ListN.{length}
 use Rattle.rules.specs.Force.{manyBody, run}
-use Rattle.stages.proofs.Staged.{can-build, pushed-stages}
+use Rattle.columns.proofs.Staged.{pushed-stages}
+use Rattle.stages.proofs.Slot.{can-build}
 use Rattle.stages.proofs.stage.many_body_stage.Statement.{statement}
 use Rattle.stages.proofs.stage.many_body_stage.Tie as tie
 

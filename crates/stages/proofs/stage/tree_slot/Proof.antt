@@ -5,7 +5,7 @@ use native.Mathlib.Omega.{arith}
 use borrow.Author.Needs.{needs}
 use lib.ListN.{length, take}
 use Rattle.stages.proofs.Slot.{many-body-of, collide-of, none-of, strengths-long, radii-long, few-iterations}
-use Rattle.stages.proofs.Staged.{idle-stages}
+use Rattle.columns.proofs.Staged.{idle-stages}
 use Rattle.stages.proofs.stage.tree_slot.Statement.{statement}
 use Rattle.stages.proofs.stage.tree_slot.Tie as tie
 

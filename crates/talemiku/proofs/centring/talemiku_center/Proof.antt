@@ -203,7 +203,7 @@ module _ {M : Type 1} (𝓤 : URA M) (H : Heap 𝓤) (𝓜 : Model 𝓤 H) (𝓖
             goes-on ! small (look ! 12 refl) (look ! 9 refl) (init ! 27 refl (tt, tt)) (look ! 27 refl) $ forget ! 27 refl $
             takes ! ps i (l .b) (l .o) within (place-fits l i small) (look ! 12 refl) (init ! 28 refl (tt, record { fits = place-fits l i small })) (part ! refl (look-in ! 5 (sub ! 0 refl (whole !)))) (look ! 28 refl) (init ! 29 refl (tt, tt))
             (look ! 31 refl) (λ has. init ! 32 refl (typed W p has)) (look ! 32 refl) (λ has. init ! 18 refl (typed W p has)) (λ p-has.
-            calls ! fm T.the-type T′.the-laws (f p) (callee.shifted-gives 𝓤 H 𝓜 𝓖 𝓡 code.env code.calls-moves·center·shifted (off .x) (off .y) p (fits-x off off-fits) (fits-y off off-fits) p-has)
+            calls ! fm T.the-type T′.the-laws (f p) (callee.shifted-gives 𝓤 H 𝓜 𝓖 𝓡 code.env code.calls-center·shifted (off .x) (off .y) p (fits-x off off-fits) (fits-y off off-fits) p-has)
             (and-then ! (part ! refl (look-in ! 16 (sub ! 0 refl (whole !)))) (and-then ! (part ! refl (look-in ! 16 (sub ! 1 refl (whole !)))) (and-then ! (copied ! (look ! 18 refl)) (no-more !)))) (λ has. store ! 32 refl (typed W (f p) has)) (λ q-has.
             puts ! ps i (l .b) (l .o) within (place-fits l i small) (f p) q-has (look ! 14 refl) (store ! 30 refl (tt, record { fits = place-fits l i small })) (part ! refl (look-in ! 7 (sub ! 0 refl (whole !)))) (look ! 30 refl) (init ! 33 refl (tt, tt))
             (look ! 32 refl) (look ! 33 refl) $ forget ! 16 refl $ forget ! 28 refl $ forget ! 29 refl $ forget ! 30 refl $ forget ! 31 refl $
@@ -244,7 +244,7 @@ module _ {M : Type 1} (𝓤 : URA M) (H : Heap 𝓤) (𝓜 : Model 𝓤 H) (𝓖
             goes-on ! small (look ! 12 refl) (look ! 9 refl) (init ! 23 refl (tt, tt)) (look ! 23 refl) $ forget ! 23 refl $
             takes ! xs i (l .b) (l .o) small (place-fits l i small) (look ! 12 refl) (init ! 24 refl (tt, record { fits = place-fits l i small })) (part ! refl (look-in ! 5 (sub ! 0 refl (whole !)))) (look ! 24 refl) (init ! 25 refl (tt, tt))
             (look ! 27 refl) (λ has. init ! 28 refl (typed W p has)) (look ! 28 refl) (λ has. init ! 17 refl (typed W p has)) (λ p-has.
-            calls ! fm T.the-type T′.the-laws (f p) (callee.shifted-gives 𝓤 H 𝓜 𝓖 𝓡 code.env code.calls-moves·center·shifted (off .x) (off .y) p (fits-x off off-fits) (fits-y off off-fits) p-has)
+            calls ! fm T.the-type T′.the-laws (f p) (callee.shifted-gives 𝓤 H 𝓜 𝓖 𝓡 code.env code.calls-center·shifted (off .x) (off .y) p (fits-x off off-fits) (fits-y off off-fits) p-has)
             (and-then ! (part ! refl (look-in ! 16 (sub ! 0 refl (whole !)))) (and-then ! (part ! refl (look-in ! 16 (sub ! 1 refl (whole !)))) (and-then ! (copied ! (look ! 17 refl)) (no-more !)))) (λ has. store ! 28 refl (typed W (f p) has)) (λ q-has.
             calls ! fm R.the-type R′.the-laws (refusalOf (resultOf (f p))) (callee.result-check-gives 𝓤 H 𝓜 𝓖 𝓡 code.env code.calls-talemiku·check·result-check (f p) q-has)
             (and-then ! (copied ! (look ! 28 refl)) (no-more !)) (λ has. store ! 12 refl (typedR W (refusalOf (resultOf (f p))) has)) (λ r-has.

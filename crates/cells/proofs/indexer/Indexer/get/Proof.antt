@@ -2,7 +2,7 @@ use mathlib.Core.Path.{_≡_, sym, ap, ap₂, _∙_}
 use mathlib.Core.Bool.{Bool, true, false, cond}
 use Prim.Native.Nat.{_+_}
 use lib.Ieee.{Float, le}
-use Rattle.rules.specs.Cell.{xm, ym, quadrant}
+use Rattle.rules.specs.Cell.{quadrant}
 use Rattle.cells.specs.declared.indexer.Indexer.{Indexer}
 use Rattle.cells.specs.Indexer.{indexer, cellOf}
 use Rattle.cells.proofs.indexer.Indexer.get.Statement.{statement}

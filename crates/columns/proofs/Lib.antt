@@ -1,0 +1,4 @@
+pub mod Flags
+pub mod Staged
+mod ByColumns
+pub mod Begun

@@ -1,3 +1,0 @@
-pub mod Centring
-pub mod Closing
-pub mod Facts
