@@ -1,13 +1,10 @@
-// Cases of every call but the step: each `.._is_right` runs a case of the sample, and says whether the answer and every lent buffer after the call are what the
+// Cases of a tree, of a force alone and of a tick: each `.._is_right` runs a case of the sample, and says whether the answer and every lent buffer after the call are what the
 // sample says. Of steps what stands below their call is here.
 mod forces;
-mod numbers;
 mod sheets;
 mod trees;
 
 pub use forces::force_is_right;
-pub use numbers::floor_is_right;
-pub use numbers::root_is_right;
 pub use sheets::force_words;
 pub use sheets::settings;
 pub use sheets::step_ended_right;

@@ -1,9 +1,9 @@
 // Runs a stored sample of the Rust's answers through the calls that the entries hand on to: a case is right if the answer and every lent buffer after the call are what the sample
 // says. Writes, kind by kind, how many of how many are right. beside/pack makes the sample and says how it is laid out.
+use crate::numbers::floor_is_right;
+use crate::numbers::root_is_right;
 use crate::sheets::sheet_is_right;
-use answers::floor_is_right;
 use answers::force_is_right;
-use answers::root_is_right;
 use answers::tree_is_right;
 use sample::KINDS;
 use sample::count;
@@ -11,6 +11,7 @@ use sample::read_case;
 use sample::report_all;
 use sample::word_of;
 
+mod numbers;
 mod sheets;
 
 // By the kind's number.
