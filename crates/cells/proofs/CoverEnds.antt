@@ -3,7 +3,7 @@ use mathlib.Core.Path.{_≡_, refl, sym, ap, ap₂, _∙_, subst}
 use mathlib.Core.Bool.{Bool, true, false, not, cond, _&&_, _||_, true≢false, false≢true}
 use mathlib.Core.List.{List}
 use Prim.Native.Nat.{ℕ, zero, suc, _+_, _*_, _/_, _^_, _≤_, _<_}
-use native.Mathlib.Nat.{le-refl, le-trans, le-of-eq, mul-one, mul-div-cancel, le-of-mul-le-mul-right}
+use native.Mathlib.Nat.{le-refl, le-trans, le-antisymm, le-of-eq, mul-one, mul-div-cancel, le-of-mul-le-mul-right}
 use native.Mathlib.Omega.{arith}
 use lib.Dec.{T, lit≤}
 use lib.Pow.{pow-mono}
@@ -20,6 +20,7 @@ use Rattle.rules.proofs.Floor.{ceiling-ge, ceiling-least}
 use Rattle.rules.proofs.CoverTerms.{quarterOf, Doubling, side, next, Held, Ends}
 use Rattle.rules.proofs.CoverSquare.{same-square, twice, sided-side}
 use Rattle.rules.proofs.Cover.{held-sided, held-ends, held-most, next-held, next-doubling}
+use Rattle.rules.proofs.CoverCount.{not-above}
 use Rattle.number.proofs.Order.{flip}
 use Rattle.number.proofs.Integers.{HasInt, ofInt-has, add-int, sub-int, middle-int}
 use Rattle.number.proofs.Flooring.{floor-le, floor-lt, floor-within, within-finite}
@@ -41,11 +42,8 @@ floor-int (fin false m e) (negsuc n) h = absurd (false≢true (h .0))
 floor-int (fin true m e) (pos n) h = absurd (true≢false (h .0))
 floor-int (fin true m e) (negsuc n) h = ap (λ (c : ℕ). negℤ (pos c)) (ap (λ (v : ℕ). ceiling v (down e)) (sym (mul-one (m * up e)) ∙ h .1) ∙ exact (suc n) (down e) (down-pos e))
   where
-    meet : (a b : ℕ) → a ≤ b → b ≤ a → a ≡ b
-    meet a b h k = omega arith
-
     exact : (a d : ℕ) → 0 < d → ceiling (a * d) d ≡ a
-    exact a d D = meet (ceiling (a * d) d) a (ceiling-least (a * d) d a D (le-refl (a * d))) (le-of-mul-le-mul-right (ceiling-ge (a * d) d D) D)
+    exact a d D = le-antisymm (ceiling-least (a * d) d a D (le-refl (a * d))) (le-of-mul-le-mul-right (ceiling-ge (a * d) d D) D)
 
 -- ---- an extent and its square
 
@@ -80,7 +78,7 @@ module _ {e : Extent} (h : Reachable e) where
   unfolding extentOf
   y1-is = ap (λ (c : Extent). c .y1) (h .is)
 
-has : {x : Float} (z : ℤ) → x ≡ whole z → natAbs z ≤ 2 ^ 44 → HasInt x z
+pub has : {x : Float} (z : ℤ) → x ≡ whole z → natAbs z ≤ 2 ^ 44 → HasInt x z
 has {x} z e h = subst (λ (v : Float). HasInt v z) (sym e) (whole-has z h)
 
 module _ {e : Extent} (h : Reachable e) where
@@ -114,16 +112,9 @@ module _ {e : Extent} {x y : Float} (n : Near e x y) where
   outside-is : (lt x (e .x0) || le (e .x1) x) || (lt y (e .y0) || le (e .y1) y) ≡ not (inside (squareOf e) (floor x) (floor y))
   outside-is =
       let s = squareOf e in
-      ap₂ _||_ (ap₂ _||_ (before-x ∙ flip (floor x) (s .x0)) (after-x ∙ not-lt (s .x1) (floor x))) (ap₂ _||_ (before-y ∙ flip (floor y) (s .y0)) (after-y ∙ not-lt (s .y1) (floor y)))
+      ap₂ _||_ (ap₂ _||_ (before-x ∙ flip (floor x) (s .x0)) (after-x ∙ not-above (s .x1) (floor x))) (ap₂ _||_ (before-y ∙ flip (floor y) (s .y0)) (after-y ∙ not-above (s .y1) (floor y)))
       ∙ not-all (leZ (s .x0) (floor x)) (ltZ (floor x) (s .x1)) (leZ (s .y0) (floor y)) (ltZ (floor y) (s .y1))
     where
-      not-not : (p : Bool) → p ≡ not (not p)
-      not-not true = refl
-      not-not false = refl
-
-      not-lt : (z w : ℤ) → leZ z w ≡ not (ltZ w z)
-      not-lt z w = not-not (leZ z w) ∙ ap not (sym (flip w z))
-
       not-all : (p q r t : Bool) → (not p || not q) || (not r || not t) ≡ not (p && q && r && t)
       not-all true true true true = refl
       not-all true true true false = refl

@@ -1,41 +1,36 @@
 -- The middle of two f64 lies between them, though it is rounded twice: rounding keeps the order, and doubling and halving are exact. Assumes nothing.
 use mathlib.Core.Path.{_≡_, refl, sym, ap, _∙_, subst}
-use mathlib.Core.Logic.{⊎-elim}
 use mathlib.Core.Bool.{Bool, true, false, _&&_, false≢true}
 use Prim.Native.Nat.{ℕ, zero, suc, _+_, _-_, _*_, _%_, _^_, _≤_, _<_}
-use native.Mathlib.Nat.{mul-assoc, mul-right-comm, mul-one, one-mul, mul-pos, mul-le-mul, mul-le-mul-right, le-of-mul-le-mul-right, pow-succ', le-of-eq, le-trans, lt-irrefl, lt-of-lt-of-le, lt-of-le-of-lt}
+use native.Mathlib.Nat.{mul-assoc, mul-right-comm, mul-one, one-mul, mul-pos, mul-le-mul, mul-le-mul-right, le-of-mul-le-mul-right, pow-succ', le-of-eq, le-trans, lt-of-le-of-lt}
 use native.Mathlib.Omega.{arith}
 use lib.Dec.{T, leb, ltb, eqb, leb→le, ltb→lt, eqb→eq, lit≤, lit<}
 use borrow.Author.Tests.{le-leb}
-use lib.Pow.{pow-add, pow-pos, pow-mono, pow-lt}
+use lib.Pow.{pow-add, pow-pos, pow-mono}
 use lib.IntN.{ℤ, pos, negsuc, negℤ, natAbs}
 use lib.Signed.{leZ}
 use lib.Ieee.{Float, nan, inf, fin, binary64, low, up, down, round, sum, add, fits, lt, le, eq}
 use lib.Ieee.Fits.{down-pos, div-fits, ofInt-fits, and-l, and-r}
 use lib.Ieee.Exact.{HasValue, round-exact}
 use lib.Ieee.Scale.{round-same}
+use lib.Ieee.Digits.{back}
 use Rattle.rules.specs.Number.{_⊕_, _⊘_, 2·, finite}
 use Rattle.rules.specs.Cell.{middle}
 use Rattle.rules.specs.Cover.{whole}
-use Rattle.rules.proofs.CoverCount.{lt-or-le, le-same, le-le, lt-le}
-use Rattle.number.proofs.Order.{signed, le-at, unitsZ, Finite64, lt-order, le-order}
+use Rattle.rules.proofs.CoverCount.{le-same, le-le, lt-le}
+use Rattle.number.proofs.Order.{signed, le-at, two-up, pow-le-back, unitsZ, Finite64, lt-order, le-order}
 use Rattle.number.proofs.Integers.{HasInt, negative, le-int}
 use Rattle.number.proofs.Flooring.{int-le-x, x-le-int, negatives}
+use Rattle.number.proofs.Tests.{yes}
 use Rattle.cells.proofs.CoverEnds.{whole-has}
-use Rattle.cells.proofs.CoverRounding.{T-true, above-twice, below-twice, half-is, half-pos, half-mono}
+use Rattle.cells.proofs.CoverRounding.{above-twice, below-twice, half-is, half-pos, half-mono}
 
 -- ---- the half of the double is the number itself
-
-below-pow : (i p : ℕ) → 2 ^ i ≤ 2 ^ p → i ≤ p
-below-pow i p h = ⊎-elim (λ l. absurd (lt-irrefl (2 ^ p) (lt-of-lt-of-le (pow-lt l) h))) (λ l. l) (lt-or-le p i)
 
 -- 2 ^ e in units of 2 ^ -L, which e does not go below
 in-units : (e : ℤ) (L : ℕ) → down e ≤ 2 ^ L → (i : ℕ) × (up e * 2 ^ L ≡ 2 ^ i * down e)
 in-units (pos k) L h = (k + L, sym (pow-add 2 k L) ∙ sym (mul-one (2 ^ (k + L))))
-in-units (negsuc k) L h = (L - suc k, one-mul (2 ^ L) ∙ ap (λ (n : ℕ). 2 ^ n) (back L (suc k) (below-pow (suc k) L h)) ∙ pow-add 2 (L - suc k) (suc k))
-  where
-    back : (a b : ℕ) → b ≤ a → a ≡ a - b + b
-    back a b h = omega arith
+in-units (negsuc k) L h = (L - suc k, one-mul (2 ^ L) ∙ ap (λ (n : ℕ). 2 ^ n) (sym (back L (suc k) (pow-le-back (suc k) L h))) ∙ pow-add 2 (L - suc k) (suc k))
 
 -- at most 2 ^ 44 in size
 abbrev Small : ℕ → ℤ → Type 0
@@ -67,9 +62,6 @@ exact : (s : Bool) (m : ℕ) (e : ℤ) → T (fits binary64 (fin s m e)) → Sma
 unfolding fits
 exact s zero (pos k) t small j one = exact-at s zero (pos k) small (in-units (pos k) 1074 (pow-pos 1074) .0) j (pow-pos 53) (in-units (pos k) 1074 (pow-pos 1074) .1) one
 exact s zero (negsuc k) t small j one = absurd (two-up (2 ^ k) (pow-pos k) (sym (pow-succ' 2 k) ∙ sym (one-mul (2 ^ suc k)) ∙ eqb→eq (1 * 2 ^ suc k) 1 t))
-  where
-    two-up : (p : ℕ) → 0 < p → 2 * p ≡ 1 → ⊥
-    two-up p h e = omega arith
 exact s (suc m) e t small j one =
     let three = and-l (eqb (suc m % 2) 1 && ltb (suc m) (2 ^ 53) && leb (down e) (2 ^ 1074)) (ltb (suc m * up e) (2 ^ 1024 * down e)) t in
     let digits : suc m < 2 ^ 53 = ltb→lt (suc m) (2 ^ 53) (and-r (eqb (suc m % 2) 1) (ltb (suc m) (2 ^ 53)) (and-l (eqb (suc m % 2) 1 && ltb (suc m) (2 ^ 53)) (leb (down e) (2 ^ 1074)) three)) in
@@ -156,8 +148,8 @@ pub record Tame (x : Float) : Type 0 where
   pub high : le x (whole (pos (2 ^ 44))) ≡ true
 
 small : (s : Bool) (m : ℕ) (e : ℤ) → Tame (fin s m e) → Small m e
-small false m e t = leb→le (m * up e) (2 ^ 44 * down e) (T-true (sym (x-le-int (whole (pos (2 ^ 44))) (pos (2 ^ 44)) false m e (whole-has (pos (2 ^ 44)) (lit≤ tt))) ∙ t .high))
-small true m e t = leb→le (m * up e) (2 ^ 44 * down e) (T-true (sym (int-le-x (whole (negℤ (pos (2 ^ 44)))) (negℤ (pos (2 ^ 44))) true m e (whole-has (negℤ (pos (2 ^ 44))) (lit≤ tt)) ∙ negatives (2 ^ 44 * down e) (m * up e)) ∙ t .low))
+small false m e t = leb→le (m * up e) (2 ^ 44 * down e) (yes (sym (x-le-int (whole (pos (2 ^ 44))) (pos (2 ^ 44)) false m e (whole-has (pos (2 ^ 44)) (lit≤ tt))) ∙ t .high))
+small true m e t = leb→le (m * up e) (2 ^ 44 * down e) (yes (sym (int-le-x (whole (negℤ (pos (2 ^ 44)))) (negℤ (pos (2 ^ 44))) true m e (whole-has (negℤ (pos (2 ^ 44))) (lit≤ tt)) ∙ negatives (2 ^ 44 * down e) (m * up e)) ∙ t .low))
 
 limit-finite : (z : ℤ) → natAbs z ≤ 2 ^ 44 → Finite64 (whole z)
 limit-finite z h = record { finite = int-finite (whole z) z (whole-has z h); held = ofInt-fits binary64 z }

@@ -14,15 +14,14 @@ use lib.Ieee.Exact.{HasValue}
 use lib.Ieee.Order.{round-mono}
 use lib.Ieee.Scale.{round-same}
 use lib.Ieee.Bits.{is-true}
+use lib.Ieee.Digits.{back}
 use Rattle.rules.specs.Number.{_⊕_, _⊘_, 2·, finite}
 use Rattle.rules.proofs.CoverCount.{le-more}
 use Rattle.number.proofs.Order.{signed, le-at}
 use Rattle.number.proofs.Flooring.{negatives, either-side}
+use Rattle.number.proofs.Tests.{yes}
 
 -- ---- order with signs
-
-pub T-true : {b : Bool} → b ≡ true → T b
-T-true e = subst T (sym e) tt
 
 -- two fractions times the same number
 leZ-scale : (s t : Bool) (a b k : ℕ) → 0 < k → leZ (signed s (a * k)) (signed t (b * k)) ≡ leZ (signed s a) (signed t b)
@@ -125,7 +124,7 @@ le-signs (fin true m e) (fin false n d) p q = le-fin true false m n e d ∙ eith
 
 -- of a number that is not negative and at most one that is not positive, both are 0
 both-zero : (p n : ℕ) → leZ (pos p) (signed true n) ≡ true → (p ≡ 0) × (n ≡ 0)
-both-zero p zero h = let l : p ≤ 0 = leb→le p 0 (T-true h) in (omega arith, refl)
+both-zero p zero h = let l : p ≤ 0 = leb→le p 0 (yes h) in (omega arith, refl)
 both-zero p (suc n) h = absurd (false≢true h)
 
 factor-zero : (a d : ℕ) → 0 < d → a * d ≡ 0 → a ≡ 0
@@ -133,8 +132,8 @@ factor-zero zero d D e = refl
 factor-zero (suc a) d D e = let l : 0 < suc a * d = mul-pos (zero-lt-suc a) D in absurd (omega arith)
 
 le-round : (s t : Bool) (a c b d : ℕ) → 0 < c → 0 < d → leZ (signed s (a * d)) (signed t (b * c)) ≡ true → le (round binary64 s a c) (round binary64 t b d) ≡ true
-le-round false false a c b d C D h = is-true _ (round-mono binary64 a c b d C D (leb→le (a * d) (b * c) (T-true h)))
-le-round true true a c b d C D h = ap₂ le (round-neg binary64 a c) (round-neg binary64 b d) ∙ le-neg (round binary64 false b d) (round binary64 false a c) ∙ is-true _ (round-mono binary64 b d a c D C (leb→le (b * c) (a * d) (T-true (sym (negatives (a * d) (b * c)) ∙ h))))
+le-round false false a c b d C D h = is-true _ (round-mono binary64 a c b d C D (leb→le (a * d) (b * c) (yes h)))
+le-round true true a c b d C D h = ap₂ le (round-neg binary64 a c) (round-neg binary64 b d) ∙ le-neg (round binary64 false b d) (round binary64 false a c) ∙ is-true _ (round-mono binary64 b d a c D C (leb→le (b * c) (a * d) (yes (sym (negatives (a * d) (b * c)) ∙ h))))
 le-round true false a c b d C D h = le-signs (round binary64 true a c) (round binary64 false b d) (round-sign binary64 true a c) (round-sign binary64 false b d)
 le-round false true a c b d C D h =
     let (p, q) = both-zero (a * d) (b * c) h in
@@ -159,10 +158,7 @@ le-rounds : {x y : Float} {z w : ℤ} {c : ℕ} → 0 < c → Rounds x z c → R
 le-rounds {c} C p q h = ap₂ le (p .is) (q .is) ∙ le-round (p .sign) (q .sign) (p .size) c (q .size) c C C (leZ-scale (p .sign) (q .sign) (p .size) (q .size) c C ∙ ap₂ leZ (p .value) (q .value) ∙ h)
 
 less-pos : (a b : ℕ) → b ≤ a → pos (a - b) ≡ pos a +ℤ negℤ (pos b)
-less-pos a b h = sym (ap (λ (n : ℕ). pos n -ℤ pos b) (back a b h) ∙ +ℤ-negℤ-cancel (pos (a - b)) (pos b))
-  where
-    back : (a b : ℕ) → b ≤ a → a ≡ a - b + b
-    back a b h = omega arith
+less-pos a b h = sym (ap (λ (n : ℕ). pos n -ℤ pos b) (sym (back a b h)) ∙ +ℤ-negℤ-cancel (pos (a - b)) (pos b))
 
 less-neg : (a b : ℕ) → a ≤ b → negℤ (pos (b - a)) ≡ pos a +ℤ negℤ (pos b)
 less-neg a b h = ap negℤ (less-pos b a h) ∙ negℤ-+ℤ (pos b) (negℤ (pos a)) ∙ ap (negℤ (pos b) +ℤ_) (negℤ-negℤ (pos a)) ∙ +ℤ-comm (negℤ (pos b)) (pos a)
@@ -229,13 +225,13 @@ add-rounds (fin u m e) (fin v n d) s t a b c C h k =
 -- ---- sums and halves keep the order
 
 le-diff : (z w : ℤ) → leZ z w ≡ true → (n : ℕ) × (w ≡ z +ℤ pos n)
-le-diff (pos a) (pos b) h = let l : a ≤ b = leb→le a b (T-true h) in (b - a, ap pos (up-to a b l))
+le-diff (pos a) (pos b) h = let l : a ≤ b = leb→le a b (yes h) in (b - a, ap pos (up-to a b l))
   where
     up-to : (a b : ℕ) → a ≤ b → b ≡ a + (b - a)
     up-to a b l = omega arith
 le-diff (pos a) (negsuc b) h = absurd (false≢true h)
 le-diff (negsuc a) (pos b) h = (b + suc a, sym (+ℤ-comm (negsuc a) (pos (b + suc a)) ∙ +ℤ-negℤ-cancel (pos b) (pos (suc a))))
-le-diff (negsuc a) (negsuc b) h = let l : b ≤ a = leb→le b a (T-true h) in (a - b, ap (λ (n : ℕ). negℤ (pos n)) (down-to a b l) ∙ less-neg (a - b) (suc a) (fewer a b) ∙ +ℤ-comm (pos (a - b)) (negsuc a))
+le-diff (negsuc a) (negsuc b) h = let l : b ≤ a = leb→le b a (yes h) in (a - b, ap (λ (n : ℕ). negℤ (pos n)) (down-to a b l) ∙ less-neg (a - b) (suc a) (fewer a b) ∙ +ℤ-comm (pos (a - b)) (negsuc a))
   where
     down-to : (a b : ℕ) → b ≤ a → suc b ≡ suc a - (a - b)
     down-to a b l = omega arith

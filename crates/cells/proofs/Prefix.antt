@@ -11,21 +11,22 @@ use lib.Dec.{T, leb}
 use lib.Ieee.{Float}
 use borrow.Author.Tests.{leb-true, le-leb}
 use Rattle.rules.specs.declared.Extent.{Extent}
-use Rattle.rules.specs.Plain.{all, countFrom, upTo}
+use Rattle.rules.specs.Plain.{countFrom, upTo}
 use Rattle.rules.specs.Number.{within, placeRange, xAt, yAt}
 use Rattle.rules.specs.Floor.{floor}
 use Rattle.rules.specs.Cell.{quarter}
 use Rattle.rules.specs.Cover.{Square, inside, oldQuadrant, Covered, holds, coverPoint, coverAll, coverFirst, extentOf}
 use Rattle.rules.specs.Outcome.{Check, done, refused, fine, require, _then_, _>>=_, checkFrom}
 use Rattle.rules.specs.Tree.{Tree, none, leaf, node, depth, nodes, inQuarter, pointsIn, treeIn, treeOf, fitsCheck, treeCheck}
-use Rattle.rules.proofs.CellList.{In, both, left, right, keep-all}
+use Rattle.rules.proofs.CellList.{In, left, right, keep-all}
 use Rattle.rules.proofs.CellIs.{Is}
 use Rattle.rules.proofs.CellCount.{upTo-snoc}
-use Rattle.rules.proofs.CellInside.{Inside, inside-quarter}
+use Rattle.rules.proofs.CellInside.{Inside}
 use Rattle.rules.proofs.CellMore.{NoLarger}
 use Rattle.rules.proofs.CellRule.{grow-none, tree-whole, tree-grown, tree-more}
 use Rattle.rules.proofs.CoverTerms.{next, Grows, done, more, Covering}
 use Rattle.rules.proofs.Cover.{old-quadrant-less, covering, cover-append}
+use Rattle.rules.proofs.CellWrap.{all-quarter}
 use Rattle.cells.specs.declared.cover.Doubled.{Doubled}
 use Rattle.cells.specs.Cover.{squareOf, Reachable, Near, DoubledTo}
 use Rattle.cells.proofs.CoverEnds.{near-x, near-y, square-back, reachable, doubled-to, doubled-square}
@@ -39,7 +40,7 @@ in-member i [] m = absurd m
 in-member i (j ∷ l) (inl e) = List·Memᴰ·head e
 in-member i (j ∷ l) (inr m) = List·Memᴰ·tail (in-member i l m)
 
-member-less : (k n i : ℕ) → List·Memᴰ i (countFrom k n) → i < k + n
+pub member-less : (k n i : ℕ) → List·Memᴰ i (countFrom k n) → i < k + n
 member-less k zero i m = elim m [ ]
 member-less k (suc n) i (List·Memᴰ·head e) = omega arith
 member-less k (suc n) i (List·Memᴰ·tail m) = omega (arith, member-less (k + 1) n i m)
@@ -71,10 +72,6 @@ fine-each f i (suc k) e j a b = go (f i) refl e (λ e'. fine-each f (i + 1) k e'
 module _ (at : List Float) where
   -- ---- from a cell to the quarter that has all its points
 
-  all-quarter : (c : Extent) (q : ℕ) (is : List ℕ) → q < 4 → ((i : ℕ) → In i is → Inside at (quarter q c) i) → all (inQuarter at c q) is ≡ true
-  all-quarter c q [] l w = refl
-  all-quarter c q (i ∷ is) l w = both (inQuarter at c q i) (all (inQuarter at c q) is) (inside-quarter at q c i l (w i (inl refl))) (all-quarter c q is l (λ j m. w j (inr m)))
-
   -- the tree of the points in the cell e, if it is no larger than t, which isn't cut off
   is-smaller : (e : Extent) (u t : Tree Extent) (is : List ℕ) → Is at e u is → depth u ≤ depth t → nodes u ≤ nodes t → depth t ≤ 65 → NoLarger (treeIn at e is) t
   is-smaller e u t is h a b l = subst (λ (v : Tree Extent). NoLarger v t) (tree-grown at u e is h (omega arith)) (record { nodes = b; levels = a })
@@ -92,7 +89,7 @@ module _ (at : List Float) where
   -- The tree of a quarter that has all the points is no larger than the whole cell's.
   quarter-fits : (c e : Extent) (q : ℕ) (is : List ℕ) → q < 4 → quarter q c ≡ e → ((i : ℕ) → In i is → Inside at e i) → depth (treeIn at c is) ≤ 65 → NoLarger (treeIn at e is) (treeIn at c is)
   quarter-fits c e q is l old w d =
-      let all-in = all-quarter c q is l (λ i m. subst (λ (x : Extent). Inside at x i) (sym old) (w i m)) in
+      let all-in = all-quarter at c q is l (λ i m. subst (λ (x : Extent). Inside at x i) (sym old) (w i m)) in
       subst (λ (x : Extent). NoLarger (treeIn at x is) (treeIn at c is)) old
       (quarter-smaller c q (treeIn at c is) is l (keep-all (inQuarter at c q) is all-in) (tree-whole at c is d) d)
 

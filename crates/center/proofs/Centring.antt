@@ -16,6 +16,7 @@ use Rattle.rules.specs.Sheet.{placesOf, speedsOf}
 use Rattle.rules.specs.Particle.{offset, shifted, centered}
 use Rattle.center.specs.Pairs.{column, shiftedPairs}
 use Rattle.sheet.proofs.PairLists.{pair-off, pair-put, pair-rest}
+use Rattle.sheet.proofs.Lists.{length-zero}
 
 -- ---- the sum of an axis
 
@@ -37,11 +38,7 @@ module _ (l : List Float) where
 
   -- less than a pair is left
   pub sum-end : (axis : ℕ) (s : Float) (i : ℕ) → length l / 2 ≤ i → foldl _⊕_ s (column axis (drop (i * 2) l)) ≡ s
-  sum-end axis s i h = ap (foldl _⊕_ s) (none (column axis (drop (i * 2) l)) (column-length axis (drop (i * 2) l) ∙ simp length-drop (omega arith)))
-    where
-      none : (m : List Float) → length m ≡ 0 → m ≡ []
-      none [] e = refl
-      none (x ∷ m) e = absurd (omega arith)
+  sum-end axis s i h = ap (foldl _⊕_ s) (length-zero (column axis (drop (i * 2) l)) (column-length axis (drop (i * 2) l) ∙ simp length-drop (omega arith)))
 
 -- ---- shifts
 

@@ -1,6 +1,6 @@
 // A leaf's chain of particles, followed by its links: the strengths of its members, and their sum.
-use force::wide;
 use number::plain_zero;
+use number::wide;
 ghost use mathlib.Core.Path.{_≡_};
 ghost use Prim.Native.Nat.{_<_};
 ghost use lib.ListN.{length};

@@ -1,8 +1,8 @@
 // many_body.rs: the charge of each node, laid in its value words, children first.
 use chains::chain_strength;
-use force::index;
-use force::wide;
 use number::abs;
+use number::index;
+use number::wide;
 use slots::Quadtree;
 use slots::store;
 use walk::visit_after;

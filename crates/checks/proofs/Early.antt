@@ -12,6 +12,7 @@ use Rattle.rules.specs.Outcome.{Check, done, refused, require, _then_, _>>=_, r
 use Rattle.rules.specs.Refusal.{settingsCheck}
 use Rattle.rules.proofs.RefusalLaws.{Refuses, of-done, _then·_, of-require, of-all}
 use Rattle.rules.proofs.RefusalNumbers.{Early, five, settings-early, by-kind}
+use Rattle.rules.proofs.OutcomeLaws.{check-any}
 use Rattle.lists.specs.Checks.{firstOf}
 use Rattle.lists.proofs.Scans.{first-then}
 use Rattle.lists.proofs.Checks.{first-four}
@@ -47,17 +48,12 @@ each-early need check h (e ∷ es) l = h e (take (need e) l) then· each-early n
 
 -- ---- settings one after the other
 
--- the place in the list is not looked at
-same-from : {A : Type 0} (f : A → Check) (i j : ℕ) (l : List A) → checkFrom (λ _ a. f a) i l ≡ checkFrom (λ _ a. f a) j l
-same-from f i j [] = refl
-same-from f i j (a ∷ l) = ap (λ (c : Check). f a >>= λ _. c) (same-from f (i + 1) (j + 1) l)
-
 then-bind : (c d e : Check) → (c >>= λ _. d then e) ≡ (c >>= λ _. d) then e
 then-bind (done t) d e = refl
 then-bind (refused r) d e = refl
 
 from-append : {A : Type 0} (f : A → Check) (i j k : ℕ) (l m : List A) → checkFrom (λ _ a. f a) i (l ++ m) ≡ checkFrom (λ _ a. f a) j l then checkFrom (λ _ a. f a) k m
-from-append f i j k [] m = same-from f i k m
+from-append f i j k [] m = check-any f i k m
 from-append f i j k (a ∷ l) m =
     ap (λ (c : Check). f a >>= λ _. c) (from-append f (i + 1) (j + 1) k l m)
     ∙ then-bind (f a) (checkFrom (λ _ a. f a) (j + 1) l) (checkFrom (λ _ a. f a) k m)

@@ -1,6 +1,6 @@
 -- The entries of the force slots from one on: how much they need, and what 1 and 2 let pass of them.
 use mathlib.Core.Path.{_≡_, refl, sym, ap, _∙_}
-use mathlib.Core.Bool.{Bool, true, false, not, _&&_, _||_, false≢true}
+use mathlib.Core.Bool.{Bool, true, false, not, _&&_, _||_, false≢true, and-eq-true-iff}
 use mathlib.Core.List.{List, [], _∷_, map}
 use Prim.Native.Nat.{ℕ, zero, suc, _+_, _-_, _*_, _≤_, _<_}
 use native.Mathlib.Nat.{zero-add, le-trans}
@@ -14,7 +14,7 @@ use Rattle.rules.specs.Outcome.{Check, done, refused, fine, _then_, _>>=_, chec
 use Rattle.rules.specs.Refusal.{mostLinks, mostIterations, countCheck}
 use Rattle.rules.specs.Force.{noneOr}
 use Rattle.rules.specs.Tick.{entryAt, entriesFrom, entriesOf, entryCounts, strengthsRight, numbersNeeded, linksNeeded}
-use Rattle.lists.proofs.Checks.{then-both, require-true, and-both}
+use Rattle.lists.proofs.Checks.{then-both, require-true}
 
 -- the entries from slot i on
 abbrev pub entriesLeft : List ℕ → ℕ → List ForceEntry
@@ -118,7 +118,7 @@ entries-small : (n i : ℕ) (es : List ForceEntry) → n ≤ 4096 → checkFrom 
 entries-small n i [] few c r = omega arith
 entries-small n i (e ∷ es) few c r =
     let b = then-both (entryCounts e) (checkFrom (λ _ e. entryCounts e) (i + 1) es) (sym (bind-then (entryCounts e) (checkFrom (λ _ e. entryCounts e) (i + 1) es)) ∙ c) in
-    let d = and-both (strengthsRight e) (all strengthsRight es) r in
+    let d = and-eq-true-iff (strengthsRight e) (all strengthsRight es) .0 r in
     omega (arith, entry-small (e .kind) n e refl few (b .0) (d .0), entries-small n (i + 1) es few (b .1) (d .1))
 
 -- the same of all slots, in numbers

@@ -1,6 +1,6 @@
 -- The check of a whole input: what it lets pass, what it refuses by, and how the code answers it half by half.
 use mathlib.Core.Path.{_≡_, refl, sym, ap, ap₂, _∙_}
-use mathlib.Core.Bool.{Bool, true, false, _&&_, not}
+use mathlib.Core.Bool.{Bool, true, false, _&&_, not, and-eq-true-iff}
 use mathlib.Core.List.{List, [], map}
 use Prim.Native.Nat.{ℕ, _*_, _≤_}
 use native.Mathlib.Nat.{le-of-eq}
@@ -18,7 +18,7 @@ use Rattle.rules.proofs.RefusalLaws.{Refuses, _then·_, of-each}
 use Rattle.rules.proofs.RefusalNumbers.{Early, count-early, length-early, entry-early, sheet-early}
 use Rattle.lists.specs.Checks.{firstOf}
 use Rattle.lists.proofs.Scans.{early-keeps, passes, stops}
-use Rattle.lists.proofs.Checks.{then-both, then-fine, require-true, and-both}
+use Rattle.lists.proofs.Checks.{then-both, then-fine, require-true}
 use Rattle.checks.specs.Fits.{Fits}
 use Rattle.checks.specs.Input.{lentSheet, sizesCheck, contentsCheck}
 use Rattle.checks.proofs.Early.{answer-then}
@@ -132,8 +132,8 @@ module _ (l : SheetInput) (ticks : ℕ) (q : Refusal) (iq : q ≡ refusalOf (siz
         long-enough =
             let numbers = eqb (length (l .numbers)) (sum (map (numbersNeeded (count l)) (entries l))) in
             let links = eqb (length (l .links)) (sum (map linksNeeded (entries l)) * 2) in
-            let a = and-both (all strengthsRight (entries l) && numbers) links agree in
-            (eqb-true (length (l .numbers)) _ (and-both (all strengthsRight (entries l)) numbers (a .0) .1), eqb-true (length (l .links)) _ (a .1))
+            let a = and-eq-true-iff (all strengthsRight (entries l) && numbers) links .0 agree in
+            (eqb-true (length (l .numbers)) _ (and-eq-true-iff (all strengthsRight (entries l)) numbers .0 (a .0) .1), eqb-true (length (l .links)) _ (a .1))
 
         same-contents : onward l true ≡ contentsCheck (l .sheet) (l .words) (l .numbers) (l .links) (l .draws)
         same-contents =

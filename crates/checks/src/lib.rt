@@ -9,3 +9,4 @@ mod ranges;
 pub use check::input_check;
 pub use check::step_check;
 pub use check::tick_check;
+pub use ranges::settings_check;

@@ -17,6 +17,7 @@ ghost use Rattle.rules.specs.Refusal.{strengthsCheck, distancesCheck, settingsC
 ghost use Rattle.rules.specs.Tick.{numbersNeeded, entriesOf};
 ghost use Rattle.checks.specs.Parts.{ownRanges, rangesEach};
 
+// Three settings in a row.
 pub fn settings_check(a: f64, b: f64, c: f64) -> Refusal
     ensures { λ r. ⌜ r ≡ refusalOf (settingsCheck (a ∷ b ∷ c ∷ [])) ⌝ }
 {

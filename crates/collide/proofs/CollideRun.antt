@@ -15,6 +15,7 @@ use Rattle.rules.specs.Walk.{Counted}
 use Rattle.rules.specs.Flow.{Flow}
 use Rattle.rules.specs.Collide.{radiusTree, collideOnce, runCollide}
 use Rattle.rules.proofs.CellRule.{tree-nodes}
+use Rattle.rules.proofs.OutcomeLaws.{bind-cong}
 use Rattle.slots.specs.declared.Quadtree.{Quadtree}
 use Rattle.slots.proofs.Trees.{cells-depth, cells-nodes}
 use Rattle.walk.proofs.WalkTurns.{nodes-seen}
@@ -24,13 +25,9 @@ use Rattle.collide.proofs.CollideSteps.{look, seen-radii}
 
 -- ---- the tree is the same each time
 
-bind-same : {A B : Type 0} (o : Outcome A) {f g : A → Outcome B} → ((a : A) → f a ≡ g a) → (o >>= f) ≡ (o >>= g)
-bind-same (done a) h = h a
-bind-same (refused r) h = refl
-
 stages-same : {A S : Type 0} (f g : S → A → Outcome S) → ((s : S) (a : A) → f s a ≡ g s a) → (s : S) (l : List A) → foldStages f s l ≡ foldStages g s l
 stages-same f g h s [] = refl
-stages-same f g h s (a ∷ l) = ap (λ (o : Outcome _). o >>= λ t. foldStages f t l) (h s a) ∙ bind-same (g s a) (λ t. stages-same f g h t l)
+stages-same f g h s (a ∷ l) = ap (λ (o : Outcome _). o >>= λ t. foldStages f t l) (h s a) ∙ bind-cong (g s a) (λ t. stages-same f g h t l)
 
 module _ (at radii : List Float) (strength : Float) (iterations slots : ℕ) (m : Counted Flow) where
   once-walked : treeCheck at (length radii) slots ≡ fine → (m : Counted Flow) → walkAll at radii strength m ≡ collideOnce at radii strength slots m

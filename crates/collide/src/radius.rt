@@ -1,7 +1,7 @@
 // Collide's radius of each node, laid in value 0 of its slot, children first.
 use contact::radius_of;
-use force::index;
-use force::wide;
+use number::index;
+use number::wide;
 use slots::Quadtree;
 use slots::store;
 use walk::visit_after;

@@ -1,9 +1,9 @@
 // Collide for one particle at one node: whether it lies out of reach, and what a leaf's first particle and this one do to each other.
 use force::Spent;
-use force::index;
 use force::push_back;
 use force::push_on;
 use force::shaken;
+use number::index;
 use number::plain_zero;
 use rules::Extent;
 use slots::store;

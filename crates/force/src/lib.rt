@@ -10,24 +10,10 @@ pub use draws::shaken;
 pub use push::push_back;
 pub use push::push_on;
 use rules::Refusal;
-ghost use mathlib.Core.Path.{_≡_};
 
 // How a force ended: refused, or with number 0; how many draws are used, and how many nodes were handed out.
 pub struct Ran {
     pub refusal: Refusal,
     pub used: usize,
     pub visits: u64,
-}
-
-// A number as an index: a call asks no proof that it fits.
-pub fn index(x: u64) -> usize
-    ensures { λ r. ⌜ r ≡ x ⌝ }
-{
-    x as usize
-}
-
-pub fn wide(x: u32) -> usize
-    ensures { λ r. ⌜ r ≡ x ⌝ }
-{
-    x as usize
 }

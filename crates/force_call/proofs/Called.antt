@@ -1,6 +1,6 @@
 -- A force called alone, stated over any force f that changes velocities.
 use mathlib.Core.Path.{_≡_, refl, sym, ap, _∙_}
-use mathlib.Core.Bool.{Bool, true, false, _&&_}
+use mathlib.Core.Bool.{Bool, true, false, _&&_, and-eq-true-iff}
 use mathlib.Core.List.{List, _++_, append-assoc}
 use Prim.Native.Nat.{ℕ, zero, suc, _+_, _-_, _*_, _/_, _%_, _≤_, _<_}
 use native.Mathlib.Nat.{add-zero, zero-add, add-assoc}
@@ -30,7 +30,7 @@ use Rattle.force.specs.Ran.{standing, ranOf}
 use Rattle.lists.specs.Checks.{coordinatesCheck, velocitiesCheck}
 use Rattle.force_call.specs.Calls.{lent, noCounts, countsAfter, Settled, Answered, lentCheck, numbersCheck}
 use Rattle.force.proofs.Standing.{late-clears}
-use Rattle.lists.proofs.Checks.{then-both, require-true, and-both}
+use Rattle.lists.proofs.Checks.{then-both, require-true}
 use Rattle.lists.proofs.Scans.{early-keeps, points-early}
 
 -- ---- lengths
@@ -216,9 +216,9 @@ lent-all l f w h =
     let a = then-both (countCheck mostParticles (count l) then pushCounts f then lengthsCheck (inputLengths l && w && pushLengths (count l) f)) (pushEnds (count l) f) h in
     let b = then-both (countCheck mostParticles (count l) then pushCounts f) (lengthsCheck (inputLengths l && w && pushLengths (count l) f)) (a .0) in
     let c = then-both (countCheck mostParticles (count l)) (pushCounts f) (b .0) in
-    let d = and-both (inputLengths l && w) (pushLengths (count l) f) (require-true _ 2 0 (b .1)) in
-    let e = and-both (inputLengths l) w (d .0) in
-    let i = and-both (eqb (length (l .places)) (count l * 2)) (leb (l .start + count l * 16) (length (l .buffer))) (e .0) in
+    let d = and-eq-true-iff (inputLengths l && w) (pushLengths (count l) f) .0 (require-true _ 2 0 (b .1)) in
+    let e = and-eq-true-iff (inputLengths l) w .0 (d .0) in
+    let i = and-eq-true-iff (eqb (length (l .places)) (count l * 2)) (leb (l .start + count l * 16) (length (l .buffer))) .0 (e .0) in
     record {
       few = leb-true (count l) 4096 (require-true _ 1 0 (c .0));
       counts = c .1;

@@ -1,6 +1,6 @@
 -- A force called alone: what check 4 lets pass.
 use mathlib.Core.Path.{_≡_}
-use mathlib.Core.Bool.{true}
+use mathlib.Core.Bool.{true, and-eq-true-iff}
 use mathlib.Core.List.{List}
 use Prim.Native.Nat.{ℕ, _<_}
 use native.Mathlib.Omega.{arith}
@@ -12,14 +12,14 @@ use Rattle.rules.specs.Force.{Push, pushRanges}
 use Rattle.rules.specs.Calls.{ForceInput, count}
 use Rattle.cells.proofs.Prefix.{fine-each}
 use Rattle.lists.specs.Checks.{coordinatesCheck, velocitiesCheck}
-use Rattle.lists.proofs.Checks.{then-both, require-true, and-both}
+use Rattle.lists.proofs.Checks.{then-both, require-true}
 use Rattle.force_call.specs.Calls.{numbersCheck}
 
 -- every place is in range
 pub places-within : (l : ForceInput) (f : Push) (vs draws settings : List Float) → numbersCheck (l .places) vs f draws settings ≡ fine
     → (i : ℕ) → i < count l → (within (xAt (l .places) i) ≡ true) × (within (yAt (l .places) i) ≡ true)
 places-within l f vs draws settings e i h =
-    and-both (within (xAt (l .places) i)) (within (yAt (l .places) i))
+    and-eq-true-iff (within (xAt (l .places) i)) (within (yAt (l .places) i)) .0
     (require-true (placeRange (xAt (l .places) i) (yAt (l .places) i)) 4 i (fine-each (λ j. coordinateCheck j (xAt (l .places) j) (yAt (l .places) j)) 0 (count l) coordinates i (omega arith) (omega arith)))
   where
     points : Check

@@ -1,6 +1,6 @@
 -- The force slots one after another: what is left of their lists, and of the stages.
-use mathlib.Core.Path.{_≡_, refl, sym, ap, _∙_}
-use mathlib.Core.Bool.{_&&_}
+use mathlib.Core.Path.{_≡_, sym, ap, _∙_}
+use mathlib.Core.Bool.{_&&_, and-eq-true-iff}
 use mathlib.Core.List.{List, [], _∷_, map}
 use Prim.Native.Nat.{ℕ, _+_, _-_, _*_, _/_, _≤_, _<_}
 use native.Mathlib.Omega.{arith}
@@ -11,21 +11,17 @@ use lib.Seq.{take-all, drop-drop}
 use lib.Ieee.{Float}
 use Rattle.rules.specs.declared.ForceEntry.{ForceEntry}
 use Rattle.rules.specs.Plain.{all, sum}
-use Rattle.rules.specs.Outcome.{Check, fine, _>>=_, foldStages, checkFrom, checkEach}
+use Rattle.rules.specs.Outcome.{Check, fine, foldStages, checkFrom, checkEach}
 use Rattle.rules.specs.Tick.{State, Force, entryAt, entriesOf, entryCounts, strengthsRight, numbersNeeded, linksNeeded, forceOf, forcesFrom, forceEnds, forceStage}
+use Rattle.rules.proofs.OutcomeLaws.{check-any}
 use Rattle.force.specs.declared.Ran.{Ran}
-use Rattle.lists.proofs.Checks.{then-both, and-both}
+use Rattle.lists.proofs.Checks.{then-both}
 use Rattle.checks.specs.Fits.{Fits}
 use Rattle.checks.proofs.Entries.{entriesLeft, entries-left, entries-none, bind-then}
 use Rattle.columns.specs.Stage.{SlotFits, stateOf, stagedOf}
 use Rattle.columns.proofs.Staged.{staged-refused, staged-done}
 
 -- ---- what 1, 2 and 3 say of the first slot and of the others
-
--- a check that looks at no number is the same from any number on
-check-any : {A : Type 0} (f : A → Check) (i j : ℕ) (l : List A) → checkFrom (λ _ a. f a) i l ≡ checkFrom (λ _ a. f a) j l
-check-any f i j [] = refl
-check-any f i j (a ∷ l) = ap (λ (c : Check). f a >>= λ _. c) (check-any f (i + 1) (j + 1) l)
 
 check-split : {A : Type 0} (f : A → Check) (a : A) (l : List A) → checkEach (λ _ a. f a) (a ∷ l) ≡ fine → (f a ≡ fine) × (checkEach (λ _ a. f a) l ≡ fine)
 check-split f a l h =
@@ -37,9 +33,9 @@ pub fits-split : (n : ℕ) (e : ForceEntry) (es : List ForceEntry) (xs : List Fl
 fits-split n e es xs ls h =
     let c = check-split entryCounts e es (h .counts) in
     let d = check-split (forceEnds n) (forceOf n e xs ls) (forcesFrom n es (drop (numbersNeeded n e) xs) (drop (linksNeeded e * 2) ls)) (h .ends) in
-    let f = and-both (all strengthsRight (e ∷ es) && eqb (length xs) (sum (map (numbersNeeded n) (e ∷ es)))) (eqb (length ls) (sum (map linksNeeded (e ∷ es)) * 2)) (h .lengths) in
-    let g = and-both (all strengthsRight (e ∷ es)) (eqb (length xs) (sum (map (numbersNeeded n) (e ∷ es)))) (f .0) in
-    let s = and-both (strengthsRight e) (all strengthsRight es) (g .0) in
+    let f = and-eq-true-iff (all strengthsRight (e ∷ es) && eqb (length xs) (sum (map (numbersNeeded n) (e ∷ es)))) (eqb (length ls) (sum (map linksNeeded (e ∷ es)) * 2)) .0 (h .lengths) in
+    let g = and-eq-true-iff (all strengthsRight (e ∷ es)) (eqb (length xs) (sum (map (numbersNeeded n) (e ∷ es)))) .0 (f .0) in
+    let s = and-eq-true-iff (strengthsRight e) (all strengthsRight es) .0 (g .0) in
     let x : length xs ≡ numbersNeeded n e + sum (map (numbersNeeded n) es) = eqb-true _ _ (g .1) in
     let l : length ls ≡ (linksNeeded e + sum (map linksNeeded es)) * 2 = eqb-true _ _ (f .1) in
     let x' : length (drop (numbersNeeded n e) xs) ≡ sum (map (numbersNeeded n) es) = simp length-drop (omega arith) in

@@ -1,6 +1,7 @@
 -- The ends that 3 lets pass: each is a particle. Assumes nothing.
 use mathlib.Core.Path.{_≡_, refl, sym, ap, subst⁻¹, _∙_}
 use mathlib.Core.List.{List}
+use mathlib.Core.Bool.{and-eq-true-iff}
 use Prim.Native.Nat.{ℕ, zero, suc, _+_, _*_, _/_, _%_, _≤_, _<_}
 use native.Mathlib.Numerals.{add-one}
 use native.Mathlib.Omega.{arith}
@@ -12,7 +13,7 @@ use Rattle.rules.specs.Link.{Ends}
 use Rattle.rules.specs.Force.{endsOf, endsRange}
 use Rattle.lists.specs.Checks.{endsAt}
 use Rattle.lists.proofs.Scans.{endsLeft, ends-first, ends-left}
-use Rattle.lists.proofs.Checks.{and-both, bind-both, require-true}
+use Rattle.lists.proofs.Checks.{bind-both, require-true}
 use Rattle.link.proofs.Tallies.{ends-length}
 
 pub ends-count : (links : List ℕ) → length (endsOf links) ≡ length links / 2
@@ -34,7 +35,7 @@ module _ (n : ℕ) (links : List ℕ) where
   in-range : requireAll (endsRange n) 3 (endsOf links) ≡ fine → (k : ℕ) → k < length links / 2
       → (getD links (k * 2) 0 < n) × (getD links (k * 2 + 1) 0 < n)
   in-range e k h =
-      let b = and-both (ltb (getD links (k * 2) 0) n) (ltb (getD links (k * 2 + 1) 0) n) (require-true (endsRange n (endsAt links k)) 3 k (one-end k h (all-ends e k (omega arith)) .0)) in
+      let b = and-eq-true-iff (ltb (getD links (k * 2) 0) n) (ltb (getD links (k * 2 + 1) 0) n) .0 (require-true (endsRange n (endsAt links k)) 3 k (one-end k h (all-ends e k (omega arith)) .0)) in
       (ltb-true (getD links (k * 2) 0) n (b .0), ltb-true (getD links (k * 2 + 1) 0) n (b .1))
 
   -- every end

@@ -14,16 +14,13 @@ use lib.Ieee.{Float}
 use Rattle.rules.specs.Plain.{countFrom, upTo}
 use Rattle.rules.specs.Link.{Ends, ends, countEnds}
 use Rattle.rules.specs.Force.{endsFrom, endsOf}
+use Rattle.rules.proofs.CellCount.{length-upTo}
 use Rattle.slots.proofs.Fill.{room}
 use Rattle.tally.specs.Tally.{counted}
 use Rattle.link.specs.Links.{EndsLent, Ready, tallies}
 use Rattle.lists.specs.Checks.{endsAt}
 
 -- ---- numbers one after the other
-
-pub length-count : (i n : ℕ) → length (countFrom i n) ≡ n
-length-count i zero = refl
-length-count i (suc n) = ap suc (length-count (i + 1) n)
 
 pub map-count : {A : Type 0} (f : ℕ → A) (i n j : ℕ) (d : A) → j < n → getD (map f (countFrom i n)) j d ≡ f (i + j)
 map-count f i zero j d h = absurd (omega arith)
@@ -32,7 +29,7 @@ map-count f i (suc n) (suc j) d h = map-count f (i + 1) n j d (omega arith) ∙ 
 
 pub tally-length : (n : ℕ) (es : List Ends) → length (tallies n es) ≡ n
 unfolding tallies
-tally-length n es = length-map (upTo n) (countEnds es) ∙ length-count 0 n
+tally-length n es = length-map (upTo n) (countEnds es) ∙ length-upTo n
 
 pub tally-at : (n : ℕ) (es : List Ends) (j : ℕ) → j < n → getD (tallies n es) j 0 ≡ countEnds es j
 unfolding tallies

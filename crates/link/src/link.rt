@@ -4,7 +4,7 @@ use force::Spent;
 use force::push_back;
 use force::push_on;
 use force::shaken;
-use force::wide;
+use number::wide;
 use rules::Refusal;
 use square_root::root;
 use tally::bias;

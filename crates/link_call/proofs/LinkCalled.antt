@@ -1,8 +1,8 @@
 -- Link called alone: what its checks let pass, and how they are answered.
 use mathlib.Core.Path.{_≡_, sym, ap, _∙_}
-use mathlib.Core.Bool.{Bool, true, false, not, _&&_}
+use mathlib.Core.Bool.{Bool, true, false, not, _&&_, and-eq-true-iff}
 use mathlib.Core.List.{List, [], _∷_}
-use Prim.Native.Nat.{ℕ, _/_, _%_, _<_}
+use Prim.Native.Nat.{ℕ, _/_, _%_}
 use native.Mathlib.Omega.{arith}
 use borrow.Author.Tests.{not-true, not-false, eq-eqb, ne-eqb, eqb-true, leb-true}
 use lib.Dec.{eqb}
@@ -26,7 +26,7 @@ use Rattle.link.specs.Links.{EndsLent, ListsLent}
 use Rattle.link.proofs.EndsRange.{ends-count, ends-range}
 use Rattle.lists.proofs.Scans.{first-then, points-early}
 use Rattle.force_call.proofs.Called.{Lent}
-use Rattle.lists.proofs.Checks.{and-both, then-both, require-true, first-four}
+use Rattle.lists.proofs.Checks.{then-both, require-true, first-four, as-many}
 
 -- ---- 2
 
@@ -68,14 +68,11 @@ module _ (l : ForceInput) (links : List ℕ) (ss ds : List Float) (iterations : 
 
   pub lists-lent : ListsLent links ss ds
   lists-lent =
-      let b = and-both (eqb (length ds) (length (endsOf links))) (noneOr (length (endsOf links)) (length ss)) (h .lengths) in
+      let b = and-eq-true-iff (eqb (length ds) (length (endsOf links))) (noneOr (length (endsOf links)) (length ss)) .0 (h .lengths) in
       record {
-        strengthEach = λ some. each (length ss) (length (endsOf links)) some (b .1) ∙ ends-count links;
+        strengthEach = λ some. as-many (length ss) (length (endsOf links)) some (b .1) ∙ ends-count links;
         distanceEach = eqb-true (length ds) (length (endsOf links)) (b .0) ∙ ends-count links;
       }
-    where
-      each : (k m : ℕ) → 0 < k → noneOr m k ≡ true → k ≡ m
-      each k m some e = eqb-true k m (rw (ne-eqb k 0 (λ z. omega arith)) at e)
 
 -- ---- the answers
 

@@ -1,18 +1,16 @@
 -- A sheet that the lister accepts is within its limits. Assumes nothing.
 use mathlib.Core.Path.{_≡_, refl, sym, ap, ap₂, _∙_, subst}
-use mathlib.Core.Logic.{⊎-elim}
 use mathlib.Core.Bool.{Bool, true, false}
-use mathlib.Core.List.{List, [], _∷_, map, List·Memᴰ, List·Memᴰ·not-nil, List·Memᴰ·cases-cons, cons≢nil}
+use mathlib.Core.List.{List, [], _∷_, map, cons≢nil}
 use Prim.Native.Nat.{ℕ, zero, suc, _+_, _*_, _≤_, _<_}
 use native.Mathlib.Omega.{arith}
 use borrow.Author.Tests.{leb-true}
-use lib.IntN.{ℤ}
 use lib.Dec.{T, leb}
 use lib.ListN.{length, getD}
 use lib.Ieee.{Float, nan}
 use Rattle.rules.specs.declared.Extent.{Extent}
 use Rattle.rules.specs.declared.Particle.{Particle}
-use Rattle.rules.specs.Plain.{countFrom, upTo}
+use Rattle.rules.specs.Plain.{upTo}
 use Rattle.rules.specs.Outcome.{Outcome, done, refused, _>>=_, Check, fine, require, _then_, checkFrom}
 use Rattle.rules.specs.Number.{within, placeRange, speedRange, xAt, yAt}
 use Rattle.rules.specs.Sheet.{wholeRecords, recordCheck, recordsCheck, placesOf, particlesOf, recordsFrom, countOf}
@@ -20,13 +18,13 @@ use Rattle.rules.specs.Cover.{Square, Covered, nothing, holds, coverAll, coverF
 use Rattle.rules.specs.Tree.{Tree, none, leaf, node, depth, nodes, treeOf, treeCheck, chainsOf}
 use Rattle.rules.specs.Calls.{treeOfSheet, coverSheet}
 use Rattle.rules.specs.Listing.{mostListed, listerSlots}
-use Rattle.rules.proofs.CoverTerms.{AllNear, Held, Reached, floors}
+use Rattle.rules.proofs.CoverTerms.{AllNear, Reached, floors}
 use Rattle.rules.proofs.Cover.{cover-all, held-ends}
 use Rattle.rules.proofs.CellList.{left, right}
 use Rattle.number.proofs.Flooring.{floor-within}
-use Rattle.listing.specs.Told.{Covers, Near, Listed}
+use Rattle.listing.specs.Told.{Covers, Listed}
 use Rattle.listing.proofs.Sizes.{below-more}
-use Rattle.cells.proofs.Prefix.{no-tree, check-fits}
+use Rattle.cells.proofs.Prefix.{no-tree, check-fits, member-less}
 use Rattle.rows.proofs.ListWhole.{chains-all}
 
 -- ---- outcomes
@@ -87,12 +85,6 @@ particles-count : (s : List ℕ) → length (particlesOf s) ≡ countOf s
 unfolding particlesOf
 particles-count s = records-count s 0 (countOf s)
 
--- ---- numbers up to n
-
-count-less : (i a k : ℕ) → List·Memᴰ i (countFrom a k) → i < a + k
-count-less i a zero m = absurd (List·Memᴰ·not-nil m)
-count-less i a (suc k) m = ⊎-elim (λ e. omega arith) (λ r. let l : i < a + 1 + k = count-less i (a + 1) k r in omega arith) (List·Memᴰ·cases-cons m)
-
 -- ---- the tree
 
 module _ (at : List Float) where
@@ -104,7 +96,7 @@ module _ (at : List Float) where
 
   near-all : (n : ℕ) → ((k : ℕ) → k < n → placeRange (xAt at k) (yAt at k) ≡ true) → AllNear at (upTo n)
   near-all n h i m =
-      let r = h i (let l = count-less i 0 n m in omega arith) in (
+      let r = h i (let l = member-less 0 n i m in omega arith) in (
         floor-within (xAt at i) (subst T (sym (left (within (xAt at i)) (within (yAt at i)) r)) tt) .within,
         floor-within (yAt at i) (subst T (sym (right (within (xAt at i)) (within (yAt at i)) r)) tt) .within,
       )
@@ -112,9 +104,6 @@ module _ (at : List Float) where
   cover-none : (s : Square) → coverFirst at 0 ≡ holds s → ⊥
   unfolding coverAll
   cover-none s e = let z : _≡_ {A = ℕ} 0 1 = cc in omega arith
-
-  near-square : {s : Square} {fs : List (ℤ × ℤ)} → Held s fs → Near s
-  near-square h = let e = held-ends h in record { x0 = e .x0; y0 = e .y0; x1 = e .x1; y1 = e .y1 }
 
   -- what covers it has ends that are near, if there is a particle
   covers : (n : ℕ) → AllNear at (upTo n) → depth (treeOf at n) ≤ 65 → Covers (coverFirst at n) (nodes (treeOf at n))
@@ -124,7 +113,7 @@ module _ (at : List Float) where
       go zero nothing r e k = ap nodes (no-tree at)
       go (suc n) nothing r e k = absurd (cons≢nil r)
       go zero (holds s) r e k = absurd (cover-none s e)
-      go (suc n) (holds s) r e k = (nodes-some (treeOf at (suc n)) (omega arith), near-square r)
+      go (suc n) (holds s) r e k = (nodes-some (treeOf at (suc n)) (omega arith), held-ends r)
 
 -- ---- an accepted sheet
 

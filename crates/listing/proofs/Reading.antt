@@ -12,10 +12,12 @@ use Rattle.rules.specs.Plain.{padded}
 use Rattle.rules.specs.Cover.{Square, square, whole, Covered, nothing, holds, extentOf}
 use Rattle.rules.specs.Tree.{Tree, Row, rowsOf, flat, chainsOf}
 use Rattle.rules.specs.Listing.{extentLine, rowLines}
-use Rattle.listing.specs.Told.{integer, squareOf, WholeEnds, rowsAt, chained, Near, Told}
+use Rattle.rules.proofs.CoverTerms.{Ends}
+use Rattle.listing.specs.Told.{integer, squareOf, WholeEnds, rowsAt, chained, Told}
 use Rattle.listing.proofs.Whole.{integer-whole, is-whole}
 use Rattle.listing.proofs.Rows.{rowLine}
-use Rattle.listing.proofs.Sizes.{rows-count, rows-chained}
+use Rattle.listing.proofs.Sizes.{rows-chained}
+use Rattle.rows.proofs.ListRows.{rows-count}
 
 -- ---- lists with more behind
 
@@ -41,7 +43,7 @@ pad-room k l m e = let a = ap length e ∙ length-append m (replicate (k - lengt
 
 -- ---- the extent
 
-module _ (s : Square) (e : Extent) (i : e ≡ extentOf (holds s)) (h : Near s) where
+module _ (s : Square) (e : Extent) (i : e ≡ extentOf (holds s)) (h : Ends s) where
   at-x0 : e .x0 ≡ whole (s .x0)
   unfolding extentOf
   at-x0 = ap (λ (c : Extent). c .x0) i

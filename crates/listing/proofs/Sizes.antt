@@ -11,11 +11,13 @@ use Rattle.rules.specs.declared.Extent.{Extent}
 use Rattle.rules.specs.Cover.{Square, Covered, nothing, holds}
 use Rattle.rules.specs.Tree.{Tree, none, leaf, node, nodes, Row, rowsFrom, rowsOf, chainsOf}
 use Rattle.rules.specs.Listing.{ascii, decimal, signed, kindWord, line, extentLine, rowLines, mostListed}
+use Rattle.rules.proofs.CoverTerms.{Ends}
 use Rattle.listing.specs.Text.{others}
-use Rattle.listing.specs.Told.{chained, Near, Covers, Listed}
+use Rattle.listing.specs.Told.{chained, Covers, Listed}
 use Rattle.listing.proofs.Decimal.{decimal-length, decimal-most}
 use Rattle.slots.specs.Trees.{Below}
 use Rattle.listing.proofs.Rows.{rowLine}
+use Rattle.rows.proofs.ListRows.{rows-count}
 
 -- ---- numbers of at most four digits
 
@@ -94,21 +96,6 @@ chained-append [] b = omega arith
 chained-append (r ∷ a) b = let e = chained-append a b in omega arith
 
 module _ {A : Type 0} where
-  pub rows-count : (l q : ℕ) (t : Tree A) → length (rowsFrom l q t) ≡ nodes t
-  rows-count l q none = refl
-  rows-count l q (leaf a is) = refl
-  rows-count l q (node a t0 t1 t2 t3) =
-      let r0 = rowsFrom (l + 1) 0 t0 in
-      let r1 = rowsFrom (l + 1) 1 t1 in
-      let r2 = rowsFrom (l + 1) 2 t2 in
-      let r3 = rowsFrom (l + 1) 3 t3 in
-      let e : length (r0 ++ r1 ++ r2 ++ r3) ≡ length r0 + length r1 + length r2 + length r3 = simp length-append in
-      let a0 = rows-count (l + 1) 0 t0 in
-      let a1 = rows-count (l + 1) 1 t1 in
-      let a2 = rows-count (l + 1) 2 t2 in
-      let a3 = rows-count (l + 1) 3 t3 in
-      omega arith
-
   pub rows-chained : (l q : ℕ) (t : Tree A) → chained (rowsFrom l q t) ≡ length (chainsOf t)
   rows-chained l q none = refl
   rows-chained l q (leaf a is) = omega arith
@@ -144,7 +131,7 @@ signed-length : (z : ℤ) → natAbs z ≤ 2 ^ 44 → length (signed z) ≤ 15
 signed-length (pos n) h = le-trans (decimal-length 13 n (lt-of-le-of-lt h (lit< tt))) (lit≤ tt)
 signed-length (negsuc n) h = let e : length (decimal (suc n)) ≤ 14 = decimal-length 13 (suc n) (lt-of-le-of-lt h (lit< tt)) in omega arith
 
-pub extent-length : (s : Square) → Near s → length (extentLine (holds s)) ≤ 71
+pub extent-length : (s : Square) → Ends s → length (extentLine (holds s)) ≤ 71
 extent-length s h =
     let a : length (signed (s .x0)) ≤ 15 = signed-length (s .x0) (h .x0) in
     let b : length (signed (s .y0)) ≤ 15 = signed-length (s .y0) (h .y0) in

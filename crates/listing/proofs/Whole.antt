@@ -11,8 +11,9 @@ use lib.Ieee.Back.{unsigned-back, positive-back, negative-back}
 use Rattle.rules.specs.Number.{0·}
 use Rattle.rules.specs.Cover.{whole}
 use Rattle.rules.specs.Listing.{decimal, signed}
-use Rattle.number.proofs.Integers.{HasInt, ofInt-has, lt-int}
+use Rattle.number.proofs.Integers.{HasInt, lt-int}
 use Rattle.listing.specs.Told.{integer, IsWhole}
+use Rattle.cells.proofs.CoverEnds.{has}
 
 -- ---- the float of an integer, read back
 
@@ -63,9 +64,6 @@ neg-whole n = neg-round (suc n) 1
 
 -- ---- the text of a whole number: a sign where it is below zero, and the cast's digits
 
-has-int : (x : Float) (z : ℤ) → x ≡ whole z → natAbs z ≤ 2 ^ 44 → HasInt x z
-has-int x z e h = subst (λ (y : Float). HasInt y z) (sym e) (ofInt-has 44 z (lit≤ tt) (record { within = h }))
-
 zero-is : HasInt 0· (pos 0)
 unfolding ofBits
 zero-is = (refl, refl)
@@ -91,11 +89,11 @@ above x w t = go (integer x) (w .is) (w .near)
   where
     go : (z : ℤ) → x ≡ whole z → natAbs z ≤ 2 ^ 44 → Cast x [] (signed z)
     go (pos n) e h = cast-of [] x n e h
-    go (negsuc n) e h = absurd (true≢false (sym (lt-int x 0· (negsuc n) (pos 0) (has-int x (negsuc n) e h) zero-is) ∙ t))
+    go (negsuc n) e h = absurd (true≢false (sym (lt-int x 0· (negsuc n) (pos 0) (has (negsuc n) e h) zero-is) ∙ t))
 
 pub below : (x : Float) → IsWhole x → lt x 0· ≡ true → Cast (neg x) (45 ∷ []) (signed (integer x))
 below x w t = go (integer x) (w .is) (w .near)
   where
     go : (z : ℤ) → x ≡ whole z → natAbs z ≤ 2 ^ 44 → Cast (neg x) (45 ∷ []) (signed z)
-    go (pos n) e h = absurd (false≢true (sym (lt-int x 0· (pos n) (pos 0) (has-int x (pos n) e h) zero-is ∙ leb·suc-zero n) ∙ t))
+    go (pos n) e h = absurd (false≢true (sym (lt-int x 0· (pos n) (pos 0) (has (pos n) e h) zero-is ∙ leb·suc-zero n) ∙ t))
     go (negsuc n) e h = cast-of (45 ∷ []) (neg x) (suc n) (ap neg e ∙ neg-whole n) h

@@ -1,42 +1,15 @@
 -- Text written behind text: what is written already, and what is left to write. Assumes nothing.
 use mathlib.Core.Path.{_≡_, refl, sym, ap, ap₂, _∙_, subst}
-use mathlib.Core.List.{List, [], _∷_, _++_, append-assoc, append-nil}
-use Prim.Native.Nat.{ℕ, suc, _+_, _-_, _≤_, _<_}
+use mathlib.Core.List.{List, [], _∷_, _++_}
+use Prim.Native.Nat.{ℕ, suc, _+_, _≤_, _<_}
 use native.Mathlib.Nat.{add-zero, add-assoc}
 use native.Mathlib.Numerals.{add-one}
 use native.Mathlib.Omega.{arith}
-use lib.ListN.{length, take, drop, getD, set, length-append, length-drop, take-append-drop}
-use lib.Seq.{length-take-le, take-at, drop-cons, drop-append-add, drop-drop, set-split, append-snoc}
+use lib.ListN.{length, take, drop, getD, set, length-append}
+use lib.Seq.{drop-cons, set-split, append-snoc}
 use Rattle.rules.specs.Plain.{overwritten}
 use Rattle.listing.specs.Text.{Wrote}
-
--- ---- a list written over
-
-module _ (l : List ℕ) (at : ℕ) (s : List ℕ) (h : at + length s ≤ length l) where
-  front-length : length (take at l ++ s) ≡ at + length s
-  front-length = length-append (take at l) s ∙ ap (λ (n : ℕ). n + length s) (length-take-le at l (omega arith))
-
-  pub over-length : length (overwritten l at s) ≡ length l
-  over-length =
-      let e : length (take at l ++ s) + length (drop (at + length s) l) ≡ at + length s + (length l - (at + length s)) = ap₂ (λ (a b : ℕ). a + b) front-length (length-drop (at + length s) l) in
-      length-append (take at l ++ s) (drop (at + length s) l) ∙ (omega arith)
-
-  over-take : take (at + length s) (overwritten l at s) ≡ take at l ++ s
-  over-take = take-at (take at l ++ s) (drop (at + length s) l) (at + length s) front-length
-
-  over-drop : (n : ℕ) → drop (at + length s + n) (overwritten l at s) ≡ drop (at + length s + n) l
-  over-drop n =
-      ap (λ (m : ℕ). drop (m + n) (overwritten l at s)) (sym front-length)
-      ∙ drop-append-add (take at l ++ s) (drop (at + length s) l) n
-      ∙ drop-drop n (at + length s) l
-
-  pub over-append : (t : List ℕ) → overwritten (overwritten l at s) (at + length s) t ≡ overwritten l at (s ++ t)
-  over-append t =
-      ap₂ (λ (a b : List ℕ). a ++ t ++ b) over-take (over-drop (length t))
-      ∙ ap₂ (λ (a : List ℕ) (n : ℕ). a ++ drop n l) (append-assoc (take at l) s t) (add-assoc at (length s) (length t) ∙ ap (λ (n : ℕ). at + n) (sym (length-append s t)))
-
-pub over-nothing : (l : List ℕ) (at : ℕ) → overwritten l at [] ≡ l
-over-nothing l at = ap₂ (λ (a : List ℕ) (n : ℕ). a ++ drop n l) (append-nil (take at l)) (add-zero at) ∙ take-append-drop at l
+use Rattle.sheet.proofs.Lists.{overwritten-length, overwritten-next, overwritten-none}
 
 -- from an index on: the element there, then the rest
 pub from-index : (l : List ℕ) (i : ℕ) → i < length l → drop i l ≡ getD l i 0 ∷ drop (i + 1) l
@@ -52,7 +25,7 @@ wrote-byte l at b h = record {
 -- one text behind another
 pub wrote-both : (l : List ℕ) (at : ℕ) (s t k j : List ℕ) (r q : ℕ) → at + length s ≤ length l → Wrote l at s k r → Wrote k r t j q → Wrote l at (s ++ t) j q
 wrote-both l at s t k j r q h w v = record {
-  list = v .list ∙ ap₂ (λ (a : List ℕ) (n : ℕ). overwritten a n t) (w .list) (w .next) ∙ over-append l at s h t;
+  list = v .list ∙ ap₂ (λ (a : List ℕ) (n : ℕ). overwritten a n t) (w .list) (w .next) ∙ overwritten-next l at s t h;
   next = v .next ∙ ap (λ (n : ℕ). n + length t) (w .next) ∙ add-assoc at (length s) (length t) ∙ ap (λ (n : ℕ). at + n) (sym (length-append s t));
 }
 
@@ -73,7 +46,7 @@ left-as l at whole rest e h = subst (λ (t : List ℕ). Left l at whole l at t) 
 
 module _ {l : List ℕ} {at : ℕ} {whole k : List ℕ} {next : ℕ} where
   pub left-none : Left l at whole k next [] → Wrote l at whole k next
-  left-none d = record { list = sym (over-nothing k next) ∙ d .list; next = sym (add-zero next) ∙ d .end }
+  left-none d = record { list = sym (overwritten-none k next) ∙ d .list; next = sym (add-zero next) ∙ d .end }
 
   pub left-last : {s j : List ℕ} {q : ℕ} → Left l at whole k next s → Wrote k next s j q → Wrote l at whole j q
   left-last d w = record { list = w .list ∙ d .list; next = w .next ∙ d .end }
@@ -94,9 +67,9 @@ left-next {l} {at} {whole} {k} {next} s rest d = record { room = room; after = a
 
     after : {j : List ℕ} {q : ℕ} → Wrote k next s j q → Left l at whole j q rest
     after {j} {q} w =
-        let n : length j ≡ length k = ap length (w .list) ∙ over-length k next s room in
+        let n : length j ≡ length k = ap length (w .list) ∙ overwritten-length k next s room in
         record {
-          list = ap₂ (λ (a : List ℕ) (n : ℕ). overwritten a n rest) (w .list) (w .next) ∙ over-append k next s room rest ∙ d .list;
+          list = ap₂ (λ (a : List ℕ) (n : ℕ). overwritten a n rest) (w .list) (w .next) ∙ overwritten-next k next s rest room ∙ d .list;
           end = omega (arith, both, w .next, d .end);
           fits = omega (arith, both, w .next, d .fits);
           same = n ∙ d .same;

@@ -11,6 +11,7 @@ use Rattle.rules.specs.Cover.{Square, square, whole, Covered, nothing, holds, e
 use Rattle.rules.specs.Tree.{Tree, nodes, Row, row, rowsOf, flat, chainsOf}
 use Rattle.slots.specs.Trees.{Below}
 use Rattle.rules.specs.Listing.{mostListed, listerSlots}
+use Rattle.rules.proofs.CoverTerms.{Ends}
 
 -- ---- ends
 
@@ -46,16 +47,10 @@ chained (r ∷ rs) = r .chain + chained rs
 
 -- ---- a tree, and what covers its points
 
-pub record Near (s : Square) : Type 0 where
-  pub x0 : natAbs (s .x0) ≤ 2 ^ 44
-  pub y0 : natAbs (s .y0) ≤ 2 ^ 44
-  pub x1 : natAbs (s .x1) ≤ 2 ^ 44
-  pub y1 : natAbs (s .y1) ≤ 2 ^ 44
-
 -- without a node nothing is covered, and else a square whose ends are near
 abbrev pub Covers : Covered → ℕ → Type 0
 Covers nothing n = n ≡ 0
-Covers (holds s) n = (0 < n) × Near s
+Covers (holds s) n = (0 < n) × Ends s
 
 -- within the lister's limits
 pub record Listed (c : Covered) (t : Tree Extent) : Type 0 where

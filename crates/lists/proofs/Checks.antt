@@ -1,15 +1,17 @@
 -- Checks in a row: what passes them, and which refusal of several is answered.
 use mathlib.Core.Path.{_≡_, refl, sym, ap, _∙_}
-use mathlib.Core.Bool.{Bool, true, false, _&&_, false≢true}
+use mathlib.Core.Bool.{Bool, true, false, _&&_}
 use mathlib.Core.List.{List}
-use Prim.Native.Nat.{ℕ}
+use Prim.Native.Nat.{ℕ, _<_}
 use native.Mathlib.Omega.{arith}
 use lib.Ieee.{Float}
+use borrow.Author.Tests.{eqb-true, ne-eqb}
 use Rattle.rules.specs.declared.Refusal.{Refusal}
 use Rattle.rules.specs.Plain.{all}
 use Rattle.rules.specs.Number.{within, finite}
 use Rattle.rules.specs.Outcome.{done, refused, Check, fine, require, _then_, _>>=_, refusalOf}
 use Rattle.rules.specs.Refusal.{resultCheck}
+use Rattle.rules.specs.Force.{noneOr}
 use Rattle.rules.proofs.RefusalLaws.{Refuses, _then·_}
 use Rattle.rules.proofs.RefusalNumbers.{Early}
 use Rattle.lists.specs.Checks.{firstOf}
@@ -31,10 +33,6 @@ then-fine (refused r) = refl
 pub require-true : (ok : Bool) (n i : ℕ) → require ok n i ≡ fine → ok ≡ true
 require-true true n i h = refl
 require-true false n i h = absurd (let z : _≡_ {A = ℕ} 0 1 = cc in omega arith)
-
-pub and-both : (a b : Bool) → a && b ≡ true → (a ≡ true) × (b ≡ true)
-and-both true b h = (refl, h)
-and-both false b h = absurd (false≢true h)
 
 -- 9 is answered, or nothing
 pub result-fine : (places vs : List Float) → refusalOf (resultCheck places vs) .number ≡ 0 → resultCheck places vs ≡ fine
@@ -63,3 +61,7 @@ first-three c d e hc hd = rw (first-then c d hc) (first-then (c then d) e (hc th
 pub first-four : (c d e g : Check) → Refuses Early c → Refuses Early d → Refuses Early e
     → firstOf (firstOf (firstOf (refusalOf c) (refusalOf d)) (refusalOf e)) (refusalOf g) ≡ refusalOf (c then d then e then g)
 first-four c d e g hc hd he = rw (first-three c d e hc hd) (first-then (c then d then e) g (hc then· hd then· he))
+
+-- one for each, or none
+pub as-many : (k m : ℕ) → 0 < k → noneOr m k ≡ true → k ≡ m
+as-many k m some e = eqb-true k m (rw (ne-eqb k 0 (λ z. omega arith)) at e)

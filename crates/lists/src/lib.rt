@@ -1,8 +1,8 @@
 // The checks of the lists that a force is lent, and of what it leaves. Number 0 at place 0 where nothing is refused.
-use force::wide;
 use number::distance_range;
 use number::draw_range;
 use number::is_finite;
+use number::wide;
 use number::within;
 use rules::Refusal;
 use sheet::coordinate_check;

@@ -4,7 +4,7 @@ use mathlib.Core.Bool.{Bool, true, false, not}
 use Prim.Native.Nat.{ℕ, zero, suc, _-_, _*_, _/_, _^_, _≤_, _<_, min}
 use native.Mathlib.Nat.{le-trans, le-of-eq, lt-of-lt-of-le, lt-of-le-of-lt, lt-irrefl, mul-comm, div-le-of-le-mul, div-mul-le-self, div-lt-iff-lt-mul, lt-suc-self, le-of-lt, le-of-mul-le-mul-right}
 use native.Mathlib.Omega.{arith}
-use lib.IntN.{ℤ, pos, negsuc, negℤ, natAbs, predℤ, _-ℤ_, -ℤ-one}
+use lib.IntN.{ℤ, pos, negsuc, negℤ, predℤ, _-ℤ_, -ℤ-one}
 use lib.Signed.{ltZ}
 use lib.Dec.{T, ltb, ltb→lt, nltb→le, lt→ltb, le→leb, lit≤, lit<}
 use lib.Ieee.{Float, nan, inf, fin, binary64, up, down, ofInt, lt, le, toSigned}
@@ -17,7 +17,7 @@ use Rattle.rules.specs.Floor.{floor, ceiling}
 use Rattle.rules.proofs.Floor.{ceiling-ge, ceiling-least}
 use Rattle.number.proofs.Order.{signed, flip, flip-nat}
 use Rattle.number.proofs.Integers.{HasInt, ofInt-has, Within}
-use Rattle.number.proofs.Flooring.{int-le-x, x-lt-int, negatives, either-side, Bounded, bounded, floor-lt, within-finite}
+use Rattle.number.proofs.Flooring.{magnitude, int-le-x, x-lt-int, negatives, either-side, Bounded, bounded, floor-lt, within-finite}
 
 -- ---- what `truncating_f64_to_i64` requires
 
@@ -78,10 +78,6 @@ cut-within nan b = absurd b
 cut-within (inf s) b = absurd b
 cut-within (fin false m e) b = record { within = quot-le (m * up e) (down e) b }
 cut-within (fin true m e) b = record { within = le-trans (le-of-eq (magnitude (m * up e / down e))) (quot-le (m * up e) (down e) b) }
-  where
-    magnitude : (q : ℕ) → natAbs (negℤ (pos q)) ≡ q
-    magnitude zero = refl
-    magnitude (suc q) = refl
 
 -- ---- the floor is the cut, or one less where it is below
 

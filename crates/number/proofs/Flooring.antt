@@ -153,15 +153,15 @@ within-finite nan t = no-nan t
 within-finite (inf s) t = no-inf s t
 within-finite (fin s m e) t = tt
 
+pub magnitude : (n : ℕ) → natAbs (negℤ (pos n)) ≡ n
+magnitude zero = refl
+magnitude (suc n) = refl
+
 -- the floor of an x within 2 ^ 40 of zero is within it too
 pub floor-within : (x : Float) → T (within x) → Within 40 (floor x)
 unfolding floor
 floor-within x t = go x (bounded x t)
   where
-    magnitude : (c : ℕ) → natAbs (negℤ (pos c)) ≡ c
-    magnitude zero = refl
-    magnitude (suc c) = refl
-
     go : (x : Float) → Bounded x → Within 40 (floor x)
     go nan b = absurd b
     go (inf s) b = absurd b

@@ -14,7 +14,8 @@ use lib.Ieee.Exact.{HasValue}
 use lib.Ieee.Scale.{round-same}
 use lib.Ieee.Back.{round-whole}
 use Rattle.rules.specs.Number.{_⊕_, _⊖_, _⊘_, 1·, 2·, float}
-use Rattle.number.proofs.Order.{ltb-scale, signed, lt-at, le-at}
+use Rattle.rules.proofs.CellFloat.{ltb-scale}
+use Rattle.number.proofs.Order.{signed, lt-at, le-at}
 
 -- ---- x is the integer z
 

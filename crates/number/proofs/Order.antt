@@ -1,8 +1,8 @@
 -- The order of finite f64 is that of integers, over any common denominator. Assumes nothing.
 use mathlib.Core.Path.{_≡_, refl, sym, ap, ap₂, _∙_}
-use mathlib.Core.Bool.{Bool, true, false, not, _&&_, _||_, Bool·beq}
+use mathlib.Core.Bool.{Bool, true, false, not, _&&_, _||_}
 use Prim.Native.Nat.{ℕ, zero, suc, _+_, _-_, _*_, _/_, _%_, _^_, _≤_, _<_}
-use native.Mathlib.Nat.{le-of-eq, lt-of-lt-of-le, lt-irrefl, mul-assoc, mul-comm, mul-one, one-mul, zero-mul, zero-add, mul-right-comm, add-mul, mul-pos, mul-lt-mul-of-pos-right, lt-of-mul-lt-mul-right, le-of-mul-le-mul-right, mul-div-cancel, pow-succ'}
+use native.Mathlib.Nat.{le-of-eq, le-of-lt, le-antisymm, lt-of-lt-of-le, lt-irrefl, mul-assoc, mul-comm, mul-one, one-mul, zero-add, mul-right-comm, mul-pos, mul-div-cancel, pow-succ'}
 use native.Mathlib.Omega.{arith}
 use lib.IntN.{ℤ, pos, negsuc, negℤ}
 use lib.Signed.{ltZ, leZ}
@@ -14,37 +14,13 @@ use lib.Ieee.Fits.{down-pos, eq→eqb, and-l, and-r}
 use lib.Ieee.Exact.{HasValue}
 use lib.Ieee.Bits.{is-true}
 use Rattle.rules.specs.Number.{finite}
+use Rattle.rules.proofs.CellFloat.{below-scale, level-scale}
 
 pub same-test : (a b : Bool) → (T a → T b) → (T b → T a) → a ≡ b
 same-test true true p q = refl
 same-test true false p q = absurd (p tt)
 same-test false true p q = absurd (q tt)
 same-test false false p q = refl
-
--- ---- tests of numbers times c are tests of the numbers
-
-module _ (a b c : ℕ) (C : 0 < c) where
-  pub ltb-scale : ltb (a * c) (b * c) ≡ ltb a b
-  ltb-scale = same-test (ltb (a * c) (b * c)) (ltb a b) (λ t. lt→ltb a b (lt-of-mul-lt-mul-right c (ltb→lt (a * c) (b * c) t))) (λ t. lt→ltb (a * c) (b * c) (mul-lt-mul-of-pos-right (ltb→lt a b t) C))
-
-  eqb-scale : eqb (a * c) (b * c) ≡ eqb a b
-  eqb-scale = same-test (eqb (a * c) (b * c)) (eqb a b) (λ t. eq→eqb (cancel (eqb→eq (a * c) (b * c) t))) (λ t. eq→eqb (ap (λ (x : ℕ). x * c) (eqb→eq a b t)))
-    where
-      cancel : a * c ≡ b * c → a ≡ b
-      cancel e = meet (le-of-mul-le-mul-right (le-of-eq e) C) (le-of-mul-le-mul-right (le-of-eq (sym e)) C)
-        where
-          meet : a ≤ b → b ≤ a → a ≡ b
-          meet x y = omega arith
-
-below-scale : (s : Bool) (a : ℕ) (t : Bool) (b c : ℕ) → 0 < c → below s (a * c) t (b * c) ≡ below s a t b
-below-scale false a false b c C = ltb-scale a b c C
-below-scale false a true b c C = refl
-below-scale true a false b c C = ap (λ (n : ℕ). ltb n (a * c + b * c)) (sym (zero-mul c)) ∙ ap (ltb (0 * c)) (sym (add-mul a b c)) ∙ ltb-scale 0 (a + b) c C
-below-scale true a true b c C = ltb-scale b a c C
-
-level-scale : (s : Bool) (a : ℕ) (t : Bool) (b c : ℕ) → 0 < c → level s (a * c) t (b * c) ≡ level s a t b
-level-scale s a t b c C =
-    ap₂ (λ (p q : Bool). p && (Bool·beq s t || q)) (eqb-scale a b c C) (ap (λ (n : ℕ). eqb (a * c) n) (sym (zero-mul c)) ∙ eqb-scale a 0 c C)
 
 -- ---- sign and magnitude as an integer, -0 being 0
 
@@ -99,20 +75,14 @@ level-z true (suc a) true (suc b) = and-true (eqb (suc a) (suc b)) ∙ eqb·suc-
 lt-or-eq : (a b : ℕ) → (ltb a b || eqb a b) ≡ leb a b
 lt-or-eq a b = same-test (ltb a b || eqb a b) (leb a b) (λ t. le→leb a b (go (ltb a b) (eqb a b) (ltb→lt a b) (eqb→eq a b) t)) (λ t. back' (ltb a b) (eqb a b) (nltb→le a b) (λ e. eq→eqb e) (leb→le a b t))
   where
-    weak : (a b : ℕ) → a < b → a ≤ b
-    weak a b h = omega arith
-
-    meet : (a b : ℕ) → a ≤ b → b ≤ a → a ≡ b
-    meet a b h k = omega arith
-
     go : (p q : Bool) → (T p → a < b) → (T q → a ≡ b) → T (p || q) → a ≤ b
-    go true q h k t = weak a b (h tt)
+    go true q h k t = le-of-lt (h tt)
     go false true h k t = le-of-eq (k tt)
     go false false h k t = absurd t
 
     back' : (p q : Bool) → (T (not p) → b ≤ a) → (a ≡ b → T q) → a ≤ b → T (p || q)
     back' true q h k t = tt
-    back' false q h k t = k (meet a b t (h tt))
+    back' false q h k t = k (le-antisymm t (h tt))
 
 leZ-is : (a b : ℤ) → (ltZ a b || eqZ a b) ≡ leZ a b
 leZ-is (pos a) (pos b) = lt-or-eq a b
@@ -192,7 +162,11 @@ pub record Finite64 (x : Float) : Type 0 where
   pub finite : T (finite x)
   pub held : T (fits binary64 x)
 
-pow-le-back : (i p : ℕ) → 2 ^ i ≤ 2 ^ p → i ≤ p
+-- twice a number is not 1
+pub two-up : (p : ℕ) → 0 < p → 2 * p ≡ 1 → ⊥
+two-up p h e = omega arith
+
+pub pow-le-back : (i p : ℕ) → 2 ^ i ≤ 2 ^ p → i ≤ p
 pow-le-back i p h = go (ltb p i) (ltb→lt p i) (nltb→le p i)
   where
     go : (t : Bool) → (T t → p < i) → (T (not t) → i ≤ p) → i ≤ p
@@ -208,9 +182,6 @@ down-le : (s : Bool) (m : ℕ) (e : ℤ) → T (fits binary64 (fin s m e)) → d
 unfolding fits
 down-le s zero (pos a) t = pow-pos 1074
 down-le s zero (negsuc a) t = absurd (two-up (2 ^ a) (pow-pos a) (sym (pow-succ' 2 a) ∙ sym (one-mul (2 ^ suc a)) ∙ eqb→eq (1 * 2 ^ suc a) 1 t))
-  where
-    two-up : (p : ℕ) → 0 < p → 2 * p ≡ 1 → ⊥
-    two-up p h e = omega arith
 down-le s (suc m) e t =
     leb→le (down e) (2 ^ 1074)
     (and-r (eqb (suc m % 2) 1 && ltb (suc m) (2 ^ 53)) (leb (down e) (2 ^ 1074)) (and-l (eqb (suc m % 2) 1 && ltb (suc m) (2 ^ 53) && leb (down e) (2 ^ 1074)) (ltb (suc m * up e) (2 ^ 1024 * down e)) t))

@@ -14,6 +14,7 @@ use lib.Ieee.Bits.{nanBits-is, nanBits-above, is-true}
 use lib.Ieee.Compare.{nan-differs, differs-from-itself}
 use Rattle.rules.specs.Number.{floatOf, bitsOf, 0·, finite, abs, plainZero}
 use Rattle.rules.specs.Root.{infinity}
+use Rattle.number.proofs.Order.{two-up}
 
 pub yes : {b : Bool} → b ≡ true → T b
 yes h = subst T (sym h) tt
@@ -126,13 +127,7 @@ abs-below (fin false m e) h = absurd (no-pos m e h)
 flat : (e : ℤ) → up e * down e ≡ 1 → e ≡ pos 0
 flat (pos zero) h = refl
 flat (pos (suc k)) h = absurd (two-up (2 ^ k) (pow-pos k) (sym (pow-succ' 2 k) ∙ sym (mul-one (2 ^ suc k)) ∙ h))
-  where
-    two-up : (p : ℕ) → 0 < p → 2 * p ≡ 1 → ⊥
-    two-up p h e = omega arith
 flat (negsuc k) h = absurd (two-up (2 ^ k) (pow-pos k) (sym (pow-succ' 2 k) ∙ sym (one-mul (2 ^ suc k)) ∙ h))
-  where
-    two-up : (p : ℕ) → 0 < p → 2 * p ≡ 1 → ⊥
-    two-up p h e = omega arith
 
 -- an f64 has one zero of each sign
 zero-is : (s : Bool) (e : ℤ) → T (fits binary64 (fin s 0 e)) → 0· ≡ fin false 0 e

@@ -32,3 +32,16 @@ pub fn plain_zero(x: f64) -> f64
     }
     x
 }
+
+// A number as an index: a call asks no proof that it fits.
+pub fn index(x: u64) -> usize
+    ensures { λ r. ⌜ r ≡ x ⌝ }
+{
+    x as usize
+}
+
+pub fn wide(x: u32) -> usize
+    ensures { λ r. ⌜ r ≡ x ⌝ }
+{
+    x as usize
+}

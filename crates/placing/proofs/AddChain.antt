@@ -14,6 +14,7 @@ use Rattle.rules.specs.Tree.{same}
 use Rattle.rules.proofs.CellList.{In, in-keep, keep-in}
 use Rattle.rules.proofs.CellPoints.{same-sym, same-trans}
 use Rattle.rules.proofs.CellChain.{Chain}
+use Rattle.rules.proofs.CellCount.{in-count}
 use Rattle.slots.specs.Trees.{Follows, first}
 use Rattle.placing.specs.Add.{Alone}
 use Rattle.leaves.specs.Chain.{Link, Earliest, Last, Linked}
@@ -49,11 +50,6 @@ rising-count k (suc n) = (omega arith, rising-less (k + 1) (suc k) (countFrom (k
 count-in : (k n i : ℕ) → k ≤ i → i < k + n → In i (countFrom k n)
 count-in k zero i h g = absurd (omega arith)
 count-in k (suc n) i h g = elim (ℕ-discrete i k) [ yes e ↦ inl e | no ne ↦ inr (count-in (k + 1) n i (omega arith) (omega arith)) ]
-
-in-count : (k n i : ℕ) → In i (countFrom k n) → i < k + n
-in-count k zero i m = absurd m
-in-count k (suc n) i (inl e) = omega arith
-in-count k (suc n) i (inr m) = omega (arith, in-count (k + 1) n i m)
 
 pub upTo-in : (n i : ℕ) → i < n → In i (upTo n)
 upTo-in n i h = count-in 0 n i (omega arith) (omega arith)

@@ -21,7 +21,7 @@ use Rattle.leaves.specs.Leaf.{side, gap, parted}
 use Rattle.placing.specs.Add.{lead, Stored, pick}
 use Rattle.slots.proofs.Slots.{Same, Small, same-trans, internal-length, internal-same, internal-tag, internal-kids, leaf-length, leaf-same, leaf-tag}
 use Rattle.placing.proofs.SlotsTree.{each-true, apart-sym, over, upd, bare, leads, upd-all, upd-below, each-over, stored-over, leads-upd, leads-small, depth-upd, nodes-upd, depth-child, once-over, pair-upd}
-use Rattle.placing.proofs.AddWay.{pick-ap, side-lt}
+use Rattle.placing.proofs.AddWay.{pick-ap, deeper, side-lt}
 use Rattle.cells.proofs.Quadrant.{quadrant-lt}
 
 module _ (at : List Float) (p : ℕ) where
@@ -241,6 +241,3 @@ module _ (at : List Float) (p : ℕ) where
       let own : f q (pick 0 0 0 0 q) ≡ insertT at p (quarter q c) (suc n) (leaf (quarter q c) (i ∷ js)) = rw (inQuarter-own at c i) in
       rw (insert-together at p c d (suc n) i js ne (together-too c i (h .0)))
       (deeper rest (ap depth (pick-ap f 0 0 0 0 q (quadrant-lt c (xAt at i) (yAt at i)) ∙ own)) (depth-child c (f 0 0) (f 1 0) (f 2 0) (f 3 0) q))
-    where
-      deeper : {a b e k : ℕ} → k < a → b ≡ a → suc b ≤ e → suc k < e
-      deeper x y z = omega arith

@@ -39,6 +39,10 @@ pick-ap f a b c d (suc (suc zero)) l = refl
 pick-ap f a b c d (suc (suc (suc zero))) l = refl
 pick-ap f a b c d (suc (suc (suc (suc q)))) l = absurd (omega arith)
 
+-- one level more on both sides
+pub deeper : {a b e k : ℕ} → k < a → b ≡ a → suc b ≤ e → suc k < e
+deeper x y z = omega arith
+
 module _ (at : List Float) (p : ℕ) where
   pub side-lt : (c : Extent) → side at p c < 4
   side-lt c = quadrant-lt c (xAt at p) (yAt at p)
@@ -208,6 +212,3 @@ module _ (at : List Float) (p : ℕ) where
       let f : ℕ → Tree ℕ → Tree Extent = λ i t. into at p c (up n k) i (inCells (quarter i c) t) in
       rw (insert-node at p c c (up n k) (inCells (quarter 0 c) t0) (inCells (quarter 1 c) t1) (inCells (quarter 2 c) t2) (inCells (quarter 3 c) t3))
       (deeper rest (ap depth (pick-ap f t0 t1 t2 t3 q (side-lt c) ∙ own)) (depth-child c (f 0 t0) (f 1 t1) (f 2 t2) (f 3 t3) q))
-    where
-      deeper : {a b e k : ℕ} → k < a → b ≡ a → suc b ≤ e → suc k < e
-      deeper x y z = omega arith

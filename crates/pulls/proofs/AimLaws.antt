@@ -9,6 +9,7 @@ use Rattle.rules.specs.declared.Tuning.{Tuning}
 use Rattle.rules.specs.Outcome.{Outcome, done, refused, refusal, _>>=_}
 use Rattle.rules.specs.Flow.{flow, Gap, gap, Shaken, shaken, lengthened}
 use Rattle.rules.specs.ManyBody.{softened, acted}
+use Rattle.rules.proofs.OutcomeLaws.{bind-assoc}
 use Rattle.force.specs.declared.draws.Jiggled.{Jiggled}
 use Rattle.force.specs.Draws.{shakenOf}
 use Rattle.pulls.specs.declared.aim.Aim.{Aim}
@@ -27,16 +28,13 @@ module _ (t : Tuning) (ds left : List Float) (g : Gap) (l : Float) where
       go true = refl
       go false = refl
 
--- what follows an aim
-follow : {A B C : Type 0} (o : Outcome A) (f : A → B) (h : B → C) → (o >>= λ a. done (h (f a))) ≡ (o >>= (λ a. done (f a)) >>= λ b. done (h b))
-follow (done a) f h = refl
-follow (refused r) f h = refl
+-- ---- what follows an aim
 
 module _ (t : Tuning) (strengths : List Float) (alpha : Float) (i : ℕ) (pull : Gap → Float → List Float → List Float) (g : Gap) (l : Float) (vs left ds : List Float) (a : Aim) (e : aimOf ds a ≡ aimed t g l left) where
   acted-aim : acted t strengths alpha i pull g l (flow vs left) ≡ (aimOf ds a >>= λ b. done (flow (pull (b .gap) (b .length) vs) (b .left)))
   unfolding aimed
   acted-aim =
-      follow (shaken g left) (λ s. aimAt (s .gap) (softened t (lengthened l g (s .gap))) (s .left)) (λ b. flow (pull (b .gap) (b .length) vs) (b .left))
+      sym (bind-assoc (shaken g left) (λ s. done (aimAt (s .gap) (softened t (lengthened l g (s .gap))) (s .left))) (λ b. done (flow (pull (b .gap) (b .length) vs) (b .left))))
       ∙ ap (λ (o : Outcome Aimed). o >>= λ b. done (flow (pull (b .gap) (b .length) vs) (b .left))) (sym e)
 
   pub acted-dry : a .dry ≡ true → refused (refusal 8 0) ≡ acted t strengths alpha i pull g l (flow vs left)

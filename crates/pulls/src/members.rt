@@ -1,7 +1,7 @@
 // A near leaf's members, which pull one by one.
 use chains::strength_of;
 use force::push_on;
-use force::wide;
+use number::wide;
 ghost use mathlib.Core.Path.{_≡_};
 ghost use mathlib.Core.List.{[], _∷_};
 ghost use Prim.Native.Nat.{_+_, _*_, _≤_, _<_};

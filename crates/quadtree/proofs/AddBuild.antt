@@ -31,6 +31,7 @@ use Rattle.placing.specs.Add.{lead, Holds, Ranged, Placed, Inserts}
 use Rattle.quadtree.specs.declared.build.Built.the-variants as Built
 use Rattle.quadtree.specs.Build.{particles, Builds, Follows, Extends}
 use Rattle.cells.proofs.CoverLaws as Laws
+use Rattle.cells.proofs.Prefix.{member-less}
 use Rattle.placing.proofs.SlotsTree.{stored-leads}
 use Rattle.placing.proofs.AddChain.{chain-follows}
 use Rattle.slots.proofs.Trees.{cells-depth, cells-nodes}
@@ -39,11 +40,6 @@ use Rattle.quadtree.proofs.AddInsert.{is-T}
 use Rattle.placing.proofs.AddPlaced.{ranged-points}
 
 -- ---- members of 0, 1, .. , n - 1
-
-member-less : (k n i : ℕ) → List·Memᴰ i (countFrom k n) → i < k + n
-member-less k zero i m = elim m [ ]
-member-less k (suc n) i (List·Memᴰ·head e) = omega arith
-member-less k (suc n) i (List·Memᴰ·tail m) = omega (arith, member-less (k + 1) n i m)
 
 less-member : (k n i : ℕ) → k ≤ i → i < k + n → List·Memᴰ i (countFrom k n)
 less-member k zero i h g = absurd (omega arith)

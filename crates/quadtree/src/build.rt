@@ -1,6 +1,4 @@
 // mod.rs: the tree of all particles, one after the other. The earliest whose prefix passes the greatest level or wants more slots than are lent is refused.
-ghost use mathlib.Core.Path.{_≡_};
-ghost use Prim.Native.Nat.{_+_, _*_, _≤_};
 ghost use Rattle.quadtree.specs.Build.{Lent, Builds, Follows, Extends};
 use crate::add;
 use cells::cover;

@@ -1,4 +1,4 @@
 mod ListChain
-mod ListRows
+pub mod ListRows
 mod ListTree
 pub mod ListWhole

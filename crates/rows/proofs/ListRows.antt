@@ -29,7 +29,7 @@ flat-append [] ss = refl
 flat-append (r ∷ rs) ss = ap (λ (l : List ℕ). r .level ∷ r .quadrant ∷ r .kind ∷ r .chain ∷ l) (flat-append rs ss)
 
 -- a row for each node
-pub rows-count : (l q : ℕ) (t : Tree ℕ) → length (rowsFrom l q t) ≡ nodes t
+pub rows-count : {A : Type 0} (l q : ℕ) (t : Tree A) → length (rowsFrom l q t) ≡ nodes t
 rows-count l q none = refl
 rows-count l q (leaf s is) = refl
 rows-count l q (node s t0 t1 t2 t3) =

@@ -1,20 +1,20 @@
 -- The listing of a whole tree.
 use mathlib.Core.Path.{_≡_, refl, sym, ap, _∙_}
-use mathlib.Core.Logic.{⊎-elim, inl, inr}
+use mathlib.Core.Logic.{inl, inr}
 use mathlib.Core.List.{List, [], _∷_, _++_, append-nil}
-use Prim.Native.Nat.{ℕ, zero, suc, _+_, _-_, _*_, _≤_, _<_}
+use Prim.Native.Nat.{ℕ, suc, _+_, _-_, _*_, _≤_, _<_}
 use native.Mathlib.Nat.{zero-add}
 use native.Mathlib.Omega.{arith}
 use lib.ListN.{length, set, replicate, length-append, length-set, length-replicate, drop-of-length-le}
 use lib.Ieee.{Float}
 use Rattle.rules.specs.declared.Extent.{Extent}
-use Rattle.rules.specs.Plain.{upTo, countFrom, overwritten, padded}
+use Rattle.rules.specs.Plain.{upTo, overwritten, padded}
 use Rattle.rules.specs.Cell.{quarter}
 use Rattle.rules.specs.Cover.{coverFirst, extentOf}
 use Rattle.rules.specs.Tree.{Tree, none, leaf, node, depth, Row, rowsFrom, rowsOf, flat, chainsOf, treeOf}
 use Rattle.rules.proofs.CellList.{In}
 use Rattle.rules.proofs.CellIs.{Is}
-use Rattle.rules.proofs.CellCount.{length-upTo}
+use Rattle.rules.proofs.CellCount.{length-upTo, in-count}
 use Rattle.rules.proofs.CellRule as Rule
 use Rattle.sheet.proofs.Lists.{overwritten-none, overwritten-next, overwritten-length}
 use Rattle.slots.specs.Trees.{inCells, Stands, Below}
@@ -86,10 +86,6 @@ zeros-behind l part h =
 
 -- ---- what a tree that stands in slots gives
 
-in-count : (i a k : ℕ) → In i (countFrom a k) → i < a + k
-in-count i a zero h = absurd h
-in-count i a (suc k) h = ⊎-elim (λ e. omega arith) (λ g. omega (arith, in-count i (a + 1) k g)) h
-
 in-below : (n : ℕ) (is : List ℕ) → ((i : ℕ) → In i is → i < n) → Below n is
 in-below n [] f = tt
 in-below n (i ∷ is) f = (f i (inl refl), in-below n is (λ j h. f j (inr h)))
@@ -106,7 +102,7 @@ module _ (at : List Float) (n : ℕ) where
       let c = extentOf (coverFirst at n) in
       let t = treeOf at n in
       let h = is-whole l in
-      (Rule.chains-length at t c (upTo n) h ∙ length-upTo n, in-below n (chainsOf t) (λ i m. omega (arith, in-count i 0 n (Rule.chains-in at t c (upTo n) i h .0 m))))
+      (Rule.chains-length at t c (upTo n) h ∙ length-upTo n, in-below n (chainsOf t) (λ i m. omega (arith, in-count 0 n i (Rule.chains-in at t c (upTo n) i h .0 m))))
 
   module _ (m next : List ℕ) (q : Quadtree) (rows chains : ℕ) (w : Whole at n m next q rows chains) where
     abbrev s : Stands at n m next q

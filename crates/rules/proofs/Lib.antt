@@ -23,6 +23,7 @@ pub mod CellSize
 pub mod CellWrap
 pub mod CellMore
 pub mod CellRule
+pub mod OutcomeLaws
 pub mod RefusalLaws
 pub mod RefusalNumbers
 pub mod Places

@@ -1,6 +1,6 @@
 -- What the checks of records say.
 use mathlib.Core.Path.{_≡_, refl, ap}
-use mathlib.Core.Bool.{Bool, true, false, _&&_, not, false≢true}
+use mathlib.Core.Bool.{Bool, true, false, _&&_, not, false≢true, and-eq-true-iff}
 use mathlib.Core.List.{List, [], _∷_}
 use Prim.Native.Nat.{ℕ, zero, suc, _+_, _*_, _/_, _<_}
 use native.Mathlib.Omega.{arith}
@@ -82,15 +82,11 @@ unfolding recordCheck
 sound-fine i p s = rw (s .flags, s .x, s .y, s .vx, s .vy)
 
 -- where two tests hold together, each does
-pub and-split : (a b : Bool) → a && b ≡ true → (a ≡ true) × (b ≡ true)
-and-split true b h = (refl, h)
-and-split false b h = absurd (false≢true h)
-
 -- what holds of all holds of each
 pub all-at : {A : Type 0} (p : A → Bool) (l : List A) (i : ℕ) (d : A) → all p l ≡ true → i < length l → p (getD l i d) ≡ true
 all-at p [] i d h k = absurd (omega arith)
-all-at p (x ∷ l) zero d h k = and-split (p x) (all p l) h .0
-all-at p (x ∷ l) (suc i) d h k = all-at p l i d (and-split (p x) (all p l) h .1) (omega arith)
+all-at p (x ∷ l) zero d h k = and-eq-true-iff (p x) (all p l) .0 h .0
+all-at p (x ∷ l) (suc i) d h k = all-at p l i d (and-eq-true-iff (p x) (all p l) .0 h .1) (omega arith)
 
 -- both coordinates of each place
 pub all-ranged : (at : List Float) → all within at ≡ true → (i : ℕ) → i < length at / 2 → (within (xAt at i) ≡ true) × (within (yAt at i) ≡ true)
@@ -100,7 +96,7 @@ all-ranged at h i k = (all-at within at (i * 2) nan h (omega arith), all-at with
 
 pub within-number : (x : Float) → within x ≡ true → T (not (isNan x))
 unfolding between le isNan
-within-number nan h = absurd (false≢true (and-split (le (neg limit) nan) false h .1))
+within-number nan h = absurd (false≢true (and-eq-true-iff (le (neg limit) nan) false .0 h .1))
 within-number (inf s) h = tt
 within-number (fin s m e) h = tt
 
@@ -141,11 +137,11 @@ records-sound ps h = checks-sound 0 ps h
 sound-checks : (i : ℕ) (ps : List Particle) → AllSound ps → checkFrom recordCheck i ps ≡ fine
 sound-checks i [] s = refl
 sound-checks i (p ∷ ps) s =
-    let x = and-split (within (p .x)) (within (p .y) && all within (placesOf ps)) (s .places) in
-    let y = and-split (within (p .y)) (all within (placesOf ps)) (x .1) in
-    let vx = and-split (finite (p .vx)) (finite (p .vy) && all finite (speedsOf ps)) (s .speeds) in
-    let vy = and-split (finite (p .vy)) (all finite (speedsOf ps)) (vx .1) in
-    let f = and-split (leb (p .flags) 3) (all (λ f. leb f 3) (flagsOf ps)) (s .flags) in
+    let x = and-eq-true-iff (within (p .x)) (within (p .y) && all within (placesOf ps)) .0 (s .places) in
+    let y = and-eq-true-iff (within (p .y)) (all within (placesOf ps)) .0 (x .1) in
+    let vx = and-eq-true-iff (finite (p .vx)) (finite (p .vy) && all finite (speedsOf ps)) .0 (s .speeds) in
+    let vy = and-eq-true-iff (finite (p .vy)) (all finite (speedsOf ps)) .0 (vx .1) in
+    let f = and-eq-true-iff (leb (p .flags) 3) (all (λ f. leb f 3) (flagsOf ps)) .0 (s .flags) in
     rw (sound-fine i p (record { flags = f .0; x = x .0; y = y .0; vx = vx .0; vy = vy .0 }))
     (sound-checks (i + 1) ps (record { places = y .1; speeds = vy .1; flags = f .1 }))
 

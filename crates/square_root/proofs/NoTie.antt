@@ -12,7 +12,7 @@ use Rattle.rules.specs.Root.{infinity, units, fourfold, squared, Nearest}
 use Rattle.rules.proofs.Nearest.{Nearer, nearest, square-le}
 use Rattle.rules.proofs.Nearest as Near
 use Rattle.square_root.specs.Steps.{Unpacked, Radicand, Rooted}
-use Rattle.square_root.proofs.Powers.{small, normal, radicand-even, radicand-odd, at-least}
+use Rattle.square_root.proofs.Powers.{small, normal, radicand-even, radicand-odd, at-least, least}
 use Rattle.square_root.proofs.Rounding.{down, up}
 
 -- ---- every number has a whole root and a remainder
@@ -51,9 +51,6 @@ rooted a h l R = record {
   value = R .value;
 }
   where
-    least : (q : ℕ) → (q < 2 ^ 52 → ⊥) → 2 ^ 52 ≤ q
-    least q f = omega arith
-
     most : (q : ℕ) → (2 ^ 53 ≤ q → ⊥) → q < 2 ^ 53
     most q f = omega arith
 

@@ -85,18 +85,18 @@ at-least q rem a e l g h =
     let t : 2 ^ 52 * 2 ^ 52 ≤ a * 2 ^ 52 = mul-le-mul-right (2 ^ 52) g in
     omega arith
 
+pub least : (q : ℕ) → (q < 2 ^ 52 → ⊥) → 2 ^ 52 ≤ q
+least q f = omega arith
+
 pub inv-end : (a q rem rest i : ℕ) → Inv a q rem rest i → 53 ≤ i → 2 ^ 52 ≤ a → Rooted a q rem
 inv-end a q rem rest i I l g =
     let is : i ≡ 53 = omega arith in
     let e : q * q + rem ≡ a * 2 ^ 52 = take-off (q * q + rem) rest (a * 2 ^ 52) (I .ready .rest-lt) (I .all ∙ ap (λ (x : ℕ). a * 4 ^ x) is ∙ regroup a) in record {
-      lo = below q (at-least q rem a e (I .ready .rem-le) g);
+      lo = least q (at-least q rem a e (I .ready .rem-le) g);
       hi = subst (λ (x : ℕ). q < 2 ^ x) is (I .short);
       small = I .ready .rem-le;
       value = e;
     }
-  where
-    below : (q : ℕ) → (q < 2 ^ 52 → ⊥) → 2 ^ 52 ≤ q
-    below q f = omega arith
 
 -- ---- the parts of a pattern
 

@@ -1,21 +1,20 @@
 -- One force slot: what 1, 2 and 3 say of its lists, which force it is, and that a tree can be built of its particles.
 use mathlib.Core.Path.{_≡_, refl, _∙_}
-use mathlib.Core.Bool.{true}
 use mathlib.Core.List.{List}
 use Prim.Native.Nat.{ℕ, zero, suc, _+_, _*_, _≤_, _<_}
 use native.Mathlib.Omega.{arith}
-use borrow.Author.Tests.{ne-eqb, eqb-true, leb-true}
+use borrow.Author.Tests.{leb-true}
 use lib.ListN.{length, take, drop, length-drop}
 use lib.Seq.{length-take-le}
 use lib.Ieee.{Float}
 use Rattle.rules.specs.declared.ForceEntry.{ForceEntry}
 use Rattle.rules.specs.Outcome.{done, fine, requireAll}
 use Rattle.rules.specs.Refusal.{countCheck}
-use Rattle.rules.specs.Force.{manyBody, collide, link, endsFrom, endsOf, endsRange, noneOr}
+use Rattle.rules.specs.Force.{manyBody, collide, link, endsFrom, endsOf, endsRange}
 use Rattle.rules.specs.Tick.{State, Force, push, center, byKind, entryCounts, numbersNeeded, forceOf, forceStage}
 use Rattle.link.specs.Links.{EndsLent, ListsLent}
 use Rattle.link.proofs.EndsRange.{ends-range}
-use Rattle.lists.proofs.Checks.{then-both, require-true}
+use Rattle.lists.proofs.Checks.{then-both, require-true, as-many}
 use Rattle.checks.proofs.Parts.{first-ends}
 use Rattle.columns.specs.Stage.{Columns, Chains, SlotFits}
 use Rattle.quadtree.specs.Build as Build
@@ -83,14 +82,11 @@ link-fits n e xs ls k h =
     let c = then-both (countCheck 8192 (e .links)) (countCheck 64 (e .iterations)) (rw k at (h .counts)) in
     record {
       few = leb-true (e .links) 8192 (require-true _ 1 0 (c .0));
-      each = λ some. each (e .strengths) (e .links) some (rw k at (h .strengths));
+      each = λ some. as-many (e .strengths) (e .links) some (rw k at (h .strengths));
       numbers = rw k at (h .numbers);
       links = rw k at (h .links);
       ends = rw k at (h .ends);
     }
-  where
-    each : (s m : ℕ) → 0 < s → noneOr m s ≡ true → s ≡ m
-    each s m some e = eqb-true s m (rw (ne-eqb s 0 (λ z. omega arith)) at e)
 
 module _ {n s k : ℕ} {xs : List Float} {ls : List ℕ} (h : LinkFits n s k xs ls) where
   ends-long : length (take (k * 2) ls) ≡ k * 2

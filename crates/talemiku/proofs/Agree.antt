@@ -2,7 +2,7 @@
 --     accepted         number 0 is answered only for an outcome that is done
 --     closing-agrees, center-agrees        the particles of the columns that one form leaves are those that the other leaves
 use mathlib.Core.Path.{_≡_, refl, sym, ap, _∙_}
-use mathlib.Core.List.{List, [], _∷_, map}
+use mathlib.Core.List.{List, [], _∷_}
 use Prim.Native.Nat.{ℕ, _+_}
 use native.Mathlib.Omega.{arith}
 use lib.ListN.{length}
@@ -12,7 +12,7 @@ use Rattle.rules.specs.declared.Refusal.{Refusal}
 use Rattle.rules.specs.Outcome.{Outcome, done, refused, Check, fine, _then_, _>>=_, refusalOf, checkFrom}
 use Rattle.rules.specs.Refusal.{mostParticles, countCheck, settingsCheck, resultCheck}
 use Rattle.rules.specs.Sheet.{recordCheck, recordsCheck, placesOf, speedsOf}
-use Rattle.rules.specs.Particle.{shifted, centered, moved, closing}
+use Rattle.rules.specs.Particle.{centered, closing}
 use Rattle.rules.specs.Calls.{listResult, listAnswer, centerResult, closingResult}
 use Rattle.sheet.specs.Columns.{flagsOf}
 use Rattle.sheet.proofs.Checked.{record-fine}
@@ -21,7 +21,8 @@ use Rattle.lists.proofs.Checks.{result-fine}
 use Rattle.closing.proofs.Closing.{particles-back}
 use Rattle.center.proofs.Centring.{center-speeds}
 use Rattle.talemiku.specs.Answered.{Answered}
-use Rattle.talemiku.proofs.Passes.{count-fine, settings-fine, closing-each, centered-each}
+use Rattle.talemiku.proofs.Passes.{count-fine, settings-fine}
+use Rattle.columns.proofs.Flags.{centered-flags, closing-flags}
 
 -- ---- number 0 is an outcome that is done
 
@@ -61,20 +62,6 @@ module _ (settings : List Float) (f : List Particle → List Particle) (ps : Lis
   left : (r : Refusal) (after : List Particle) → Answered (listResult settings f ps) ps r after → r .number ≡ 0 → after ≡ f ps
   left r after a z = a .particles ∙ rw (accepted (sym (ap (λ (q : Refusal). q .number) (a .answer)) ∙ z))
 
--- ---- no flag changes
-
-map-flags : (f : Particle → Particle) → ((p : Particle) → f p .flags ≡ p .flags) → (ps : List Particle) → flagsOf (map f ps) ≡ flagsOf ps
-map-flags f h [] = refl
-map-flags f h (p ∷ ps) = rw (h p, map-flags f h ps)
-
-closing-flags : (decay : Float) (ps : List Particle) → flagsOf (closing decay ps ps) ≡ flagsOf ps
-unfolding moved
-closing-flags decay ps = ap flagsOf (closing-each decay ps) ∙ map-flags (λ p. moved decay p p) (λ p. refl) ps
-
-centered-flags : (x y strength : Float) (ps : List Particle) → flagsOf (centered x y strength ps) ≡ flagsOf ps
-unfolding shifted
-centered-flags x y strength ps = ap flagsOf (centered-each x y strength ps) ∙ map-flags _ (λ p. refl) ps
-
 -- ---- the two forms, on the same particles ps
 
 -- the particles that the columns of ps give
@@ -87,7 +74,7 @@ module _ (ps : List Particle) (r : Refusal) (after : List Particle) (z : r .numb
       → (places speeds : List Float) → places ≡ placesOf (closing decay (byColumns ps) (byColumns ps)) → speeds ≡ speedsOf (closing decay (byColumns ps) (byColumns ps))
       → particlesFrom places speeds (flagsOf ps) ≡ after
   closing-agrees decay a places speeds hp hs =
-      rw (hp, hs, particles-back ps, ← closing-flags decay ps) (particles-back (closing decay ps ps)) ∙ sym (left (decay ∷ []) (closing decay ps) ps r after a z)
+      rw (hp, hs, particles-back ps, ← closing-flags decay ps ps refl) (particles-back (closing decay ps ps)) ∙ sym (left (decay ∷ []) (closing decay ps) ps r after a z)
 
   -- `center` left `after`, and `center_all` left `places`
   pub center-agrees : (x y strength : Float) → Answered (centerResult x y strength ps) ps r after

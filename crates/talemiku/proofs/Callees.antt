@@ -45,9 +45,9 @@ use Rattle.sheet.proofs.record_check.Met as record-check-thm
 use Rattle.lists.proofs.setting_check as setting-check
 use Rattle.lists.proofs.setting_check.Symbol as setting-check-def
 use Rattle.lists.proofs.setting_check.Met as setting-check-thm
-use Rattle.talemiku.proofs.check.settings_check as settings-check
-use Rattle.talemiku.proofs.check.settings_check.Symbol as settings-check-def
-use Rattle.talemiku.proofs.check.settings_check.Met as settings-check-thm
+use Rattle.checks.proofs.settings_check as settings-check
+use Rattle.checks.proofs.settings_check.Symbol as settings-check-def
+use Rattle.checks.proofs.settings_check.Met as settings-check-thm
 use Rattle.talemiku.proofs.check.result_check as result-check
 use Rattle.talemiku.proofs.check.result_check.Symbol as result-check-def
 use Rattle.talemiku.proofs.check.result_check.Met as result-check-thm

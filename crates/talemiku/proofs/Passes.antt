@@ -2,11 +2,9 @@
 use mathlib.Core.Path.{_≡_, refl, sym, ap, _∙_}
 use mathlib.Core.Bool.{Bool, true, false, _&&_}
 use mathlib.Core.List.{List, [], _∷_, map}
-use Prim.Native.Nat.{ℕ, zero, suc, _+_, _<_, _≤_}
+use Prim.Native.Nat.{ℕ, zero, suc, _+_, _<_}
 use native.Mathlib.Numerals.{add-one}
 use native.Mathlib.Omega.{arith}
-use borrow.Author.Tests.{leb-true}
-use lib.Dec.{leb}
 use lib.ListN.{length, getD, set, drop, length-set, length-map, drop-of-length-le}
 use lib.Seq.{drop-cons}
 use lib.Ieee.{Float, nan}
@@ -76,14 +74,6 @@ count-fine m n z = passes (countCheck m n) (count-early m n) z
 
 pub settings-fine : (l : List Float) → refusalOf (settingsCheck l) .number ≡ 0 → settingsCheck l ≡ fine
 settings-fine l z = passes (settingsCheck l) (settings-early l) z
-
--- and then the count is within the limit
-pub count-within : (m n : ℕ) → countCheck m n ≡ fine → n ≤ m
-count-within m n e = leb-true n m (go (leb n m) (ap (λ (c : Check). refusalOf c .number) e))
-  where
-    go : (ok : Bool) → refusalOf (require ok 1 0) .number ≡ 0 → ok ≡ true
-    go true z = refl
-    go false z = absurd (omega arith)
 
 -- ---- a list, changed from the front
 

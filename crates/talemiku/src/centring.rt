@@ -1,7 +1,7 @@
 // center.rs: the mean of all places is drawn to a point.
 use crate::check::result_check;
-use crate::check::settings_check;
 use center::shifted;
+use checks::settings_check;
 use lists::count_check;
 use rules::Particle;
 use rules::Refusal;

@@ -1,12 +1,10 @@
-// The checks of one particle and of settings, by value. Number 0 at place 0 where nothing is refused.
+// The check of one particle, by value. Number 0 at place 0 where nothing is refused.
 use number::is_finite;
 use number::within;
 use rules::Particle;
 use rules::Refusal;
 ghost use mathlib.Core.Path.{_≡_};
-ghost use mathlib.Core.List.{[], _∷_};
 ghost use Rattle.rules.specs.Outcome.{refusalOf};
-ghost use Rattle.rules.specs.Refusal.{settingsCheck};
 ghost use Rattle.talemiku.specs.Pass.{resultOf};
 
 // 9, of one particle as it is to be.
@@ -21,22 +19,6 @@ pub fn result_check(p: Particle) -> Refusal
     }
     Refusal {
         number: 9,
-        place: 0,
-    }
-}
-
-// 5, of Center's settings.
-pub fn settings_check(x: f64, y: f64, strength: f64) -> Refusal
-    ensures { λ r. ⌜ r ≡ refusalOf (settingsCheck (x ∷ y ∷ strength ∷ [])) ⌝ }
-{
-    if within(x) && within(y) && within(strength) {
-        return Refusal {
-            number: 0,
-            place: 0,
-        };
-    }
-    Refusal {
-        number: 5,
         place: 0,
     }
 }

@@ -11,15 +11,10 @@ use Rattle.rules.specs.Plain.{keep, countFrom, upTo, branch}
 use Rattle.rules.specs.Cell.{quarter}
 use Rattle.rules.specs.Tree.{Tree, none, leaf, node, nodes, inQuarter, pointsIn, alike, grow, treeIn, treeOf}
 use Rattle.slots.specs.declared.Quadtree.{Quadtree}
-use Rattle.slots.specs.Trees.{EachSlot, inCells, Stands, Below}
+use Rattle.slots.specs.Trees.{inCells, Stands, Below}
+use Rattle.slots.proofs.Trees.{each-map}
 use Rattle.walk.specs.Walk.{seen, EachChain}
 use Rattle.walk.proofs.WalkTurns.{Found, nodes-seen}
-
-pub each-slot-map : (P Q : ℕ → Type 0) → ((s : ℕ) → P s → Q s) → (t : Tree ℕ) → EachSlot P t → EachSlot Q t
-each-slot-map P Q f none h = tt
-each-slot-map P Q f (leaf s is) h = f s h
-each-slot-map P Q f (node s t0 t1 t2 t3) h =
-    (f s (h .0), each-slot-map P Q f t0 (h .1), each-slot-map P Q f t1 (h .2), each-slot-map P Q f t2 (h .3), each-slot-map P Q f t3 (h .4))
 
 -- ---- cells and chains
 
@@ -86,7 +81,7 @@ module _ {at : List Float} {n : ℕ} {m next : List ℕ} {q : Quadtree} (s : Sta
 
   -- all its slots are lent
   pub found : (P : List ℕ → Type 0) → EachChain P (s .tree) → Found P m next (q .root) (s .tree)
-  found P h = (s .leads, each-slot-map (λ i. i < q .nodes) (λ i. i * 8 + 8 ≤ length m) (λ i b. omega (arith, s .room)) (s .tree) (s .below), h)
+  found P h = (s .leads, each-map (λ i. i < q .nodes) (λ i. i * 8 + 8 ≤ length m) (λ i b. omega (arith, s .room)) (s .tree) (s .below), h)
 
   pub nodes-stands : {A : Type 0} (look : ℕ → Extent → A) → nodes (seen look (q .extent) (s .tree)) ≡ q .nodes
   nodes-stands look = nodes-seen look (q .extent) (s .tree) ∙ s .count

@@ -10,13 +10,13 @@ use Rattle.rules.specs.declared.Extent.{Extent}
 use Rattle.rules.specs.declared.Visit.{Visit}
 use Rattle.rules.specs.declared.Visit.the-variants.{Continue, Skip}
 use Rattle.rules.specs.Outcome.{Outcome, done, refused, _>>=_, ifDone}
-use Rattle.rules.specs.Cell.{quarter}
 use Rattle.rules.specs.Tree.{Tree, none, leaf, node, nodes, depth, treeOf}
 use Rattle.rules.specs.Walk.{Entry, internal, tip, Counted, counted, After, after, unlessSkip, walk, parentLast}
 use Rattle.rules.proofs.CellRule.{tree-nodes}
 use Rattle.slots.specs.declared.Quadtree.{Quadtree}
 use Rattle.walk.specs.declared.visit.Walk.{Walk}
 use Rattle.slots.specs.Trees.{Stands, inCells}
+use Rattle.slots.proofs.Trees.{cells-depth}
 use Rattle.walk.specs.Walk.{seen}
 use Rattle.walk.proofs.Walking as walking
 use Rattle.walk.proofs.WalkTurns.{nodes-seen}
@@ -191,16 +191,11 @@ module _ {A S : Type 0} (step : Entry A → S → Outcome (After S)) where
 
 -- ---- over the tree that stands in the slots
 
-depth-cells : (c : Extent) (t : Tree ℕ) → depth (inCells c t) ≡ depth t
-depth-cells c none = refl
-depth-cells c (leaf s is) = refl
-depth-cells c (node s t0 t1 t2 t3) = rw (depth-cells (quarter 0 c) t0, depth-cells (quarter 1 c) t1, depth-cells (quarter 2 c) t2, depth-cells (quarter 3 c) t3)
-
 module _ {at : List Float} {n : ℕ} {m next : List ℕ} {q : Quadtree} (s : Stands at n m next q) where
   -- The tree of n points has at most 1 + 64 n nodes.
   pub nodes-few : q .nodes ≤ 1 + 64 * n
   nodes-few =
-      let d : depth (treeOf at n) ≤ 65 = subst (λ (t : Tree Extent). depth t ≤ 65) (s .is) (rw (depth-cells (q .extent) (s .tree)) (s .levels)) in
+      let d : depth (treeOf at n) ≤ 65 = subst (λ (t : Tree Extent). depth t ≤ 65) (s .is) (rw (cells-depth (q .extent) (s .tree)) (s .levels)) in
       let e : nodes (treeOf at n) ≡ nodes (s .tree) = sym (ap nodes (s .is)) ∙ nodes-cells (q .extent) (s .tree) in
       omega (arith, tree-nodes at n d .1, e, s .count)
     where

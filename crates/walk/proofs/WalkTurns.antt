@@ -16,19 +16,12 @@ use Rattle.rules.specs.Outcome.{Outcome, done, refused, _>>=_}
 use Rattle.rules.specs.Cell.{quarter}
 use Rattle.rules.specs.Tree.{Tree, none, leaf, node, nodes, depth}
 use Rattle.rules.specs.Walk.{Entry, internal, tip, Counted, counted, After, after, walk}
+use Rattle.rules.proofs.OutcomeLaws.{bind-cong, bind-assoc}
 use Rattle.walk.specs.declared.visit.Waiting.{Waiting}
 use Rattle.slots.specs.Trees.{word, kid, Follows, first, Leads, EachSlot, ChainFrom}
 use Rattle.walk.specs.Walk.{lay, layKids, seen, EachChain}
 
 -- ---- what follows what was done
-
-bind-cong : {A B : Type 0} (o : Outcome A) {f g : A → Outcome B} → ((a : A) → f a ≡ g a) → (o >>= f) ≡ (o >>= g)
-bind-cong (done a) h = h a
-bind-cong (refused r) h = refl
-
-bind-assoc : {A B C : Type 0} (o : Outcome A) (f : A → Outcome B) (g : B → Outcome C) → (o >>= f >>= g) ≡ (o >>= λ a. f a >>= g)
-bind-assoc (done a) f g = refl
-bind-assoc (refused r) f g = refl
 
 bind-four : {A : Type 0} (o : Outcome A) (f g h k : A → Outcome A) → (o >>= f >>= g >>= h >>= k) ≡ (o >>= λ a. f a >>= λ a. g a >>= λ a. h a >>= k)
 bind-four (refused r) f g h k = refl

@@ -4,6 +4,7 @@ ghost use mathlib.Core.List.{[]};
 ghost use Prim.Native.Nat.{_<_, _≤_};
 ghost use Rattle.walk.specs.Walk.{waitingAt, stackAt, walkOf, Sized, lay, above, putSlot, putCell, heightAfter, putSlots, putCells};
 use cells::extent;
+use number::wide;
 use rules::Extent;
 
 // At most 193 wait, the last of them on top: slot numbers, and four ends to each cell.
@@ -16,12 +17,6 @@ pub struct Walk {
 pub struct Waiting {
     pub slot: usize,
     pub extent: Extent,
-}
-
-pub fn wide(s: u32) -> usize
-    ensures { λ r. ⌜ r ≡ s ⌝ }
-{
-    s as usize
 }
 
 // The slot and the cell that wait at a height.

@@ -2,7 +2,7 @@
 ghost use mathlib.Core.Path.{_≡_};
 ghost use lib.ListN.{length};
 ghost use Rattle.walk.specs.WalkAfter.{stepsOf, rooted, Climbing, Descends};
-use crate::visit;
+use number::wide;
 use slots::store;
 
 // At most 65 slots from the root down, each beside the quadrant that is next there.
@@ -39,7 +39,7 @@ pub fn next(steps: &mut [u32; 130], height: usize, m: &[u64]) -> Handed
     let mut h = height - 1;
     loop {
         let at = h * 2;
-        let s = visit::wide(steps[at]);
+        let s = wide(steps[at]);
         let quadrant = steps[at + 1];
         if store::tag(m, s) != 0 {
             return Handed { slot: s, height: h };
@@ -48,7 +48,7 @@ pub fn next(steps: &mut [u32; 130], height: usize, m: &[u64]) -> Handed
             return Handed { slot: s, height: h };
         }
         let children = store::children(m, s);
-        let child = children[visit::wide(quadrant)];
+        let child = children[wide(quadrant)];
         steps[at + 1] = quadrant + 1;
         if child != 0 {
             steps[at + 2] = child - 1;

@@ -1,6 +1,5 @@
 use mathlib.Core.Path.{_≡_, sym, subst}
 use Prim.Native.Nat.{ℕ, _<_}
-use native.Mathlib.Omega.{arith}
 use lib.IntN.{_+ℤ_}
 use lib.Ieee.{Float}
 use Rattle.rules.specs.declared.Extent.{Extent}
@@ -10,6 +9,7 @@ use Rattle.cells.specs.Cover.{squareOf, Reachable}
 use Rattle.cells.proofs.CoverEnds.{moved, moved-is}
 use Rattle.cells.proofs.cover.grown.Statement.{statement}
 use Rattle.cells.proofs.cover.grown.Tie as tie
+use Rattle.cells.proofs.Quadrant.{last}
 
 -- with the quadrant's number known to be i
 at : (i q : ℕ) (z : Float) (e : Extent) → q ≡ i → Reachable e × (q < 4) × (z ≡ whole (side (squareOf e) +ℤ side (squareOf e))) → moved i z e ≡ extentOf (holds (grown q (side (squareOf e) +ℤ side (squareOf e)) (squareOf e)))
@@ -29,9 +29,6 @@ returns-4 c =
     let s = c .before .before .before in
     let r = c .before .before .match .rest in
     at 3 (s .args .q) (s .args .z) (s .args .e) (last (s .args .q) (s .pre .1) (r .0 .0 .1) (r .0 .1) (r .1)) (s .pre)
-  where
-    last : (q : ℕ) → q < 4 → (q ≡ 0 → ⊥) → (q ≡ 1 → ⊥) → (q ≡ 2 → ⊥) → q ≡ 3
-    last q h a b d = omega arith
 
 pub grown-spec : {M : Type 1} → statement M
 grown-spec = tie.close (tie.spec returns returns-2 returns-3 returns-4)

@@ -1,12 +1,12 @@
 use mathlib.Core.Path.{_≡_, refl}
-use Prim.Native.Nat.{ℕ, zero, suc, _<_}
-use native.Mathlib.Omega.{arith}
+use Prim.Native.Nat.{ℕ, zero, suc}
 use lib.Ieee.{Float}
 use borrow.Author.Needs.{needs}
 use Rattle.rules.specs.declared.Extent.{Extent}
 use Rattle.rules.specs.Cell.{cell, xm, ym, quarter}
 use Rattle.cells.proofs.extent.quarter.Statement.{statement}
 use Rattle.cells.proofs.extent.quarter.Tie as tie
+use Rattle.cells.proofs.Quadrant.{last}
 
 -- the quarter with the number i, over these middles
 abbrev over : ℕ → Extent → Float → Float → Extent
@@ -40,9 +40,6 @@ returns-4 c =
     let s = c .before in
     let r = c .match .rest in
     at 3 (s .before .before .args .q) (s .before .before .args .c) (s .before .middle .result) (s .middle2 .result) (last (s .before .before .args .q) (s .before .before .pre) (r .0 .0 .1) (r .0 .1) (r .1)) (s .before .middle .ensures) (s .middle2 .ensures)
-  where
-    last : (q : ℕ) → q < 4 → (q ≡ 0 → ⊥) → (q ≡ 1 → ⊥) → (q ≡ 2 → ⊥) → q ≡ 3
-    last q h a b d = omega arith
 
 pub quarter-spec : {M : Type 1} → statement M
 quarter-spec = tie.close (tie.spec (λ c κs. search needs) (λ c κs. search needs) returns returns-2 returns-3 returns-4)

@@ -65,7 +65,7 @@ use Rattle.rules.specs.Calls.{centerResult}
 use Rattle.talemiku.specs.declared.centring.Pair.{Pair}
 use Rattle.talemiku.specs.Pass.{resultOf, pair}
 use Rattle.talemiku.proofs.Values.{val, valR, valP, FitsR, FitsP, typed, typedR, typedP}
-use Rattle.talemiku.proofs.Passes.{none, Passed, pass-on, pass-stop, pass-end, count-fine, count-within, settings-fine, mapTo, mapTo-length, mapTo-all, sumTo, shift, centered-each}
+use Rattle.talemiku.proofs.Passes.{none, Passed, pass-on, pass-stop, pass-end, count-fine, settings-fine, mapTo, mapTo-length, mapTo-all, sumTo, shift, centered-each}
 use Rattle.talemiku.proofs.centring.Pair as P
 use Rattle.talemiku.proofs.centring.Pair.Laws as P′
 use Rattle.talemiku.proofs.centring.talemiku_center.Key.{name as #center}
@@ -73,6 +73,7 @@ use Rattle.talemiku.proofs.centring.talemiku_center as center
 use Rattle.talemiku.proofs.centring.talemiku_center.Statement as stated
 use Rattle.talemiku.proofs.centring.talemiku_center.Code as code
 use Rattle.talemiku.proofs.centring.talemiku_center.Code.Mir as m
+use Rattle.checks.proofs.Entries.{count-small}
 
 abbrev stayed : Stays (center.ended .signature .params) (center.ended .kept)
 stayed = (stay-slice (0 ∷ []) tt (plain (λ _. T.the-row)), (stay-none (λ _. f64) yes, (stay-none (λ _. f64) yes, (stay-none (λ _. f64) yes, tt))))
@@ -301,12 +302,12 @@ module _ {M : Type 1} (𝓤 : URA M) (H : Heap 𝓤) (𝓜 : Model 𝓤 H) (𝓖
         ends₁ φ X =
             qed W (At₁ n) ∵ exec ! (𝓣 .C) (𝓣 .Λ) En m.turn-1 (anyQ (afterTurn 𝓤 H X (then m.t-8))) $
             leaves ! (look ! 12 refl) (look ! 9 refl) (init ! 18 refl (tt, tt)) (look ! 18 refl) $ exec ! (𝓣 .C) (𝓣 .Λ) En m.t-8 (atRet En Post) $ forget ! 18 refl $
-            calls ! fm R.the-type R′.the-laws (refusalOf (settingsCheck (x ∷ y ∷ strength ∷ []))) (callee.settings-check-gives 𝓤 H 𝓜 𝓖 𝓡 code.env code.calls-talemiku·check·settings-check x y strength x-fits y-fits strength-fits)
+            calls ! fm R.the-type R′.the-laws (refusalOf (settingsCheck (x ∷ y ∷ strength ∷ []))) (callee.settings-check-gives 𝓤 H 𝓜 𝓖 𝓡 code.env code.calls-checks·settings-check x y strength x-fits y-fits strength-fits)
             (and-then ! (copied ! (look ! 6 refl)) (and-then ! (copied ! (look ! 7 refl)) (and-then ! (copied ! (look ! 8 refl)) (no-more !)))) (λ has. store ! 10 refl (typedR W (refusalOf (settingsCheck (x ∷ y ∷ strength ∷ []))) has)) (λ r-has.
             judges ! (settingsCheck (x ∷ y ∷ strength ∷ [])) (settings-fine (x ∷ y ∷ strength ∷ [])) (part ! refl (look-in ! 10 (sub ! 0 refl (whole !)))) (init ! 17 refl (tt, tt)) (look ! 17 refl)
             (λ bad. forget ! 17 refl $ halts₁ _ refl (refusalOf (settingsCheck (x ∷ y ∷ strength ∷ []))) n (stops-settings (x ∷ y ∷ strength ∷ []) (centered x y strength) xs f (centered-each x y strength xs) count (pass-end recordCheck xs (φ .0)) _ bad) r-has)
             (λ good. forget ! 17 refl $ rewrite ! 10 answer good refl $
-            calls ! fm P.the-type P′.the-laws off (callee.offsets-gives 𝓤 H 𝓜 𝓖 𝓡 code.env code.calls-talemiku·centring·offsets (sumTo n xs) n x y strength (φ .1) (l .fits .0) x-fits y-fits strength-fits (count-within mostParticles n count))
+            calls ! fm P.the-type P′.the-laws off (callee.offsets-gives 𝓤 H 𝓜 𝓖 𝓡 code.env code.calls-talemiku·centring·offsets (sumTo n xs) n x y strength (φ .1) (l .fits .0) x-fits y-fits strength-fits (count-small mostParticles n count))
             (and-then ! (copied ! (look ! 11 refl)) (and-then ! (copied ! (look ! 9 refl)) (and-then ! (copied ! (look ! 6 refl)) (and-then ! (copied ! (look ! 7 refl)) (and-then ! (copied ! (look ! 8 refl)) (no-more !)))))) (λ has. init ! 14 refl (typedP W off has)) (λ off-fits. forget ! 11 refl $ sets ! (of-opd ! (lit ! tt)) (store ! 12 refl (tt, record { fits = lit< tt })) $
             by ! (second count (pass-end recordCheck xs (φ .0)) good off-fits (subst (λ (c : Check). FitsR (refusalOf c)) good r-has)))))
 
