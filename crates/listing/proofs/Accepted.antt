@@ -49,15 +49,6 @@ accepts-require : (ok : Bool) (n p : ℕ) → Accepts (require ok n p) → ok �
 accepts-require true n p h = refl
 accepts-require false n p h = absurd h
 
--- each element's check, by its number
-accepts-at : {A : Type 0} (f : ℕ → A → Check) (i : ℕ) (l : List A) (k : ℕ) → k < length l → Accepts (checkFrom f i l) → (a : A) × Accepts (f (i + k) a)
-accepts-at f i [] k h c = absurd (omega arith)
-accepts-at f i (a ∷ l) zero h c = let e : i ≡ i + 0 = omega arith in (a, subst (λ (n : ℕ). Accepts (f n a)) e (accepts-bind (f i a) (λ _. checkFrom f (i + 1) l) c .0))
-accepts-at f i (a ∷ l) (suc k) h c =
-    let (b, r) = accepts-at f (i + 1) l k (omega arith) (accepts-bind (f i a) (λ _. checkFrom f (i + 1) l) c .1 .1) in
-    let e : i + 1 + k ≡ i + suc k = omega arith in
-    (b, subst (λ (n : ℕ). Accepts (f n b)) e r)
-
 -- ---- the records: every place is in range
 
 record-in : (i : ℕ) (p : Particle) → Accepts (recordCheck i p) → placeRange (p .x) (p .y) ≡ true

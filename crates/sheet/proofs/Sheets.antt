@@ -8,7 +8,7 @@ use lib.Dec.{T}
 use lib.ListN.{length, take, drop, length-drop, take-append-drop}
 use lib.Seq.{drop-drop, take-add}
 use lib.Ieee.{Float, isNan, fits, binary64}
-use lib.Ieee.Bits.{ofBits-toBits, toBits-ofBits, toBits-lt, ofBits-fits}
+use lib.Ieee.Bits.{ofBits-toBits, toBits-ofBits, toBits-lt}
 use Rattle.rules.specs.declared.Particle.{Particle}
 use Rattle.rules.specs.Outcome.{fine, checkFrom}
 use Rattle.rules.specs.Number.{floatOf, bitsOf}
@@ -67,20 +67,6 @@ float-kept : (s : List ℕ) (at : ℕ) → Bytes s → at + 8 ≤ length s → T
 float-kept s at b h n = ap (bytesOf 8) (toBits-ofBits binary64 (wordAt s at) (word-fits s at b h) n) ∙ word-kept s at b h
 
 -- ---- sheets
-
-records-held : (s : List ℕ) (at k : ℕ) → Bytes s → at + k * 40 ≤ length s → AllHeld (recordsFrom s at k)
-unfolding recordAt
-records-held s at zero b h = tt
-records-held s at (suc k) b h = (
-  record {
-    x = ofBits-fits binary64 (wordAt s at);
-    y = ofBits-fits binary64 (wordAt s (at + 8));
-    vx = ofBits-fits binary64 (wordAt s (at + 16));
-    vy = ofBits-fits binary64 (wordAt s (at + 24));
-    flags = word-fits s (at + 32) b (omega arith);
-  },
-  records-held s (at + 40) k b (omega arith),
-)
 
 record-length : (p : Particle) (q : List ℕ) → length (recordBytes p ++ q) ≡ 40 + length q
 unfolding recordBytes

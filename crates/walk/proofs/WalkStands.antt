@@ -30,12 +30,6 @@ chains-cells P c (leaf s is) h = h
 chains-cells P c (node s t0 t1 t2 t3) h =
     (chains-cells P (quarter 0 c) t0 (h .0), chains-cells P (quarter 1 c) t1 (h .1), chains-cells P (quarter 2 c) t2 (h .2), chains-cells P (quarter 3 c) t3 (h .3))
 
--- nothing is asked of a chain
-pub chains-any : {A : Type 0} (t : Tree A) → EachChain (λ _. Unit {0}) t
-chains-any none = tt
-chains-any (leaf a is) = tt
-chains-any (node a t0 t1 t2 t3) = (chains-any t0, chains-any t1, chains-any t2, chains-any t3)
-
 -- what all numbers have, and a part of them keeps, each chain has
 module _ (P : List ℕ → Type 0) (kept : (p : ℕ → Bool) (is : List ℕ) → P is → P (keep p is)) (at : List Float) where
   chains-grow : (k : ℕ) (c : Extent) (is : List ℕ) → P is → EachChain P (grow at k c is)
