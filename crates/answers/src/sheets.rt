@@ -22,13 +22,6 @@ pub fn force_words(case: &[u8]) -> [u64; 56] {
     forces
 }
 
-fn flag(x: bool) -> u64 {
-    if x {
-        return 1;
-    }
-    0
-}
-
 pub fn step_ended_right(
     case: &[u8],
     a: StepAnswer,
@@ -37,14 +30,7 @@ pub fn step_ended_right(
     work: &[u64],
 ) -> bool {
     let r = a.refusal;
-    let answer = [
-        r.number,
-        r.place,
-        a.ticks,
-        flag(a.finished),
-        a.visits,
-        a.draws,
-    ];
+    let answer = [r.number, r.place, a.ticks, a.finished, a.visits, a.draws];
     alpha == argument(case, 6)
         && same_words(case, 1, &answer)
         && same_bytes(case, 4, sheet)
@@ -57,7 +43,7 @@ fn of_tick(a: Counts) -> StepAnswer {
     StepAnswer {
         refusal,
         ticks: 0,
-        finished: false,
+        finished: 0,
         visits: a.visits,
         draws: a.draws,
     }

@@ -295,7 +295,7 @@ stepsTo l alphaMin ticks number finished alpha visits draws =
     let a = stepAnswer l halving alphaMin 10 in
     isRefusal number 0 (a .refusal)
     && eqb (a .ticks) ticks
-    && cond finished (a .finished) (not (a .finished))
+    && eqb (a .finished) (cond finished 1 0)
     && eqb (a .visits) visits
     && eqb (a .draws) draws
     && eqb (alphaAfterStep l halving alphaMin 10) (bitsOf alpha)

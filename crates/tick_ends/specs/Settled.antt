@@ -1,6 +1,6 @@
 -- How a tick and a step that have run are settled. Definitions only.
 use mathlib.Core.Path.{_≡_}
-use mathlib.Core.Bool.{cond, false}
+use mathlib.Core.Bool.{cond}
 use mathlib.Core.List.{List}
 use Prim.Native.Nat.{ℕ}
 use lib.Dec.{eqb}
@@ -29,11 +29,11 @@ pub record TickSettled (c : Check) (t : Ticked) (places speeds : List Float) (sh
 
 -- a refusal's answer
 abbrev pub noTicks : Refusal → StepAnswer
-noTicks q = record { refusal = q; ticks = 0; finished = false; visits = 0; draws = 0 }
+noTicks q = record { refusal = q; ticks = 0; finished = 0; visits = 0; draws = 0 }
 
 -- what is answered when ticks have run on columns, `least` being where alpha is to stop
 abbrev pub someTicks : Stepped → Float → StepAnswer
-someTicks t least = record { refusal = t .refusal; ticks = t .ticks; finished = le (t .alpha) least; visits = t .visits; draws = t .used }
+someTicks t least = record { refusal = t .refusal; ticks = t .ticks; finished = cond (le (t .alpha) least) 1 0; visits = t .visits; draws = t .used }
 
 -- What is answered and left when ticks have run on columns: what they left is written in any case, also where one that was refused ended them.
 pub record StepSettled (t : Stepped) (least : Float) (places speeds : List Float) (sheet work : List ℕ) (r : StepAnswer) (sheet' : List ℕ) (alpha' : ℕ) (work' : List ℕ) : Type 0 where

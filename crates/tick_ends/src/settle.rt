@@ -8,6 +8,7 @@ use rules::Counts;
 use rules::Refusal;
 use rules::StepAnswer;
 ghost use mathlib.Core.Path.{_≡_};
+ghost use mathlib.Core.Bool.{cond};
 ghost use Rattle.columns.specs.Columns.{Writable};
 ghost use Rattle.tick_ends.specs.Settled.{standing, TickSettled, noTicks, StepSettled};
 
@@ -48,10 +49,20 @@ pub fn refused_step(refusal: Refusal) -> StepAnswer
     StepAnswer {
         refusal,
         ticks: 0,
-        finished: false,
+        finished: 0,
         visits: 0,
         draws: 0,
     }
+}
+
+// A test as a number.
+fn one_if(test: bool) -> u64
+    ensures { λ r. ⌜ r ≡ cond test 1 0 ⌝ }
+{
+    if test {
+        return 1;
+    }
+    0
 }
 
 // What the ticks left is written, also where one that was refused ended them. The work slots are zero in any case.
@@ -75,7 +86,7 @@ pub fn settle_step(
     StepAnswer {
         refusal,
         ticks: stepped.ticks,
-        finished: heat <= least,
+        finished: one_if(heat <= least),
         visits: stepped.visits,
         draws: stepped.used as u64,
     }
