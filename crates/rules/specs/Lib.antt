@@ -18,4 +18,5 @@ pub mod Force
 pub mod Calls
 pub mod Tick
 pub mod Listing
+pub mod Terms
 pub mod Opened

@@ -1,0 +1,103 @@
+-- The words in which the theorems about the public calls are put (talemiku/proofs/Theorems): what makes a tree that of the cell rule, its leaves, distinct points, chains, points in cells, and what single walks, forces and ticks count. Definitions only.
+use mathlib.Core.Path.{_≡_}
+use mathlib.Core.Logic.{_⊎_}
+use mathlib.Core.Bool.{Bool, true, false, cond, not, _&&_}
+use mathlib.Core.List.{List, [], _∷_, _++_}
+use Prim.Native.Nat.{ℕ, zero, suc, _+_, _*_, _<_}
+use lib.IntN.{pos, _+ℤ_}
+use lib.Dec.{eqb}
+use lib.ListN.{length}
+use lib.Ieee.{Float, lt, le}
+use Rattle.rules.specs.declared.Extent.{Extent}
+use Rattle.rules.specs.declared.Settings.{Settings}
+use Rattle.rules.specs.Plain.{branch, all}
+use Rattle.rules.specs.Outcome.{Outcome, done, _>>=_, ifDone}
+use Rattle.rules.specs.Number.{xAt, yAt}
+use Rattle.rules.specs.Cell.{quarter}
+use Rattle.rules.specs.Cover.{Square}
+use Rattle.rules.specs.Tree.{Tree, none, leaf, node, depth, nodes, greatestLevel, same, alike, pointsIn}
+use Rattle.rules.specs.Walk.{Entry, counted, After, walk}
+use Rattle.rules.specs.Force.{Push, manyBody, collide, link}
+use Rattle.rules.specs.Tick.{Force, empty, push, center, unknown, State, state, forceStage, tick}
+
+-- ---- trees
+
+-- how many leaves
+abbrev pub leaves : {A : Type 0} → Tree A → ℕ
+leaves none = 0
+leaves (leaf a is) = 1
+leaves (node a t0 t1 t2 t3) = leaves t0 + leaves t1 + leaves t2 + leaves t3
+
+-- P holds of what is known of each leaf and of its chain
+abbrev pub EachLeaf : {A : Type 0} → (A → List ℕ → Type 0) → Tree A → Type 0
+EachLeaf P none = Unit {0}
+EachLeaf P (leaf a is) = P a is
+EachLeaf P (node a t0 t1 t2 t3) = EachLeaf P t0 × EachLeaf P t1 × EachLeaf P t2 × EachLeaf P t3
+
+-- it goes below level 64, or has more nodes than there are slots
+abbrev pub Oversized : {A : Type 0} → ℕ → Tree A → Type 0
+Oversized slots t = (greatestLevel + 1 < depth t) ⊎ (slots < nodes t)
+
+-- how often i stands in a list
+abbrev pub times : ℕ → List ℕ → ℕ
+times i [] = 0
+times i (j ∷ l) = cond (eqb i j) 1 0 + times i l
+
+-- the half-open cell holds the point
+abbrev pub inCell : Extent → Float → Float → Bool
+inCell c x y = le (c .x0) x && lt x (c .x1) && le (c .y0) y && lt y (c .y1)
+
+module _ (at : List Float) where
+  -- t is the cell rule's tree of these points in the cell c, whatever its depth: of no point there is no node; of one distinct point it is a leaf with all of them; of more it is internal, over the trees of the quarters
+  abbrev pub IsTree : Extent → Tree Extent → List ℕ → Type 0
+  IsTree c none is = is ≡ []
+  IsTree c (leaf d js) is = (d ≡ c) × (js ≡ is) × (0 < length is) × (alike at is ≡ true)
+  IsTree c (node d t0 t1 t2 t3) is =
+      (d ≡ c) × (alike at is ≡ false)
+      × IsTree (quarter 0 c) t0 (pointsIn at c 0 is) × IsTree (quarter 1 c) t1 (pointsIn at c 1 is) × IsTree (quarter 2 c) t2 (pointsIn at c 2 is) × IsTree (quarter 3 c) t3 (pointsIn at c 3 is)
+
+  -- how many distinct points: each counts unless a later one is numerically equal to it
+  abbrev pub distinct : List ℕ → ℕ
+  distinct [] = 0
+  distinct (i ∷ is) = cond (all (λ j. not (same at i j)) is) 1 0 + distinct is
+
+-- both sides of a square are z long
+pub record Sided (z : ℕ) (s : Square) : Type 0 where
+  pub wide : s .x1 ≡ s .x0 +ℤ pos z
+  pub tall : s .y1 ≡ s .y0 +ℤ pos z
+
+-- ---- what is counted
+
+-- a list, k times over
+abbrev pub repeated : ℕ → List ℕ → List ℕ
+repeated zero l = []
+repeated (suc k) l = l ++ repeated k l
+
+-- how many nodes each walk hands out: one walk for each of these particles, each from the state that the one before left
+abbrev pub walkCounts : {A S : Type 0} → (ℕ → Entry A → S → Outcome (After S)) → Tree A → S → List ℕ → Outcome (List ℕ)
+walkCounts step t σ [] = done []
+walkCounts step t σ (i ∷ is) = walk (step i) t (counted σ 0) >>= λ m. walkCounts step t (m .state) is >>= λ ks. done (m .visits ∷ ks)
+
+-- the state with no node counted yet
+abbrev pub uncounted : State → State
+uncounted m = state (m .particles) (m .alpha) (m .draws) 0
+
+-- how many nodes each force of a tick hands out, from the state that the one before left
+abbrev pub forceCounts : ℕ → State → List Force → Outcome (List ℕ)
+forceCounts slots m [] = done []
+forceCounts slots m (f ∷ fs) = forceStage slots (uncounted m) f >>= λ n. forceCounts slots n fs >>= λ ks. done (n .visits ∷ ks)
+
+-- how many nodes each tick of a step hands out: at most k further ticks, while alpha > alpha_min and none is refused
+unfoldable pub tickCounts : Settings → Float → List Force → ℕ → ℕ → State → List ℕ
+tickCounts s alphaMin forces slots zero m = []
+tickCounts s alphaMin forces slots (suc k) m =
+    branch (lt alphaMin (m .alpha)) (λ _. ifDone (tick s forces slots (uncounted m)) (λ n. n .visits ∷ tickCounts s alphaMin forces slots k n) []) (λ _. [])
+
+-- the most nodes that a force hands out on n particles, where one walk hands out at most 1 + 64 n: ManyBody walks once for each particle, Collide as often in each iteration, others not at all
+abbrev pub mostVisits : ℕ → Force → ℕ
+mostVisits n empty = 0
+mostVisits n (push (manyBody strengths)) = n * (1 + greatestLevel * n)
+mostVisits n (push (collide radii strength iterations)) = iterations * (n * (1 + greatestLevel * n))
+mostVisits n (push (link links strengths distances iterations)) = 0
+mostVisits n (center x y strength) = 0
+mostVisits n unknown = 0
