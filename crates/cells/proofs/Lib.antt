@@ -6,3 +6,4 @@ pub mod CoverMiddles
 pub mod CoverCells
 pub mod CoverLaws
 pub mod Prefix
+pub mod WholeTree

@@ -1,6 +1,6 @@
 -- A prefix of the particles never has a larger tree than all of them, so building refuses exactly where the whole tree doesn't fit. Assumes nothing.
 use mathlib.Core.Path.{_≡_, refl, sym, ap, _∙_, subst, subst₂}
-use mathlib.Core.Logic.{_↔_, inl, inr}
+use mathlib.Core.Logic.{_⊎_, _↔_, inl, inr}
 use mathlib.Core.Bool.{Bool, true, false}
 use mathlib.Core.List.{List, [], _∷_, List·Memᴰ, List·Memᴰ·head, List·Memᴰ·tail}
 use Prim.Native.Nat.{ℕ, zero, suc, _+_, _≤_, _<_}
@@ -9,15 +9,17 @@ use native.Mathlib.Decide.{ℕ-discrete}
 use native.Mathlib.Numerals.{add-one}
 use lib.Dec.{T, leb}
 use lib.Ieee.{Float}
-use borrow.Author.Tests.{leb-true, le-leb}
+use borrow.Author.Tests.{leb-true, leb-false, le-leb}
 use Rattle.rules.specs.declared.Extent.{Extent}
+use Rattle.rules.specs.declared.Refusal.{Refusal}
 use Rattle.rules.specs.Plain.{countFrom, upTo}
 use Rattle.rules.specs.Number.{within, placeRange, xAt, yAt}
 use Rattle.rules.specs.Floor.{floor}
 use Rattle.rules.specs.Cell.{quarter}
 use Rattle.rules.specs.Cover.{Square, inside, oldQuadrant, Covered, holds, coverPoint, coverAll, coverFirst, extentOf}
-use Rattle.rules.specs.Outcome.{Check, done, refused, fine, require, _then_, _>>=_, checkFrom}
+use Rattle.rules.specs.Outcome.{Check, done, refused, refusal, fine, require, _then_, _>>=_, checkFrom}
 use Rattle.rules.specs.Tree.{Tree, none, leaf, node, depth, nodes, inQuarter, pointsIn, treeIn, treeOf, fitsCheck, treeCheck}
+use Rattle.rules.specs.Terms.{Earliest}
 use Rattle.rules.proofs.CellList.{In, left, right, keep-all}
 use Rattle.rules.proofs.CellIs.{Is}
 use Rattle.rules.proofs.CellCount.{upTo-snoc}
@@ -35,7 +37,7 @@ use Rattle.cells.proofs.CoverLaws.{doubled-lies, in-range, list-reachab
 
 -- ---- members of 0, 1, .. , n - 1
 
-in-member : (i : ℕ) (l : List ℕ) → In i l → List·Memᴰ i l
+pub in-member : (i : ℕ) (l : List ℕ) → In i l → List·Memᴰ i l
 in-member i [] m = absurd m
 in-member i (j ∷ l) (inl e) = List·Memᴰ·head e
 in-member i (j ∷ l) (inr m) = List·Memᴰ·tail (in-member i l m)
@@ -68,6 +70,19 @@ fine-each f i (suc k) e j a b = go (f i) refl e (λ e'. fine-each f (i + 1) k e'
     go : (c : Check) → f i ≡ c → (c >>= λ _. checkFrom (λ j _. f j) (i + 1) (countFrom (i + 1) k)) ≡ fine → (checkFrom (λ j _. f j) (i + 1) (countFrom (i + 1) k) ≡ fine → i + 1 ≤ j → j < i + 1 + k → f j ≡ fine) → f j ≡ fine
     go (done t) u e rest = elim (ℕ-discrete j i) [ yes z ↦ ap f z ∙ u | no ne ↦ rest e (omega arith) (omega arith) ]
     go (refused q) u e rest = absurd (let z : _≡_ {A = ℕ} 0 1 = cc in omega arith)
+
+-- the first that is refused, and all before it fine
+first-refused : (f : ℕ → Check) (i k : ℕ) (q : Refusal) → checkFrom (λ j _. f j) i (countFrom i k) ≡ refused q → (p : ℕ) × (p < i + k) × (f p ≡ refused q) × ((j : ℕ) → i ≤ j → j < p → f j ≡ fine)
+first-refused f i zero q e = absurd (let z : _≡_ {A = ℕ} 0 1 = cc in omega arith)
+first-refused f i (suc k) q e = go (f i) refl e (first-refused f (i + 1) k q)
+  where
+    go : (c : Check) → f i ≡ c → (c >>= λ _. checkFrom (λ j _. f j) (i + 1) (countFrom (i + 1) k)) ≡ refused q
+        → (checkFrom (λ j _. f j) (i + 1) (countFrom (i + 1) k) ≡ refused q → (p : ℕ) × (p < i + 1 + k) × (f p ≡ refused q) × ((j : ℕ) → i + 1 ≤ j → j < p → f j ≡ fine))
+        → (p : ℕ) × (p < i + suc k) × (f p ≡ refused q) × ((j : ℕ) → i ≤ j → j < p → f j ≡ fine)
+    go (done t) u e rest =
+        let (p, l, h, b) = rest e in
+        (p, omega arith, h, λ j a c. elim (ℕ-discrete j i) [ yes z ↦ ap f z ∙ u | no ne ↦ b j (omega arith) c ])
+    go (refused r) u e rest = (i, omega arith, u ∙ e, λ j a c. absurd (omega arith))
 
 module _ (at : List Float) where
   -- ---- from a cell to the quarter that has all its points
@@ -140,7 +155,7 @@ module _ (at : List Float) where
   abbrev pub InRange : ℕ → Type 0
   InRange n = (i : ℕ) → i < n → placeRange (xAt at i) (yAt at i) ≡ true
 
-  in-T : (i : ℕ) → placeRange (xAt at i) (yAt at i) ≡ true → T (within (xAt at i)) × T (within (yAt at i))
+  pub in-T : (i : ℕ) → placeRange (xAt at i) (yAt at i) ≡ true → T (within (xAt at i)) × T (within (yAt at i))
   in-T i e = (subst T (sym (left (within (xAt at i)) (within (yAt at i)) e)) tt, subst T (sym (right (within (xAt at i)) (within (yAt at i)) e)) tt)
 
   pub no-tree : treeOf at 0 ≡ none
@@ -220,6 +235,16 @@ module _ (at : List Float) where
       tests true false e = absurd (let z : _≡_ {A = ℕ} 0 1 = cc in omega arith)
       tests false b e = absurd (let z : _≡_ {A = ℕ} 0 1 = cc in omega arith)
 
+  fits-refused : (slots i : ℕ) (t : Tree Extent) (q : Refusal) → fitsCheck slots i t ≡ refused q → ((q ≡ refusal 6 i) × (65 < depth t)) ⊎ ((q ≡ refusal 7 i) × (depth t ≤ 65) × (slots < nodes t))
+  unfolding fitsCheck
+  fits-refused slots i t q e = go (leb (depth t) 65) (leb (nodes t) slots) refl refl e
+    where
+      go : (a b : Bool) → leb (depth t) 65 ≡ a → leb (nodes t) slots ≡ b → require a 6 i then require b 7 i ≡ refused q
+          → ((q ≡ refusal 6 i) × (65 < depth t)) ⊎ ((q ≡ refusal 7 i) × (depth t ≤ 65) × (slots < nodes t))
+      go true true u v e = absurd (let z : _≡_ {A = ℕ} 0 1 = cc in omega arith)
+      go true false u v e = inr ((cc), leb-true (depth t) 65 u, leb-false (nodes t) slots v)
+      go false b u v e = inl ((cc), leb-false (depth t) 65 u)
+
   -- ==== theorems
 
   -- A prefix of particles in range has no more levels and no more nodes than all of them, if those pass no level past 64.
@@ -233,6 +258,19 @@ module _ (at : List Float) where
   check-fits (suc m) slots e =
       subst (λ (i : ℕ). (depth (treeOf at i) ≤ 65) × (nodes (treeOf at i) ≤ slots)) (add-one m)
       (fits-fine slots m (treeOf at (m + 1)) .0 (fine-each (λ j. fitsCheck slots j (treeOf at (j + 1))) 0 (suc m) e m (omega arith) (omega arith)))
+
+  -- Where building refuses, it is the earliest particle whose prefix can't be built, by 6 or 7 as that prefix's tree says.
+  pub check-earliest : (n slots : ℕ) (q : Refusal) → treeCheck at n slots ≡ refused q → Earliest at n slots q
+  unfolding treeCheck
+  check-earliest n slots q e =
+      let (p, l, h, b) = first-refused (λ j. fitsCheck slots j (treeOf at (j + 1))) 0 n q e in
+      let before : (i : ℕ) → i < p → (depth (treeOf at (i + 1)) ≤ 65) × (nodes (treeOf at (i + 1)) ≤ slots) = λ i k. fits-fine slots i (treeOf at (i + 1)) .0 (b i (omega arith) k) in
+      go p (omega arith) before (fits-refused slots p (treeOf at (p + 1)) q h)
+    where
+      go : (p : ℕ) → p < n → ((i : ℕ) → i < p → (depth (treeOf at (i + 1)) ≤ 65) × (nodes (treeOf at (i + 1)) ≤ slots))
+          → ((q ≡ refusal 6 p) × (65 < depth (treeOf at (p + 1)))) ⊎ ((q ≡ refusal 7 p) × (depth (treeOf at (p + 1)) ≤ 65) × (slots < nodes (treeOf at (p + 1)))) → Earliest at n slots q
+      go p l b (inl (u, d)) = rw u (record { among = l; before = b; number = inl (refl, d) })
+      go p l b (inr (u, d, m)) = rw u (record { among = l; before = b; number = inr (refl, d, m) })
 
   -- Building n particles in range refuses exactly where the tree of all of them passes level 64 or needs more slots than are lent.
   pub check-exact : (n : ℕ) → InRange n → (slots : ℕ) → (treeCheck at n slots ≡ fine) ↔ ((depth (treeOf at n) ≤ 65) × (nodes (treeOf at n) ≤ slots))

@@ -27,3 +27,4 @@ pub mod OutcomeLaws
 pub mod RefusalLaws
 pub mod RefusalNumbers
 pub mod Places
+pub mod Counting

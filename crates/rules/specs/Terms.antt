@@ -1,21 +1,22 @@
 -- The words in which the theorems about the public calls are put (talemiku/proofs/Theorems): what makes a tree that of the cell rule, its leaves, distinct points, chains, points in cells, and what single walks, forces and ticks count. Definitions only.
 use mathlib.Core.Path.{_≡_}
-use mathlib.Core.Logic.{_⊎_}
+use mathlib.Core.Logic.{_⊎_, _≢_}
 use mathlib.Core.Bool.{Bool, true, false, cond, not, _&&_}
 use mathlib.Core.List.{List, [], _∷_, _++_}
-use Prim.Native.Nat.{ℕ, zero, suc, _+_, _*_, _<_}
+use Prim.Native.Nat.{ℕ, zero, suc, _+_, _*_, _≤_, _<_}
 use lib.IntN.{pos, _+ℤ_}
 use lib.Dec.{eqb}
 use lib.ListN.{length}
 use lib.Ieee.{Float, lt, le}
 use Rattle.rules.specs.declared.Extent.{Extent}
+use Rattle.rules.specs.declared.Refusal.{Refusal}
 use Rattle.rules.specs.declared.Settings.{Settings}
 use Rattle.rules.specs.Plain.{branch, all}
 use Rattle.rules.specs.Outcome.{Outcome, done, _>>=_, ifDone}
 use Rattle.rules.specs.Number.{xAt, yAt}
 use Rattle.rules.specs.Cell.{quarter}
 use Rattle.rules.specs.Cover.{Square}
-use Rattle.rules.specs.Tree.{Tree, none, leaf, node, depth, nodes, greatestLevel, same, alike, pointsIn}
+use Rattle.rules.specs.Tree.{Tree, none, leaf, node, depth, nodes, greatestLevel, same, alike, pointsIn, treeOf}
 use Rattle.rules.specs.Walk.{Entry, counted, After, walk}
 use Rattle.rules.specs.Force.{Push, manyBody, collide, link}
 use Rattle.rules.specs.Tick.{Force, empty, push, center, unknown, State, state, forceStage, tick}
@@ -37,6 +38,16 @@ EachLeaf P (node a t0 t1 t2 t3) = EachLeaf P t0 × EachLeaf P t1 × EachLeaf P t
 -- it goes below level 64, or has more nodes than there are slots
 abbrev pub Oversized : {A : Type 0} → ℕ → Tree A → Type 0
 Oversized slots t = (greatestLevel + 1 < depth t) ⊎ (slots < nodes t)
+
+-- The earliest of n particles whose prefix can't be built, in this many slots: every shorter prefix can; 6 is answered where its tree goes below level 64, else 7 where it has more nodes than slots.
+pub record Earliest (at : List Float) (n slots : ℕ) (r : Refusal) : Type 0 where
+  pub among : r .place < n
+  pub before : (i : ℕ) → i < r .place → (depth (treeOf at (i + 1)) ≤ greatestLevel + 1) × (nodes (treeOf at (i + 1)) ≤ slots)
+  pub number : let t = treeOf at (r .place + 1) in ((r .number ≡ 6) × (greatestLevel + 1 < depth t)) ⊎ ((r .number ≡ 7) × (depth t ≤ greatestLevel + 1) × (slots < nodes t))
+
+-- neither 6 nor 7
+abbrev pub Treeless : Refusal → Type 0
+Treeless r = (r .number ≢ 6) × (r .number ≢ 7)
 
 -- how often i stands in a list
 abbrev pub times : ℕ → List ℕ → ℕ
@@ -68,36 +79,43 @@ pub record Sided (z : ℕ) (s : Square) : Type 0 where
 
 -- ---- what is counted
 
+-- what each of several stages counts: each begins afresh, with nothing counted, in the state that the one before left
+abbrev pub countEach : {A X : Type 0} → (X → ℕ) → (X → X) → (X → A → Outcome X) → X → List A → Outcome (List ℕ)
+countEach count afresh f x [] = done []
+countEach count afresh f x (a ∷ l) = f (afresh x) a >>= λ y. countEach count afresh f y l >>= λ ks. done (count y ∷ ks)
+
+-- how many nodes each walk hands out, of one walk for each of these particles, from the state σ
+abbrev pub walkCounts : {A S : Type 0} → (ℕ → Entry A → S → Outcome (After S)) → Tree A → S → List ℕ → Outcome (List ℕ)
+walkCounts step t σ is = countEach (λ m. m .visits) (λ m. counted (m .state) 0) (λ m i. walk (step i) t m) (counted σ 0) is
+
 -- a list, k times over
 abbrev pub repeated : ℕ → List ℕ → List ℕ
 repeated zero l = []
 repeated (suc k) l = l ++ repeated k l
 
--- how many nodes each walk hands out: one walk for each of these particles, each from the state that the one before left
-abbrev pub walkCounts : {A S : Type 0} → (ℕ → Entry A → S → Outcome (After S)) → Tree A → S → List ℕ → Outcome (List ℕ)
-walkCounts step t σ [] = done []
-walkCounts step t σ (i ∷ is) = walk (step i) t (counted σ 0) >>= λ m. walkCounts step t (m .state) is >>= λ ks. done (m .visits ∷ ks)
-
--- the state with no node counted yet
+-- a tick's state with no node counted yet
 abbrev pub uncounted : State → State
 uncounted m = state (m .particles) (m .alpha) (m .draws) 0
 
--- how many nodes each force of a tick hands out, from the state that the one before left
+-- how many nodes each force of a tick hands out, from the state m
 abbrev pub forceCounts : ℕ → State → List Force → Outcome (List ℕ)
-forceCounts slots m [] = done []
-forceCounts slots m (f ∷ fs) = forceStage slots (uncounted m) f >>= λ n. forceCounts slots n fs >>= λ ks. done (n .visits ∷ ks)
+forceCounts slots m fs = countEach (λ m. m .visits) uncounted (forceStage slots) m fs
 
--- how many nodes each tick of a step hands out: at most k further ticks, while alpha > alpha_min and none is refused
+-- how many nodes each tick of a step hands out: at most k ticks, while alpha > alpha_min and none is refused
 unfoldable pub tickCounts : Settings → Float → List Force → ℕ → ℕ → State → List ℕ
 tickCounts s alphaMin forces slots zero m = []
 tickCounts s alphaMin forces slots (suc k) m =
     branch (lt alphaMin (m .alpha)) (λ _. ifDone (tick s forces slots (uncounted m)) (λ n. n .visits ∷ tickCounts s alphaMin forces slots k n) []) (λ _. [])
 
--- the most nodes that a force hands out on n particles, where one walk hands out at most 1 + 64 n: ManyBody walks once for each particle, Collide as often in each iteration, others not at all
-abbrev pub mostVisits : ℕ → Force → ℕ
-mostVisits n empty = 0
-mostVisits n (push (manyBody strengths)) = n * (1 + greatestLevel * n)
-mostVisits n (push (collide radii strength iterations)) = iterations * (n * (1 + greatestLevel * n))
-mostVisits n (push (link links strengths distances iterations)) = 0
-mostVisits n (center x y strength) = 0
-mostVisits n unknown = 0
+-- the most nodes that one walk hands out over a tree of d distinct points
+abbrev pub mostWalked : ℕ → ℕ
+mostWalked d = 1 + greatestLevel * d
+
+-- the most that a force hands out: ManyBody walks once for each particle, Collide as often in each iteration, the others not at all
+abbrev pub mostVisited : Force → ℕ
+mostVisited empty = 0
+mostVisited (push (manyBody strengths)) = length strengths * mostWalked (length strengths)
+mostVisited (push (collide radii strength iterations)) = iterations * (length radii * mostWalked (length radii))
+mostVisited (push (link links strengths distances iterations)) = 0
+mostVisited (center x y strength) = 0
+mostVisited unknown = 0
