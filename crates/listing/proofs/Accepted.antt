@@ -1,19 +1,18 @@
 -- A sheet that the lister accepts is within its limits. Assumes nothing.
-use mathlib.Core.Path.{_≡_, refl, sym, ap, ap₂, _∙_, subst}
+use mathlib.Core.Path.{_≡_, refl, sym, ap, subst}
 use mathlib.Core.Bool.{Bool, true, false}
-use mathlib.Core.List.{List, [], _∷_, map, cons≢nil}
+use mathlib.Core.List.{List, map, cons≢nil}
 use Prim.Native.Nat.{ℕ, zero, suc, _+_, _*_, _≤_, _<_}
 use native.Mathlib.Omega.{arith}
 use borrow.Author.Tests.{leb-true}
 use lib.Dec.{T, leb}
-use lib.ListN.{length, getD}
-use lib.Ieee.{Float, nan}
+use lib.ListN.{length}
+use lib.Ieee.{Float}
 use Rattle.rules.specs.declared.Extent.{Extent}
-use Rattle.rules.specs.declared.Particle.{Particle}
 use Rattle.rules.specs.Plain.{upTo}
-use Rattle.rules.specs.Outcome.{Outcome, done, refused, _>>=_, Check, fine, require, _then_, checkFrom}
-use Rattle.rules.specs.Number.{within, placeRange, speedRange, xAt, yAt}
-use Rattle.rules.specs.Sheet.{wholeRecords, recordCheck, recordsCheck, placesOf, particlesOf, recordsFrom, countOf}
+use Rattle.rules.specs.Outcome.{Outcome, done, refused, _>>=_, Check, fine, require, _then_}
+use Rattle.rules.specs.Number.{within, placeRange, xAt, yAt}
+use Rattle.rules.specs.Sheet.{wholeRecords, recordsCheck, placesOf, particlesOf, countOf}
 use Rattle.rules.specs.Cover.{Square, Covered, nothing, holds, coverAll, coverFirst}
 use Rattle.rules.specs.Tree.{Tree, none, leaf, node, depth, nodes, treeOf, treeCheck, chainsOf}
 use Rattle.rules.specs.Calls.{treeOfSheet, coverSheet}
@@ -26,6 +25,8 @@ use Rattle.listing.specs.Told.{Covers, Listed}
 use Rattle.listing.proofs.Sizes.{below-more}
 use Rattle.cells.proofs.Prefix.{no-tree, check-fits, member-less}
 use Rattle.rows.proofs.ListWhole.{chains-all}
+use Rattle.sheet.proofs.Checked.{places-ranged}
+use Rattle.sheet.proofs.Sheets.{particles-count}
 
 -- ---- outcomes
 
@@ -48,33 +49,6 @@ accepts-bind (refused r) f h = absurd h
 accepts-require : (ok : Bool) (n p : ℕ) → Accepts (require ok n p) → ok ≡ true
 accepts-require true n p h = refl
 accepts-require false n p h = absurd h
-
--- ---- the records: every place is in range
-
-record-in : (i : ℕ) (p : Particle) → Accepts (recordCheck i p) → placeRange (p .x) (p .y) ≡ true
-unfolding recordCheck
-record-in i p c =
-    let flags = require (leb (p .flags) 3) 10 i in
-    let place = require (placeRange (p .x) (p .y)) 4 i in
-    let speed = require (speedRange (p .vx) (p .vy)) 5 i in
-    accepts-require (placeRange (p .x) (p .y)) 4 i (accepts-then flags place (accepts-then (flags then place) speed c .0) .1)
-
-places-in : (i : ℕ) (ps : List Particle) → Accepts (checkFrom recordCheck i ps) → (k : ℕ) → k < length ps → placeRange (xAt (placesOf ps) k) (yAt (placesOf ps) k) ≡ true
-places-in i [] c k h = absurd (omega arith)
-places-in i (p ∷ ps) c zero h = record-in i p (accepts-bind (recordCheck i p) (λ _. checkFrom recordCheck (i + 1) ps) c .0)
-places-in i (p ∷ ps) c (suc k) h =
-    let e : suc k * 2 ≡ suc (suc (k * 2)) = omega arith in
-    let f : suc k * 2 + 1 ≡ suc (suc (k * 2 + 1)) = omega arith in
-    ap₂ (λ (a b : ℕ). placeRange (getD (placesOf (p ∷ ps)) a nan) (getD (placesOf (p ∷ ps)) b nan)) e f
-    ∙ places-in (i + 1) ps (accepts-bind (recordCheck i p) (λ _. checkFrom recordCheck (i + 1) ps) c .1 .1) k (omega arith)
-
-records-count : (s : List ℕ) (at k : ℕ) → length (recordsFrom s at k) ≡ k
-records-count s at zero = refl
-records-count s at (suc k) = ap suc (records-count s (at + 40) k)
-
-particles-count : (s : List ℕ) → length (particlesOf s) ≡ countOf s
-unfolding particlesOf
-particles-count s = records-count s 0 (countOf s)
 
 -- ---- the tree
 
@@ -116,10 +90,10 @@ module _ (sheet : List ℕ) where
   n = countOf sheet
 
   accepted-tree : Accepts (recordsCheck (particlesOf sheet)) → n ≤ mostListed → Accepts (treeCheck at n listerSlots) → Listed (coverSheet sheet) (treeOf at n)
-  unfolding at n recordsCheck
+  unfolding at n
   accepted-tree r m f =
       let fits = check-fits at n listerSlots (accepts-fine (treeCheck at n listerSlots) f) in
-      let near = near-all at n (λ k h. places-in 0 (particlesOf sheet) r k (let e = particles-count sheet in omega arith)) in
+      let near = near-all at n (λ k h. places-ranged (particlesOf sheet) (accepts-fine (recordsCheck (particlesOf sheet)) r) k (let e = particles-count sheet in omega arith)) in
       let e = chains-all at n (fits .0) .0 in
       record {
         covers = covers at n near (fits .0);

@@ -1,10 +1,12 @@
 -- Laws of what is counted. A walk, a force and a tick count on from any number as they count from 0; so what is counted in all is the sum of what each counts by itself.
 use mathlib.Core.Path.{_≡_, refl, sym, ap, _∙_}
-use mathlib.Core.Bool.{Bool, true, false}
-use mathlib.Core.List.{List, [], _∷_, _++_}
-use Prim.Native.Nat.{ℕ, zero, suc, _+_}
+use mathlib.Core.Bool.{Bool, true, false, and-eq-true-iff}
+use mathlib.Core.List.{List, [], _∷_, _++_, map}
+use Prim.Native.Nat.{ℕ, zero, suc, _+_, _*_, _≤_}
 use native.Mathlib.Nat.{add-zero, add-assoc}
 use native.Mathlib.Omega.{arith}
+use borrow.Author.Tests.{leb-true, le-leb}
+use lib.Dec.{leb}
 use lib.ListN.{length}
 use lib.Ieee.{Float, lt}
 use Rattle.rules.specs.declared.Particle.{Particle}
@@ -13,7 +15,7 @@ use Rattle.rules.specs.declared.Settings.{Settings}
 use Rattle.rules.specs.declared.Tuning.{Tuning}
 use Rattle.rules.specs.declared.Visit.{Visit}
 use Rattle.rules.specs.declared.Visit.the-variants.{Continue, Skip}
-use Rattle.rules.specs.Plain.{branch, sum, upTo, countFrom}
+use Rattle.rules.specs.Plain.{branch, all, sum, upTo}
 use Rattle.rules.specs.Outcome.{Outcome, done, refused, refusal, _>>=_, foldStages, ifDone}
 use Rattle.rules.specs.Sheet.{placesOf, speedsOf}
 use Rattle.rules.specs.Refusal.{alphaCheck, resultCheck}
@@ -26,6 +28,7 @@ use Rattle.rules.specs.Link as L
 use Rattle.rules.specs.Force.{Push, manyBody, collide, link, run}
 use Rattle.rules.specs.Particle.{centered, closing}
 use Rattle.rules.specs.Tick.{Force, empty, push, center, unknown, State, state, nextAlpha, alphaStage, settled, withSpeeds, pushStage, forceStage, tick, Run, ranFor, onward, ticksFrom}
+use Rattle.rules.proofs.OutcomeLaws.{bind-cong, bind-assoc}
 use Rattle.rules.specs.Terms.{countEach, walkCounts, uncounted, forceCounts, tickCounts}
 
 -- ---- a change of what is done
@@ -48,7 +51,55 @@ pub over-stages : {A X : Type 0} (g : X → X) (f : X → A → Outcome X) → (
 over-stages g f e [] x = refl
 over-stages g f e (a ∷ l) x = ap (λ (o : Outcome _). o >>= λ y. foldStages f y l) (e x a) ∙ bind-over g (f x a) (λ y. foldStages f y l) (over-stages g f e l)
 
+pub stages-append : {A X : Type 0} (f : X → A → Outcome X) (l k : List A) (x : X) → foldStages f x (l ++ k) ≡ (foldStages f x l >>= λ y. foldStages f y k)
+stages-append f [] k x = refl
+stages-append f (a ∷ l) k x = bind-cong (f x a) (stages-append f l k) ∙ sym (bind-assoc (f x a) (λ y. foldStages f y l) (λ y. foldStages f y k))
+
 -- ---- stages that count
+
+module _ {A X : Type 0} (count : X → ℕ) (afresh : X → X) (f : X → A → Outcome X) where
+  -- what is counted by each, taken apart
+  record Each (a : A) (l : List A) (x : X) (ks : List ℕ) : Type 0 where
+    next : X
+    rest : List ℕ
+    first : f (afresh x) a ≡ done next
+    others : countEach count afresh f next l ≡ done rest
+    are : ks ≡ count next ∷ rest
+
+  each-of : (a : A) (l : List A) (x : X) (ks : List ℕ) → countEach count afresh f x (a ∷ l) ≡ done ks → Each a l x ks
+  each-of a l x ks e = go (f (afresh x) a) refl e
+    where
+      on : (y : X) → f (afresh x) a ≡ done y → (o : Outcome (List ℕ)) → countEach count afresh f y l ≡ o → (o >>= λ ks. done (count y ∷ ks)) ≡ done ks → Each a l x ks
+      on y p (done r) q e = record { next = y; rest = r; first = p; others = q; are = (cc) }
+      on y p (refused r) q e = absurd (let z : _≡_ {A = ℕ} 0 1 = cc in omega arith)
+
+      go : (o : Outcome X) → f (afresh x) a ≡ o → (o >>= λ y. countEach count afresh f y l >>= λ ks. done (count y ∷ ks)) ≡ done ks → Each a l x ks
+      go (done y) p e = on y p (countEach count afresh f y l) refl e
+      go (refused r) p e = absurd (let z : _≡_ {A = ℕ} 0 1 = cc in omega arith)
+
+  -- there are as many counts as stages
+  pub each-length : (l : List A) (x : X) (ks : List ℕ) → countEach count afresh f x l ≡ done ks → length ks ≡ length l
+  each-length [] x ks e = let z : ks ≡ [] = cc in rw z
+  each-length (a ∷ l) x ks e = let h = each-of a l x ks e in rw (h .are) (ap suc (each-length l (h .next) (h .rest) (h .others)))
+
+  -- where no stage counts more than k, none of the counts is greater
+  pub each-few : (k : ℕ) → ((x y : X) (a : A) → f (afresh x) a ≡ done y → count y ≤ k) → (l : List A) (x : X) (ks : List ℕ) → countEach count afresh f x l ≡ done ks → all (λ c. leb c k) ks ≡ true
+  each-few k b [] x ks e = let z : ks ≡ [] = cc in rw z
+  each-few k b (a ∷ l) x ks e =
+      let h = each-of a l x ks e in
+      rw (h .are, le-leb (count (h .next)) k (b x (h .next) a (h .first))) (each-few k b l (h .next) (h .rest) (h .others))
+
+  -- where each stage counts at most what its own bound says, all of them count at most the sum of these
+  pub each-most : (most : A → ℕ) → ((x y : X) (a : A) → f (afresh x) a ≡ done y → count y ≤ most a) → (l : List A) (x : X) (ks : List ℕ) → countEach count afresh f x l ≡ done ks → sum ks ≤ sum (map most l)
+  each-most most b [] x ks e = let z : ks ≡ [] = cc in rw z (omega arith)
+  each-most most b (a ∷ l) x ks e =
+      let h = each-of a l x ks e in
+      rw (h .are) (omega (arith, b x (h .next) a (h .first), each-most most b l (h .next) (h .rest) (h .others)))
+
+-- counts of which none is greater than k make at most k for each
+pub sum-few : (k : ℕ) (ks : List ℕ) → all (λ c. leb c k) ks ≡ true → sum ks ≤ length ks * k
+sum-few k [] h = omega arith
+sum-few k (c ∷ ks) h = let (a, b) = and-eq-true-iff (leb c k) (all (λ c. leb c k) ks) .0 h in omega (arith, leb-true c k a, sum-few k ks b)
 
 -- Stages over a state of which `count` is counted: each counts on from any number as from 0. Then what they count in all is the sum.
 module _ {A X : Type 0} (count : X → ℕ) (afresh : X → X) (more : ℕ → X → X) (f : X → A → Outcome X)

@@ -2,16 +2,16 @@
 use mathlib.Core.Path.{_≡_}
 use mathlib.Core.Logic.{_⊎_, _≢_}
 use mathlib.Core.Bool.{Bool, true, false, cond, not, _&&_}
-use mathlib.Core.List.{List, [], _∷_, _++_}
+use mathlib.Core.List.{List, [], _∷_, _++_, map}
 use Prim.Native.Nat.{ℕ, zero, suc, _+_, _*_, _≤_, _<_}
 use lib.IntN.{pos, _+ℤ_}
-use lib.Dec.{eqb}
+use lib.Dec.{leb, eqb}
 use lib.ListN.{length}
 use lib.Ieee.{Float, lt, le}
 use Rattle.rules.specs.declared.Extent.{Extent}
 use Rattle.rules.specs.declared.Refusal.{Refusal}
 use Rattle.rules.specs.declared.Settings.{Settings}
-use Rattle.rules.specs.Plain.{branch, all}
+use Rattle.rules.specs.Plain.{branch, all, sum}
 use Rattle.rules.specs.Outcome.{Outcome, done, _>>=_, ifDone}
 use Rattle.rules.specs.Number.{xAt, yAt}
 use Rattle.rules.specs.Cell.{quarter}
@@ -88,28 +88,21 @@ countEach count afresh f x (a ∷ l) = f (afresh x) a >>= λ y. countEach count 
 abbrev pub walkCounts : {A S : Type 0} → (ℕ → Entry A → S → Outcome (After S)) → Tree A → S → List ℕ → Outcome (List ℕ)
 walkCounts step t σ is = countEach (λ m. m .visits) (λ m. counted (m .state) 0) (λ m i. walk (step i) t m) (counted σ 0) is
 
+-- the most nodes that one walk hands out over a tree of d distinct points
+abbrev pub mostWalked : ℕ → ℕ
+mostWalked d = 1 + greatestLevel * d
+
+-- `visits` is the sum of what these walks hand out, and each of them hands out at most `most`
+pub record Walked {A S : Type 0} (step : ℕ → Entry A → S → Outcome (After S)) (t : Tree A) (σ : S) (is : List ℕ) (visits most : ℕ) : Type 0 where
+  pub counts : List ℕ
+  pub each : walkCounts step t σ is ≡ done counts
+  pub total : visits ≡ sum counts
+  pub few : all (λ k. leb k most) counts ≡ true
+
 -- a list, k times over
 abbrev pub repeated : ℕ → List ℕ → List ℕ
 repeated zero l = []
 repeated (suc k) l = l ++ repeated k l
-
--- a tick's state with no node counted yet
-abbrev pub uncounted : State → State
-uncounted m = state (m .particles) (m .alpha) (m .draws) 0
-
--- how many nodes each force of a tick hands out, from the state m
-abbrev pub forceCounts : ℕ → State → List Force → Outcome (List ℕ)
-forceCounts slots m fs = countEach (λ m. m .visits) uncounted (forceStage slots) m fs
-
--- how many nodes each tick of a step hands out: at most k ticks, while alpha > alpha_min and none is refused
-unfoldable pub tickCounts : Settings → Float → List Force → ℕ → ℕ → State → List ℕ
-tickCounts s alphaMin forces slots zero m = []
-tickCounts s alphaMin forces slots (suc k) m =
-    branch (lt alphaMin (m .alpha)) (λ _. ifDone (tick s forces slots (uncounted m)) (λ n. n .visits ∷ tickCounts s alphaMin forces slots k n) []) (λ _. [])
-
--- the most nodes that one walk hands out over a tree of d distinct points
-abbrev pub mostWalked : ℕ → ℕ
-mostWalked d = 1 + greatestLevel * d
 
 -- the most that a force hands out: ManyBody walks once for each particle, Collide as often in each iteration, the others not at all
 abbrev pub mostVisited : Force → ℕ
@@ -119,3 +112,24 @@ mostVisited (push (collide radii strength iterations)) = iterations * (length ra
 mostVisited (push (link links strengths distances iterations)) = 0
 mostVisited (center x y strength) = 0
 mostVisited unknown = 0
+
+-- a tick's state with no node counted yet
+abbrev pub uncounted : State → State
+uncounted m = state (m .particles) (m .alpha) (m .draws) 0
+
+-- how many nodes each force of a tick hands out, from the state m
+abbrev pub forceCounts : ℕ → State → List Force → Outcome (List ℕ)
+forceCounts slots m fs = countEach (λ m. m .visits) uncounted (forceStage slots) m fs
+
+-- `visits` is the sum of what these forces hand out, at most what all of them may
+pub record Forced (slots : ℕ) (m : State) (fs : List Force) (visits : ℕ) : Type 0 where
+  pub counts : List ℕ
+  pub each : forceCounts slots m fs ≡ done counts
+  pub total : visits ≡ sum counts
+  pub few : visits ≤ sum (map mostVisited fs)
+
+-- how many nodes each tick of a step hands out: at most k ticks, while alpha > alpha_min and none is refused
+unfoldable pub tickCounts : Settings → Float → List Force → ℕ → ℕ → State → List ℕ
+tickCounts s alphaMin forces slots zero m = []
+tickCounts s alphaMin forces slots (suc k) m =
+    branch (lt alphaMin (m .alpha)) (λ _. ifDone (tick s forces slots (uncounted m)) (λ n. n .visits ∷ tickCounts s alphaMin forces slots k n) []) (λ _. [])

@@ -1,5 +1,5 @@
 -- What the checks of records say.
-use mathlib.Core.Path.{_≡_, refl, ap}
+use mathlib.Core.Path.{_≡_, refl, ap, ap₂, _∙_}
 use mathlib.Core.Bool.{Bool, true, false, _&&_, not, false≢true, and-eq-true-iff}
 use mathlib.Core.List.{List, [], _∷_}
 use Prim.Native.Nat.{ℕ, zero, suc, _+_, _*_, _/_, _<_}
@@ -11,7 +11,7 @@ use Rattle.rules.specs.declared.Particle.{Particle}
 use Rattle.rules.specs.declared.Refusal.{Refusal}
 use Rattle.rules.specs.Plain.{all}
 use Rattle.rules.specs.Outcome.{Outcome, done, refused, Check, fine, require, _then_, _>>=_, refusalOf, checkFrom}
-use Rattle.rules.specs.Number.{between, within, finite, limit, xAt, yAt}
+use Rattle.rules.specs.Number.{between, within, finite, limit, placeRange, xAt, yAt}
 use Rattle.rules.specs.Sheet.{recordCheck, recordsCheck, placesOf, speedsOf}
 use Rattle.sheet.specs.Columns.{flagsOf}
 
@@ -133,6 +133,19 @@ checks-sound i (p ∷ ps) h =
 pub records-sound : (ps : List Particle) → recordsCheck ps ≡ fine → AllSound ps
 unfolding recordsCheck
 records-sound ps h = checks-sound 0 ps h
+
+places-from : (i : ℕ) (ps : List Particle) → checkFrom recordCheck i ps ≡ fine → (k : ℕ) → k < length ps → placeRange (xAt (placesOf ps) k) (yAt (placesOf ps) k) ≡ true
+places-from i [] h k l = absurd (omega arith)
+places-from i (p ∷ ps) h zero l = let s = checks-split i p ps h .0 in rw (s .x, s .y)
+places-from i (p ∷ ps) h (suc k) l =
+    let e : suc k * 2 ≡ suc (suc (k * 2)) = omega arith in
+    let f : suc k * 2 + 1 ≡ suc (suc (k * 2 + 1)) = omega arith in
+    ap₂ (λ (a b : ℕ). placeRange (getD (placesOf (p ∷ ps)) a nan) (getD (placesOf (p ∷ ps)) b nan)) e f ∙ places-from (i + 1) ps (checks-split i p ps h .1) k (omega arith)
+
+-- the place of each particle too
+pub places-ranged : (ps : List Particle) → recordsCheck ps ≡ fine → (k : ℕ) → k < length ps → placeRange (xAt (placesOf ps) k) (yAt (placesOf ps) k) ≡ true
+unfolding recordsCheck
+places-ranged ps h = places-from 0 ps h
 
 sound-checks : (i : ℕ) (ps : List Particle) → AllSound ps → checkFrom recordCheck i ps ≡ fine
 sound-checks i [] s = refl

@@ -17,6 +17,16 @@ use Rattle.sheet.proofs.Lists.{length-zero}
 use Rattle.words.proofs.Bytes.{Bytes, bytes-drop, word-of-bytes, word-kept, word-fits}
 use Rattle.sheet.proofs.Checked.{Sound, within-number, finite-number, checks-split}
 
+-- ---- how many particles
+
+records-count : (s : List ℕ) (at k : ℕ) → length (recordsFrom s at k) ≡ k
+records-count s at zero = refl
+records-count s at (suc k) = ap suc (records-count s (at + 40) k)
+
+pub particles-count : (s : List ℕ) → length (particlesOf s) ≡ countOf s
+unfolding particlesOf
+particles-count s = records-count s 0 (countOf s)
+
 -- ---- particles that a record holds
 
 -- every number is an f64, the flags are a word
