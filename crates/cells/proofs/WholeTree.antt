@@ -1,13 +1,13 @@
 -- The cell rule's tree of n particles in range, if it passes no level past 64: where its points lie, and how large its extent is. Assumes nothing.
-use mathlib.Core.Path.{_≡_, refl, sym, ap, subst}
+use mathlib.Core.Path.{_≡_, refl}
 use mathlib.Core.Logic.{inl, inr}
-use mathlib.Core.Bool.{true, _&&_}
+use mathlib.Core.Bool.{true}
 use mathlib.Core.List.{List, [], _∷_, List·Memᴰ}
-use Prim.Native.Nat.{ℕ, zero, suc, _+_, _^_, _≤_, _<_}
+use Prim.Native.Nat.{ℕ, zero, suc, _^_, _≤_, _<_}
 use native.Mathlib.Omega.{arith}
 use lib.Dec.{T}
 use lib.Pow.{pow-mono}
-use lib.Ieee.{Float, lt, le}
+use lib.Ieee.{Float}
 use Rattle.rules.specs.declared.Extent.{Extent}
 use Rattle.rules.specs.Plain.{all, countFrom, upTo}
 use Rattle.rules.specs.Number.{within, xAt, yAt}
@@ -16,7 +16,7 @@ use Rattle.rules.specs.Tree.{depth, treeOf}
 use Rattle.rules.specs.Terms.{EachLeaf, inCell, IsTree, Sided}
 use Rattle.rules.proofs.CellList.{In}
 use Rattle.rules.proofs.CellChain.{each-map}
-use Rattle.rules.proofs.CellInside.{FiniteCell, Inside}
+use Rattle.rules.proofs.CellInside.{Inside}
 use Rattle.rules.proofs.CellRule.{tree-whole, leaves-inside}
 use Rattle.rules.proofs.Cover.{held-sided, held-most}
 use Rattle.cells.specs.Cover.{squareOf, Reachable}

@@ -3,7 +3,7 @@ use mathlib.Core.Path.{_≡_, refl, sym, ap, _∙_}
 use mathlib.Core.Bool.{Bool, true}
 use mathlib.Core.List.{List, _∷_}
 use Prim.Native.Nat.{ℕ, zero, suc, _+_, _*_, _≤_, _<_}
-use native.Mathlib.Nat.{add-zero, mul-le-mul-left}
+use native.Mathlib.Nat.{add-zero}
 use native.Mathlib.Numerals.{add-one}
 use native.Mathlib.Omega.{arith}
 use borrow.Author.Tests.{le-ltb, le-leb}
@@ -11,16 +11,13 @@ use lib.ListN.{length}
 use lib.Ieee.{Float}
 use Rattle.rules.specs.declared.Extent.{Extent}
 use Rattle.rules.specs.Plain.{all, countFrom, upTo}
-use Rattle.rules.specs.Outcome.{Outcome, Check, done, refused, fine, _>>=_, foldStages, checkFrom}
+use Rattle.rules.specs.Outcome.{Outcome, done, fine, _>>=_, foldStages, checkFrom}
 use Rattle.rules.specs.Cover.{coverFirst, extentOf}
-use Rattle.rules.specs.Tree.{leaf, same, nodes, treeIn, treeOf, fitsCheck, treeCheck}
+use Rattle.rules.specs.Tree.{leaf, same, treeIn, treeOf, fitsCheck, treeCheck}
 use Rattle.rules.specs.Walk.{Counted, counted}
 use Rattle.rules.specs.Flow.{Flow}
-use Rattle.rules.specs.Collide.{leafRadius, nodeRadius, radiusTree, collideStep, collideOnce, runCollide}
-use Rattle.rules.proofs.CellCount.{distinct, length-upTo}
+use Rattle.rules.specs.Collide.{radiusTree, collideStep, runCollide}
 use Rattle.rules.proofs.CellRule.{grow-leaf}
-use Rattle.walk.proofs.WalkTheorems.{counts-few}
-use Rattle.quadtree.proofs.Visits.{nodes-valued, accepted-nodes, stages-few}
 use Rattle.collide.specs.Collide.{walkFor, walkAll, walkTimes}
 use Rattle.collide.proofs.CollideRun.{run-none, run-walked}
 
@@ -93,40 +90,3 @@ coincident-idle at radii strength iterations slots m h f = go (length radii) ref
     go : (n : ℕ) → length radii ≡ n → ((i : ℕ) → i < n → same at 0 i ≡ true) → runCollide at radii strength iterations slots m ≡ done (counted (m .state) (m .visits + iterations * length radii))
     go zero e g = run-idle at radii strength iterations slots m f (λ m. rw (e, add-zero))
     go (suc n) e g = one-leaf-idle at radii strength iterations slots m f (extentOf (coverFirst at (suc n))) (countFrom 1 n) (rw e (coincident-leaf at n g))
-
--- ---- how many nodes are handed out
-
-module _ (at radii : List Float) (strength : Float) (slots : ℕ) where
-  radius-nodes : nodes (radiusTree at radii) ≡ nodes (treeOf at (length radii))
-  unfolding radiusTree
-  radius-nodes = nodes-valued (λ c is. leafRadius radii is) (λ c rs. nodeRadius rs) (treeOf at (length radii))
-
-  walks-few : (m m' : Counted Flow) → walkAll at radii strength m ≡ done m' → m' .visits ≤ m .visits + length radii * nodes (treeOf at (length radii))
-  unfolding walkAll
-  walks-few m m' e =
-      rw (← radius-nodes, ← length-upTo (length radii))
-      (stages-few (walkFor at radii strength) (nodes (radiusTree at radii))
-      (λ i m m' e. counts-few (collideStep at radii strength i) (radiusTree at radii) m m' e) (upTo (length radii)) m m' e)
-
-  -- one iteration, where the tree has at most k nodes
-  once-few : (k : ℕ) → (treeCheck at (length radii) slots ≡ fine → nodes (treeOf at (length radii)) ≤ k) → (m m' : Counted Flow)
-      → collideOnce at radii strength slots m ≡ done m' → m' .visits ≤ m .visits + length radii * k
-  unfolding collideOnce walkAll
-  once-few k h m m' e = go (treeCheck at (length radii) slots) refl e
-    where
-      go : (c : Check) → treeCheck at (length radii) slots ≡ c → (c >>= λ _. walkAll at radii strength m) ≡ done m' → m' .visits ≤ m .visits + length radii * k
-      go (done u) q f = omega (arith, walks-few m m' f, mul-le-mul-left (length radii) (h q))
-      go (refused r) q f = absurd (let z : _≡_ {A = ℕ} 0 1 = cc in omega arith)
-
-  module _ (iterations : ℕ) (m m' : Counted Flow) (e : runCollide at radii strength iterations slots m ≡ done m') where
-    all-few : (k : ℕ) → (treeCheck at (length radii) slots ≡ fine → nodes (treeOf at (length radii)) ≤ k) → m' .visits ≤ m .visits + iterations * (length radii * k)
-    unfolding runCollide
-    all-few k h = rw (← length-upTo iterations) (stages-few (λ m _. collideOnce at radii strength slots m) (length radii * k) (λ i m m' e. once-few k h m m' e) (upTo iterations) m m' e)
-
-    -- A run hands out at most 1 + 64 d nodes for each iteration and each particle, where there are d distinct points.
-    pub visits-distinct : m' .visits ≤ m .visits + iterations * (length radii * (1 + 64 * distinct at (upTo (length radii))))
-    visits-distinct = all-few (1 + 64 * distinct at (upTo (length radii))) (λ q. accepted-nodes at (length radii) slots q .0)
-
-    -- So at most 1 + 64 n, where there are n particles.
-    pub visits-particles : m' .visits ≤ m .visits + iterations * (length radii * (1 + 64 * length radii))
-    visits-particles = all-few (1 + 64 * length radii) (λ q. accepted-nodes at (length radii) slots q .1)

@@ -3,4 +3,3 @@ pub mod AddInsert
 pub mod AddBuild
 pub mod Refusals
 pub mod Told
-pub mod Visits

@@ -10,7 +10,6 @@ use lib.Dec.{leb}
 use lib.ListN.{length}
 use lib.Ieee.{Float, lt}
 use Rattle.rules.specs.declared.Particle.{Particle}
-use Rattle.rules.specs.declared.Refusal.{Refusal}
 use Rattle.rules.specs.declared.Settings.{Settings}
 use Rattle.rules.specs.declared.Tuning.{Tuning}
 use Rattle.rules.specs.declared.Visit.{Visit}
@@ -19,15 +18,15 @@ use Rattle.rules.specs.Plain.{branch, all, sum, upTo}
 use Rattle.rules.specs.Outcome.{Outcome, done, refused, refusal, _>>=_, foldStages, ifDone}
 use Rattle.rules.specs.Sheet.{placesOf, speedsOf}
 use Rattle.rules.specs.Refusal.{alphaCheck, resultCheck}
-use Rattle.rules.specs.Tree.{Tree, none, leaf, node, treeCheck}
-use Rattle.rules.specs.Walk.{Entry, internal, tip, Counted, counted, After, unlessSkip, handed, walk}
+use Rattle.rules.specs.Tree.{Tree, none, leaf, node, nodes, treeCheck}
+use Rattle.rules.specs.Walk.{Entry, internal, tip, Counted, counted, After, unlessSkip, handed, walk, valued}
 use Rattle.rules.specs.Flow.{Flow, flow}
 use Rattle.rules.specs.ManyBody as M
 use Rattle.rules.specs.Collide as C
 use Rattle.rules.specs.Link as L
 use Rattle.rules.specs.Force.{Push, manyBody, collide, link, run}
 use Rattle.rules.specs.Particle.{centered, closing}
-use Rattle.rules.specs.Tick.{Force, empty, push, center, unknown, State, state, nextAlpha, alphaStage, settled, withSpeeds, pushStage, forceStage, tick, Run, ranFor, onward, ticksFrom}
+use Rattle.rules.specs.Tick.{Force, empty, push, center, unknown, State, state, nextAlpha, alphaStage, settled, withSpeeds, pushStage, forceStage, tick, ranFor, onward, ticksFrom}
 use Rattle.rules.proofs.OutcomeLaws.{bind-cong, bind-assoc}
 use Rattle.rules.specs.Terms.{countEach, walkCounts, uncounted, forceCounts, tickCounts}
 
@@ -133,6 +132,13 @@ module _ {A X : Type 0} (count : X → ℕ) (afresh : X → X) (more : ℕ → X
       go (refused r) p q rest = absurd (let z : _≡_ {A = ℕ} 0 1 = cc in omega arith)
 
 -- ---- a walk
+
+-- Values laid beside the nodes add no node.
+pub nodes-valued : {A B : Type 0} (ofLeaf : A → List ℕ → B) (ofNode : A → List B → B) (t : Tree A) → nodes (valued ofLeaf ofNode t) ≡ nodes t
+nodes-valued ofLeaf ofNode none = refl
+nodes-valued ofLeaf ofNode (leaf a is) = refl
+nodes-valued ofLeaf ofNode (node a t0 t1 t2 t3) =
+    rw (nodes-valued ofLeaf ofNode t0, nodes-valued ofLeaf ofNode t1, nodes-valued ofLeaf ofNode t2, nodes-valued ofLeaf ofNode t3)
 
 -- v more are counted
 abbrev pub more : {S : Type 0} → ℕ → Counted S → Counted S

@@ -13,12 +13,11 @@ use Rattle.rules.specs.declared.Refusal.{Refusal}
 use Rattle.rules.specs.declared.Settings.{Settings}
 use Rattle.rules.specs.Plain.{branch, all, sum}
 use Rattle.rules.specs.Outcome.{Outcome, done, _>>=_, ifDone}
-use Rattle.rules.specs.Number.{xAt, yAt}
 use Rattle.rules.specs.Cell.{quarter}
 use Rattle.rules.specs.Cover.{Square}
 use Rattle.rules.specs.Tree.{Tree, none, leaf, node, depth, nodes, greatestLevel, same, alike, pointsIn, treeOf}
 use Rattle.rules.specs.Walk.{Entry, counted, After, walk}
-use Rattle.rules.specs.Force.{Push, manyBody, collide, link}
+use Rattle.rules.specs.Force.{manyBody, collide, link}
 use Rattle.rules.specs.Tick.{Force, empty, push, center, unknown, State, state, forceStage, tick}
 
 -- ---- trees

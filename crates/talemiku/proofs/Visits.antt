@@ -1,0 +1,230 @@
+-- How many nodes are handed out: by the single walks of ManyBody and Collide, by the forces of a tick, by the ticks of a step. What is counted is the sum of what each counts by itself, and each is bounded. Over the rules alone. Assumes nothing.
+use mathlib.Core.Path.{_≡_, refl, sym, ap, _∙_}
+use mathlib.Core.Bool.{Bool, true, false}
+use mathlib.Core.List.{List, [], _∷_, _++_, map}
+use Prim.Native.Nat.{ℕ, zero, suc, _+_, _*_, _≤_}
+use native.Mathlib.Nat.{mul-le-mul, mul-le-mul-left}
+use native.Mathlib.Omega.{arith}
+use borrow.Author.Tests.{leb-true}
+use lib.Dec.{leb}
+use lib.ListN.{length, take, drop, length-append, length-take}
+use lib.Ieee.{Float, lt}
+use Rattle.rules.specs.declared.ForceEntry.{ForceEntry}
+use Rattle.rules.specs.declared.Particle.{Particle}
+use Rattle.rules.specs.declared.Settings.{Settings}
+use Rattle.rules.specs.declared.Tuning.{Tuning}
+use Rattle.rules.specs.Plain.{branch, sum, upTo, countFrom}
+use Rattle.rules.specs.Outcome.{Outcome, done, refused, Check, fine, _then_, _>>=_, checkFrom, foldStages, ifDone}
+use Rattle.rules.specs.Refusal.{mostIterations, mostLinks, countCheck, alphaCheck, resultCheck}
+use Rattle.rules.specs.Sheet.{placesOf, speedsOf}
+use Rattle.rules.specs.Tree.{Tree, nodes, treeOf, treeCheck}
+use Rattle.rules.specs.Walk.{Entry, Counted, counted, After, walk}
+use Rattle.rules.specs.Flow.{Flow, flow}
+use Rattle.rules.specs.ManyBody.{standard, chargedTree, leafCharge, nodeCharge, manyBodyStep, runManyBody}
+use Rattle.rules.specs.Collide.{radiusTree, leafRadius, nodeRadius, collideStep, collideOnce, runCollide}
+use Rattle.rules.specs.Link.{runLink}
+use Rattle.rules.specs.Force.{Push, manyBody, collide, link, endsFrom, run}
+use Rattle.rules.specs.Particle.{centered, closing}
+use Rattle.rules.specs.Tick.{Force, empty, push, center, unknown, byKind, entryCounts, numbersNeeded, linksNeeded, forceOf, forcesFrom, State, state, nextAlpha, alphaStage, settled, withSpeeds, pushStage, forceStage, tick}
+use Rattle.rules.specs.Terms.{distinct, mostWalked, Walked, repeated, mostVisited, uncounted, Forced, tickCounts}
+use Rattle.rules.proofs.CellCount.{length-upTo, distinct-le}
+use Rattle.rules.proofs.CellRule.{tree-nodes}
+use Rattle.rules.proofs.Counting.{nodes-valued, stages-append, each-length, each-few, each-most, sum-few, walks-sum, forces-sum}
+use Rattle.cells.proofs.Prefix.{check-fits}
+use Rattle.walk.proofs.WalkTheorems.{counts-few}
+use Rattle.lists.proofs.Checks.{bind-both, require-true}
+use Rattle.talemiku.specs.Told.{mostOfForce}
+
+never : {A B : Type 0} {a : A} (r : _) → _≡_ {A = Outcome A} (refused r) (done a) → B
+never r e = absurd (let z : _≡_ {A = ℕ} 0 1 = cc in omega arith)
+
+-- ---- single walks
+
+module _ {A S : Type 0} (step : ℕ → Entry A → S → Outcome (After S)) (t : Tree A) where
+  -- one walk for each of these particles, over a tree of at most that many nodes
+  walked : (is : List ℕ) (σ : S) (n : Counted S) (most : ℕ) → nodes t ≤ most → foldStages (λ m i. walk (step i) t m) (counted σ 0) is ≡ done n → Walked step t σ is (n .visits) most
+  walked is σ n most b e =
+      let (ks, c, s) = walks-sum step t is (counted σ 0) n e in
+      record {
+        counts = ks;
+        each = c;
+        total = omega (arith, s);
+        few = each-few (λ m. m .visits) (λ m. counted (m .state) 0) (λ m i. walk (step i) t m) most (λ m k i f. omega (arith, counts-few (step i) t (counted (m .state) 0) k f, b)) is (counted σ 0) ks c;
+      }
+
+  -- so they hand out at most that many for each
+  pub walked-most : {is : List ℕ} {σ : S} {visits most : ℕ} → Walked step t σ is visits most → visits ≤ length is * most
+  walked-most {is} {σ} {most = most} w =
+      let k = each-length (λ m. m .visits) (λ m. counted (m .state) 0) (λ m i. walk (step i) t m) is (counted σ 0) (w .counts) (w .each) in
+      rw (← k) (omega (arith, w .total, sum-few most (w .counts) (w .few)))
+
+-- what a tree that can be built has: at most 1 + 64 d nodes for d distinct points
+few-nodes : (at : List Float) (n slots : ℕ) → treeCheck at n slots ≡ fine → nodes (treeOf at n) ≤ mostWalked (distinct at (upTo n))
+few-nodes at n slots e = tree-nodes at n (check-fits at n slots e .0) .0
+
+-- ManyBody: one walk for each particle.
+pub many-body-walked : (t : Tuning) (at strengths : List Float) (alpha : Float) (slots : ℕ) (σ : Flow) (n : Counted Flow) → runManyBody t at strengths alpha slots (counted σ 0) ≡ done n
+    → Walked (manyBodyStep t at strengths alpha) (chargedTree at strengths) σ (upTo (length strengths)) (n .visits) (mostWalked (distinct at (upTo (length strengths))))
+unfolding runManyBody chargedTree
+many-body-walked t at strengths alpha slots σ n e = go (treeCheck at (length strengths) slots) refl e
+  where
+    go : (c : Check) → treeCheck at (length strengths) slots ≡ c → (c >>= λ _. foldStages (λ m i. walk (manyBodyStep t at strengths alpha i) (chargedTree at strengths) m) (counted σ 0) (upTo (length strengths))) ≡ done n
+        → Walked (manyBodyStep t at strengths alpha) (chargedTree at strengths) σ (upTo (length strengths)) (n .visits) (mostWalked (distinct at (upTo (length strengths))))
+    go (done u) p e =
+        walked (manyBodyStep t at strengths alpha) (chargedTree at strengths) (upTo (length strengths)) σ n (mostWalked (distinct at (upTo (length strengths))))
+        (omega (arith, nodes-valued (λ c is. leafCharge at strengths is) (λ c qs. nodeCharge qs) (treeOf at (length strengths)), few-nodes at (length strengths) slots p)) e
+    go (refused r) p e = never r e
+
+-- Collide: one for each particle, in each iteration.
+module _ (at radii : List Float) (strength : Float) (slots : ℕ) where
+  abbrev turn : Counted Flow → ℕ → Outcome (Counted Flow)
+  turn m i = walk (collideStep at radii strength i) (radiusTree at radii) m
+
+  turns : (k i : ℕ) (m n : Counted Flow) → foldStages (λ m _. collideOnce at radii strength slots m) m (countFrom i k) ≡ done n → foldStages turn m (repeated k (upTo (length radii))) ≡ done n
+  unfolding collideOnce
+  turns zero i m n e = e
+  turns (suc k) i m n e = go (treeCheck at (length radii) slots) (foldStages turn m (upTo (length radii))) refl e (λ y. turns k (i + 1) y n)
+    where
+      go : (c : Check) (o : Outcome (Counted Flow)) → foldStages turn m (upTo (length radii)) ≡ o → (c >>= (λ _. o) >>= λ y. foldStages (λ m _. collideOnce at radii strength slots m) y (countFrom (i + 1) k)) ≡ done n
+          → ((y : Counted Flow) → foldStages (λ m _. collideOnce at radii strength slots m) y (countFrom (i + 1) k) ≡ done n → foldStages turn y (repeated k (upTo (length radii))) ≡ done n)
+          → foldStages turn m (upTo (length radii) ++ repeated k (upTo (length radii))) ≡ done n
+      go (done u) (done y) p e rest =
+          stages-append turn (upTo (length radii)) (repeated k (upTo (length radii))) m ∙ ap (λ (o : Outcome (Counted Flow)). o >>= λ y. foldStages turn y (repeated k (upTo (length radii)))) p ∙ rest y e
+      go (done u) (refused r) p e rest = never r e
+      go (refused r) o p e rest = never r e
+
+  once-fine : (m n : Counted Flow) (f : Counted Flow → Outcome (Counted Flow)) → (collideOnce at radii strength slots m >>= f) ≡ done n → treeCheck at (length radii) slots ≡ fine
+  unfolding collideOnce
+  once-fine m n f e = go (treeCheck at (length radii) slots) refl e
+    where
+      go : (c : Check) → treeCheck at (length radii) slots ≡ c → (c >>= (λ _. foldStages turn m (upTo (length radii))) >>= f) ≡ done n → treeCheck at (length radii) slots ≡ fine
+      go (done u) p e = p
+      go (refused r) p e = never r e
+
+  pub collide-walked : (iterations : ℕ) (σ : Flow) (n : Counted Flow) → runCollide at radii strength iterations slots (counted σ 0) ≡ done n
+      → Walked (collideStep at radii strength) (radiusTree at radii) σ (repeated iterations (upTo (length radii))) (n .visits) (mostWalked (distinct at (upTo (length radii))))
+  unfolding runCollide radiusTree
+  collide-walked zero σ n e = walked-none (cc)
+    where
+      walked-none : counted σ 0 ≡ n → Walked (collideStep at radii strength) (radiusTree at radii) σ [] (n .visits) (mostWalked (distinct at (upTo (length radii))))
+      walked-none z = rw (← z) (record { counts = []; each = refl; total = refl; few = refl })
+  collide-walked (suc k) σ n e =
+      walked (collideStep at radii strength) (radiusTree at radii) (repeated (suc k) (upTo (length radii))) σ n (mostWalked (distinct at (upTo (length radii))))
+      (omega (arith, nodes-valued (λ c is. leafRadius radii is) (λ c rs. nodeRadius rs) (treeOf at (length radii)), few-nodes at (length radii) slots (once-fine (counted σ 0) n (λ y. foldStages (λ m _. collideOnce at radii strength slots m) y (countFrom (0 + 1) k)) e)))
+      (turns (suc k) 0 (counted σ 0) n e)
+
+-- ---- a force
+
+settled-visits : (ps : List Particle) (m n : State) → settled ps m ≡ done n → n .visits ≡ m .visits
+settled-visits ps m n e = go (resultCheck (placesOf ps) (speedsOf ps)) e
+  where
+    go : (c : Check) → (c >>= λ _. done (state ps (m .alpha) (m .draws) (m .visits))) ≡ done n → n .visits ≡ m .visits
+    go (done u) e = let z : state ps (m .alpha) (m .draws) (m .visits) ≡ n = cc in ap (λ (k : State). k .visits) (sym z)
+    go (refused r) e = never r e
+
+length-repeated : (k : ℕ) (l : List ℕ) → length (repeated k l) ≡ k * length l
+length-repeated zero l = omega arith
+length-repeated (suc k) l = length-append l (repeated k l) ∙ omega (arith, length-repeated k l)
+
+most-more : (a b : ℕ) → a ≤ b → mostWalked a ≤ mostWalked b
+most-more a b l = omega arith
+
+-- A force hands out at most what its kind may.
+run-few : (f : Push) (at : List Float) (alpha : Float) (slots : ℕ) (σ : Flow) (n : Counted Flow) → run f at alpha slots (counted σ 0) ≡ done n → n .visits ≤ mostVisited (push f)
+unfolding run
+run-few (manyBody strengths) at alpha slots σ n e =
+    let k = length strengths in
+    let w = walked-most (manyBodyStep standard at strengths alpha) (chargedTree at strengths) (many-body-walked standard at strengths alpha slots σ n e) in
+    let d : distinct at (upTo k) ≤ k = omega (arith, distinct-le at (upTo k), length-upTo k) in
+    omega (arith, rw (length-upTo k) at w, mul-le-mul-left k (most-more (distinct at (upTo k)) k d))
+run-few (collide radii strength iterations) at alpha slots σ n e =
+    let k = length radii in
+    let w = walked-most (collideStep at radii strength) (radiusTree at radii) (collide-walked at radii strength slots iterations σ n e) in
+    let d : distinct at (upTo k) ≤ k = omega (arith, distinct-le at (upTo k), length-upTo k) in
+    let v : n .visits ≤ iterations * k * mostWalked (distinct at (upTo k)) = rw (length-repeated iterations (upTo k), length-upTo k) at w in
+    omega (arith, v, mul-le-mul-left (iterations * k) (most-more (distinct at (upTo k)) k d))
+run-few (link links strengths distances iterations) at alpha slots σ n e = go (runLink at links strengths distances iterations alpha σ) e
+  where
+    go : (o : Outcome Flow) → (o >>= λ τ. done (counted τ 0)) ≡ done n → n .visits ≤ 0
+    go (done τ) e = let z : counted τ 0 ≡ n = cc in rw (← z) (omega arith)
+    go (refused r) e = never r e
+
+stage-few : (slots : ℕ) (m n : State) (f : Force) → forceStage slots (uncounted m) f ≡ done n → n .visits ≤ mostVisited f
+unfolding pushStage
+stage-few slots m n empty e = let z : uncounted m ≡ n = cc in rw (← z) (omega arith)
+stage-few slots m n (push f) e = go (run f (placesOf ps) (m .alpha) slots (counted (flow (speedsOf ps) (m .draws)) 0)) refl e
+  where
+    ps : List Particle
+    ps = m .particles
+
+    go : (o : Outcome (Counted Flow)) → run f (placesOf ps) (m .alpha) slots (counted (flow (speedsOf ps) (m .draws)) 0) ≡ o
+        → (o >>= λ r. settled (withSpeeds (r .state .speeds) ps) (state ps (m .alpha) (r .state .draws) (r .visits))) ≡ done n → n .visits ≤ mostVisited (push f)
+    go (done r) p e =
+        omega (arith, settled-visits (withSpeeds (r .state .speeds) ps) (state ps (m .alpha) (r .state .draws) (r .visits)) n e, run-few f (placesOf ps) (m .alpha) slots (flow (speedsOf ps) (m .draws)) r p)
+    go (refused q) p e = never q e
+stage-few slots m n (center x y strength) e = omega (arith, settled-visits (centered x y strength (m .particles)) (uncounted m) n e)
+stage-few slots m n unknown e = let z : uncounted m ≡ n = cc in rw (← z) (omega arith)
+
+-- ---- a tick, from a state with nothing counted
+
+module _ (s : Settings) (fs : List Force) (slots : ℕ) where
+  pub tick-forced : (m n : State) → tick s fs slots (uncounted m) ≡ done n → Forced slots (state (m .particles) (nextAlpha s (m .alpha)) (m .draws) 0) fs (n .visits)
+  unfolding tick alphaStage
+  tick-forced m n e = go (alphaCheck (nextAlpha s (m .alpha))) (foldStages (forceStage slots) m₁ fs) refl e
+    where
+      m₁ : State
+      m₁ = state (m .particles) (nextAlpha s (m .alpha)) (m .draws) 0
+
+      go : (c : Check) (o : Outcome State) → foldStages (forceStage slots) m₁ fs ≡ o → (c >>= (λ _. done m₁) >>= λ m₁. foldStages (forceStage slots) m₁ fs >>= λ m₂. settled (closing (s .«velocity_decay») (m .particles) (m₂ .particles)) m₂) ≡ done n
+          → Forced slots m₁ fs (n .visits)
+      go (done u) (done m₂) p e =
+          let (ks, c, t) = forces-sum slots fs m₁ m₂ p in
+          let v = settled-visits (closing (s .«velocity_decay») (m .particles) (m₂ .particles)) m₂ n (sym (ap (λ (o : Outcome State). o >>= λ m₂. settled (closing (s .«velocity_decay») (m .particles) (m₂ .particles)) m₂) p) ∙ e) in
+          record {
+            counts = ks;
+            each = c;
+            total = omega (arith, v, t);
+            few = omega (arith, v, t, each-most (λ m. m .visits) uncounted (forceStage slots) mostVisited (stage-few slots) fs m₁ ks c);
+          }
+      go (done u) (refused r) p e = never r (sym (ap (λ (o : Outcome State). o >>= λ m₂. settled (closing (s .«velocity_decay») (m .particles) (m₂ .particles)) m₂) p) ∙ e)
+      go (refused r) o p e = never r e
+
+  -- The ticks of a step: each at most what the forces may.
+  pub ticks-few : (least : Float) (k : ℕ) (m : State) → sum (tickCounts s least fs slots k m) ≤ length (tickCounts s least fs slots k m) * sum (map mostVisited fs)
+  unfolding tickCounts
+  ticks-few least zero m = omega arith
+  ticks-few least (suc k) m = go (lt least (m .alpha)) (tick s fs slots (uncounted m)) refl (λ n. ticks-few least k n)
+    where
+      go : (b : Bool) (o : Outcome State) → tick s fs slots (uncounted m) ≡ o → ((n : State) → sum (tickCounts s least fs slots k n) ≤ length (tickCounts s least fs slots k n) * sum (map mostVisited fs))
+          → sum (branch b (λ _. ifDone o (λ n. n .visits ∷ tickCounts s least fs slots k n) []) (λ _. [])) ≤ length (branch b (λ _. ifDone o (λ n. n .visits ∷ tickCounts s least fs slots k n) []) (λ _. [])) * sum (map mostVisited fs)
+      go true (done n) p rest = omega (arith, tick-forced m n p .few, rest n)
+      go true (refused r) p rest = omega arith
+      go false o p rest = omega arith
+
+-- ---- all forces of a sheet
+
+shorter : (k n : ℕ) → k ≤ n → k * mostWalked k ≤ n * mostWalked n
+shorter k n l = mul-le-mul l (most-more k n l)
+
+entry-few : (n : ℕ) (e : ForceEntry) (numbers : List Float) (links : List ℕ) → entryCounts e ≡ fine → mostVisited (forceOf n e numbers links) ≤ mostOfForce n
+unfolding forceOf
+entry-few n e numbers links h = go (e .kind) h
+  where
+    most : length (take n numbers) * mostWalked (length (take n numbers)) ≤ n * mostWalked n
+    most = shorter (length (take n numbers)) n (rw length-take (omega arith))
+
+    go : (k : ℕ)
+        → byKind k fine fine (countCheck mostIterations (e .iterations)) (countCheck mostLinks (e .links) then countCheck mostIterations (e .iterations)) fine fine ≡ fine
+        → mostVisited (byKind k empty (push (manyBody (take n numbers))) (push (collide (take n numbers) (e .a) (e .iterations))) (push (link (endsFrom links (e .links)) (take (e .strengths) numbers) (take (e .links) (drop (e .strengths) numbers)) (e .iterations))) (center (e .a) (e .b) (e .c)) unknown) ≤ mostOfForce n
+    go zero h = omega arith
+    go (suc zero) h = omega (arith, most)
+    go (suc (suc zero)) h = mul-le-mul (leb-true (e .iterations) 64 (require-true (leb (e .iterations) 64) 1 0 h)) most
+    go (suc (suc (suc zero))) h = omega arith
+    go (suc (suc (suc (suc zero)))) h = omega arith
+    go (suc (suc (suc (suc (suc k))))) h = omega arith
+
+pub all-few : (n i : ℕ) (es : List ForceEntry) (numbers : List Float) (links : List ℕ) → checkFrom (λ _ e. entryCounts e) i es ≡ fine → sum (map mostVisited (forcesFrom n es numbers links)) ≤ length es * mostOfForce n
+all-few n i [] numbers links h = omega arith
+all-few n i (e ∷ es) numbers links h =
+    let (a, b) = bind-both (entryCounts e) (checkFrom (λ _ e. entryCounts e) (i + 1) es) h in
+    omega (arith, entry-few n e numbers links a, all-few n (i + 1) es (drop (numbersNeeded n e) numbers) (drop (linksNeeded e * 2) links) b)
