@@ -1,4 +1,4 @@
--- Center and the closing move come in two forms: over a lent list of particles here, and over columns in the crate `force` (`center_all`, `close_all`). Where the list's form accepts, both give the same particles.
+-- Center and the closing move come in two forms: over a lent list of particles here, and over columns in the crate `center` (`center_all`) and the crate `closing` (`close_all`). Where the list's form accepts, both give the same particles.
 --     accepted         number 0 is answered only for an outcome that is done
 --     closing-agrees, center-agrees        the particles of the columns that one form leaves are those that the other leaves
 use mathlib.Core.Path.{_≡_, refl, sym, ap, _∙_}
@@ -69,14 +69,14 @@ abbrev pub byColumns : List Particle → List Particle
 byColumns ps = particlesFrom (placesOf ps) (speedsOf ps) (flagsOf ps)
 
 module _ (ps : List Particle) (r : Refusal) (after : List Particle) (z : r .number ≡ 0) where
-  -- `apply_velocities` left `after`, and `close_all` left `places` and `speeds`
+  -- `talemiku_apply_velocities` left `after`, and `close_all` left `places` and `speeds`
   pub closing-agrees : (decay : Float) → Answered (closingResult decay ps) ps r after
       → (places speeds : List Float) → places ≡ placesOf (closing decay (byColumns ps) (byColumns ps)) → speeds ≡ speedsOf (closing decay (byColumns ps) (byColumns ps))
       → particlesFrom places speeds (flagsOf ps) ≡ after
   closing-agrees decay a places speeds hp hs =
       rw (hp, hs, particles-back ps, ← closing-flags decay ps ps refl) (particles-back (closing decay ps ps)) ∙ sym (left (decay ∷ []) (closing decay ps) ps r after a z)
 
-  -- `center` left `after`, and `center_all` left `places`
+  -- `talemiku_center` left `after`, and `center_all` left `places`
   pub center-agrees : (x y strength : Float) → Answered (centerResult x y strength ps) ps r after
       → (places : List Float) → ((qs : List Particle) → placesOf qs ≡ placesOf ps → places ≡ placesOf (centered x y strength qs))
       → particlesFrom places (speedsOf ps) (flagsOf ps) ≡ after

@@ -1,6 +1,6 @@
--- `apply_velocities` meets its contract: a walk of its MIR, by hand.
+-- `talemiku_apply_velocities` meets its contract: a walk of its MIR, by hand.
 -- The borrow is opened at the start and closed before each return; between the two the row of particles is the function's own. All that the walk knows of a callee is that it meets its contract.
--- In every context (`At`) the row stands first, then the open borrow in three items, then the locals in their order, and last that each local dies: local k is at k + 4, and at k + 6 while a particle is out of the row. `rt mir particles` shows the locals and the statements.
+-- In every context (`At`) the row stands first, then the open borrow in three items, then the locals in their order, and last that each local dies: local k is at k + 4, and at k + 6 while a particle is out of the row. `rt mir talemiku` shows the locals and the statements.
 use mathlib.Core.Path.{_≡_, refl, sym, subst}
 use mathlib.Core.Bool.{true}
 use mathlib.Core.List.{List, [], _∷_, map}

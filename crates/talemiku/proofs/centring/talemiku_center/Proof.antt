@@ -1,4 +1,4 @@
--- `center` meets its contract: a walk of its MIR, by hand, as that of `apply_velocities`, with the contexts laid out in the same way.
+-- `talemiku_center` meets its contract: a walk of its MIR, by hand, as that of `talemiku_apply_velocities`, with the contexts laid out in the same way.
 use mathlib.Core.Path.{_≡_, refl, sym, subst}
 use mathlib.Core.Bool.{true}
 use mathlib.Core.List.{List, [], _∷_, map}
