@@ -22,18 +22,7 @@ use std::io::{self, BufRead, BufWriter, Write};
 use talemiku::raw;
 
 /// The kinds of case that the archive can answer, forces by their letters.
-const KINDS: &[&str] = &[
-    "floor",
-    "root",
-    "tree",
-    "M",
-    "C",
-    "L",
-    "E",
-    "move",
-    "tick",
-    "step",
-];
+const KINDS: &[&str] = &["floor", "root", "tree", "M", "C", "L", "E", "move", "tick", "step"];
 
 fn floor(x: f64) -> Line {
     let answer = raw::floor(x);

@@ -151,7 +151,7 @@ fn is_right(case: &Case) -> bool {
         0 => floor_is_right(case),
         1 => root_is_right(case),
         2 => tree_is_right(case),
-        3 | 4 | 5 => force_is_right(case),
+        3..=5 => force_is_right(case),
         _ => sheet_is_right(case),
     }
 }

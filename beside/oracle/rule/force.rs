@@ -290,11 +290,5 @@ pub fn close(p: &mut Moved, home: Option<f64>, decay: f64) {
 }
 
 fn clamped(v: f64) -> f64 {
-    if v < -2147483648.0 {
-        -2147483648.0
-    } else if v > 2147483647.0 {
-        2147483647.0
-    } else {
-        v
-    }
+    v.clamp(-2147483648.0, 2147483647.0)
 }
