@@ -4,6 +4,7 @@ use mathlib.Core.List.{List}
 use Prim.Native.Nat.{ℕ}
 use lib.Ieee.{Float}
 use Rattle.rules.specs.declared.Extent.{Extent}
+use Rattle.rules.specs.declared.FloorAnswer.{FloorAnswer}
 use Rattle.rules.specs.declared.Particle.{Particle}
 use Rattle.rules.specs.declared.Refusal.{Refusal}
 use Rattle.rules.specs.declared.Settings.{Settings}
@@ -11,6 +12,8 @@ use Rattle.rules.specs.declared.TreeAnswer.{TreeAnswer}
 use Rattle.rules.specs.declared.Counts.{Counts}
 use Rattle.rules.specs.declared.StepAnswer.{StepAnswer}
 use Rattle.rules.specs.Outcome.{Outcome}
+use Rattle.rules.specs.Floor.{floorAnswer}
+use Rattle.rules.specs.Root.{rootBits}
 use Rattle.rules.specs.Tree.{Tree}
 use Rattle.rules.specs.Walk.{Counted}
 use Rattle.rules.specs.Flow.{Flow}
@@ -22,9 +25,17 @@ use Rattle.tick_call.specs.Tick.{AfterTick}
 use Rattle.step_call.specs.Step.{AfterStep}
 use Rattle.talemiku.specs.Answered.{Answered}
 
--- The one step behind all of them: what is equal to the same is equal. Floor and root promise such an equation and nothing else.
-pub same : {A : Type 0} {a b c : A} → a ≡ c → b ≡ c → a ≡ b
+-- The one step behind all of them: what is equal to the same is equal.
+same : {A : Type 0} {a b c : A} → a ≡ c → b ≡ c → a ≡ b
 same p q = p ∙ sym q
+
+-- The floor: the answer.
+pub floor-unique : (x : Float) (r r' : FloorAnswer) → r ≡ floorAnswer x → r' ≡ floorAnswer x → r ≡ r'
+floor-unique x r r' e f = same e f
+
+-- The root: its bits.
+pub root-unique : (bits r r' : ℕ) → r ≡ rootBits bits → r' ≡ rootBits bits → r ≡ r'
+root-unique bits r r' e f = same e f
 
 -- The tree call: its answer, both lists and the work slots.
 pub tree-unique : (l : TreeInput) (o : Outcome (Tree Extent)) (r r' : TreeAnswer) (rows chains work rows' chains' work' : List ℕ)

@@ -1,26 +1,18 @@
 -- Theorems on the two walks, for a reader: what is handed out, in which order, how much, and how many wait. Assumes nothing.
-use mathlib.Core.Path.{_≡_, refl, sym, ap, _∙_, subst}
+use mathlib.Core.Path.{_≡_, refl, sym, ap, _∙_}
 use mathlib.Core.Logic.{_⊎_, inl, inr, ⊎-elim}
 use mathlib.Core.List.{List, [], _∷_, _++_, append-nil, append-assoc, Sublistᴰ, Sublistᴰ·slnil, Sublistᴰ·cons, Sublistᴰ·cons-cons, Sublistᴰ·nil-sublist, Sublistᴰ·append, List·Permᴰ, List·Permᴰ·cons, List·Permᴰ·trans, Permᴰ·refl, Permᴰ·append-left, Permᴰ·append-right, Permᴰ·append-nil, Permᴰ·middle}
-use Prim.Native.Nat.{ℕ, _+_, _*_, _≤_}
+use Prim.Native.Nat.{ℕ, _+_, _≤_}
 use native.Mathlib.Omega.{arith}
 use lib.ListN.{length, length-append}
-use lib.Ieee.{Float}
 use Rattle.rules.specs.declared.Extent.{Extent}
 use Rattle.rules.specs.declared.Visit.{Visit}
 use Rattle.rules.specs.declared.Visit.the-variants.{Continue, Skip}
 use Rattle.rules.specs.Outcome.{Outcome, done, refused, _>>=_, ifDone}
-use Rattle.rules.specs.Tree.{Tree, none, leaf, node, nodes, depth, treeOf}
+use Rattle.rules.specs.Tree.{Tree, none, leaf, node, nodes}
 use Rattle.rules.specs.Walk.{Entry, internal, tip, Counted, counted, After, after, unlessSkip, walk, parentLast}
-use Rattle.rules.proofs.CellRule.{tree-nodes}
-use Rattle.slots.specs.declared.Quadtree.{Quadtree}
 use Rattle.walk.specs.declared.visit.Walk.{Walk}
-use Rattle.slots.specs.Trees.{Stands, inCells}
-use Rattle.slots.proofs.Trees.{cells-depth}
-use Rattle.walk.specs.Walk.{seen}
 use Rattle.walk.proofs.Walking as walking
-use Rattle.walk.proofs.WalkTurns.{nodes-seen}
-use Rattle.walk.proofs.WalkStands.{nodes-stands, seen-cells}
 use Rattle.walk.proofs.WalkAfter as later
 
 -- ---- the nodes of a tree, parent first, children 0, 1, 2, 3
@@ -189,23 +181,7 @@ module _ {A S : Type 0} (step : Entry A → S → Outcome (After S)) where
           omega (arith, h .count, sublist-length (h .among), length-first t, v)
       go (refused r) w f = never r f
 
--- ---- over the tree that stands in the slots
-
-module _ {at : List Float} {n : ℕ} {m next : List ℕ} {q : Quadtree} (s : Stands at n m next q) where
-  -- The tree of n points has at most 1 + 64 n nodes.
-  pub nodes-few : q .nodes ≤ 1 + 64 * n
-  nodes-few =
-      let d : depth (treeOf at n) ≤ 65 = subst (λ (t : Tree Extent). depth t ≤ 65) (s .is) (rw (cells-depth (q .extent) (s .tree)) (s .levels)) in
-      let e : nodes (treeOf at n) ≡ nodes (s .tree) = sym (ap nodes (s .is)) ∙ nodes-cells (q .extent) (s .tree) in
-      omega (arith, tree-nodes at n d .1, e, s .count)
-    where
-      nodes-cells : (c : Extent) (t : Tree ℕ) → nodes (inCells c t) ≡ nodes t
-      nodes-cells c t = ap nodes (sym (seen-cells c t)) ∙ nodes-seen (λ s c. c) c t
-
-  -- So a walk over it counts at most 1 + 64 n.
-  pub visits-few : {A S : Type 0} (step : Entry A → S → Outcome (After S)) (look : ℕ → Extent → A) (j k : Counted S) → walk step (seen look (q .extent) (s .tree)) j ≡ done k
-      → k .visits ≤ j .visits + (1 + 64 * n)
-  visits-few step look j k e = omega (arith, counts-few step (seen look (q .extent) (s .tree)) j k e, nodes-stands s look, nodes-few)
+-- ---- what waits
 
 -- At most 193 wait at any turn.
 pub waits-few : {A S : Type 0} {step : Entry A → S → Outcome (After S)} {look : ℕ → Extent → A} {P : List ℕ → Type 0} {m next : List ℕ} {T : Tree A} {begun : Counted S} {w : Walk} {now : Counted S}
