@@ -1,4 +1,4 @@
--- What a tick and a step are lent, and the two halves of its checks. Definitions only.
+-- What a tick and a step are lent, and the two halves of their checks. Definitions only.
 use mathlib.Core.List.{List}
 use Prim.Native.Nat.{ℕ}
 use lib.Ieee.{Float}

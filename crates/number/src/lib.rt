@@ -1,4 +1,4 @@
-// Numbers after document 01: floor, bits, ranges and small helpers. Each function answers what the definition of `rules` with its name says.
+// Numbers after document 01: floor, bits, ranges and small helpers. Each function answers what a definition of `rules` says, but for `index` and `wide`, which only change a number's type.
 mod bits;
 mod plain;
 mod range;

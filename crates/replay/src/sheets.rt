@@ -1,4 +1,4 @@
-// Cases of a tick and of a step. Parts: 1 the answer; 2 alpha, target, alpha_decay, velocity_decay, least alpha, budget, alpha after; 3 the sheet and 4 the sheet after; 5 the words of
+// Cases of a tick and of a step. Parts: 1 the answer; 2 alpha, target, alpha_decay, velocity_decay, alpha_min, budget, alpha after; 3 the sheet and 4 the sheet after; 5 the words of
 // the force slots; 6 their numbers; 7 their link ends; 8 the draws; 9 and 10 the work slots. A tick has 0 where only a step has a number.
 use answers::force_words;
 use answers::settings;

@@ -1,4 +1,4 @@
-// Many ticks by columns, until alpha is low or the budget is spent.
+// Many ticks by columns, until alpha is low, the budget is spent or a tick is refused.
 use rules::Settings;
 use tick_ends::Stepped;
 use tick_ends::ended;

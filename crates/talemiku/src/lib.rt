@@ -1,4 +1,4 @@
-// The entries for a host: numbers and slices in, a struct out. Each only calls the function that does the work, and says the same of it.
+// The entries for a host: numbers and slices in, a struct out. Each only calls the function that does the work, and says the same of it; Center and the closing move do it themselves, on a lent list of particles.
 mod applying;
 mod centring;
 mod check;

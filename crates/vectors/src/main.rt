@@ -1,4 +1,4 @@
-// Runs stored roots and floors through `number`, and writes how many of how many are right.
+// Runs stored roots and floors through `square_root` and `number`, and writes how many of how many are right.
 ghost use mathlib.Core.Path.{_≡_};
 ghost use lib.ListN.{length};
 
