@@ -2,7 +2,7 @@
 
 use crate::case::{Force, Record};
 use crate::fence::Fenced;
-use crate::lent::{expect, lengths_rule, refused, require, same, zeroes_work, Layout, Line, WORK};
+use crate::lent::{expect, hexes, lengths_rule, refused, require, same, zeroes_work, Layout, Line, WORK};
 use talemiku::raw::{self, Counts};
 
 #[derive(Clone, Copy, PartialEq)]
@@ -142,9 +142,6 @@ pub fn answer(slots: usize, force: &Force, alpha: f64, records: &[Record], draws
     if counts.refusal.number != 0 {
         return Ok(refused(counts.refusal));
     }
-    let mut line = format!("ok {} {} |", counts.visits, counts.draws);
-    for velocity in talemiku::velocities_of(&left.buffer[call.start..call.end()]) {
-        line += &format!(" {:016x}", velocity.to_bits());
-    }
-    Ok(line)
+    let velocities = talemiku::velocities_of(&left.buffer[call.start..call.end()]);
+    Ok(format!("ok {} {} |{}", counts.visits, counts.draws, hexes(velocities)))
 }

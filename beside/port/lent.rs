@@ -47,6 +47,11 @@ impl Layout {
     }
 }
 
+/// The bits of numbers, as an answer's line has them.
+pub fn hexes(numbers: impl IntoIterator<Item = f64>) -> String {
+    numbers.into_iter().map(|x| format!(" {:016x}", x.to_bits())).collect()
+}
+
 pub fn refused(refusal: Refusal) -> String {
     format!("refused {} {}", refusal.number, refusal.place)
 }

@@ -2,7 +2,7 @@
 
 use crate::case::{Force, Tick};
 use crate::fence::Fenced;
-use crate::lent::{expect, lengths_rule, refused, require, same, zeroes_work, Layout, Line, BAD_LENGTH, WORK};
+use crate::lent::{expect, hexes, lengths_rule, refused, require, same, zeroes_work, Layout, Line, BAD_LENGTH, WORK};
 use crate::tree::sheet;
 use talemiku::raw::{self, StepAnswer};
 use talemiku::{particles_of, Forces, Links, RECORD_BYTES};
@@ -15,7 +15,7 @@ struct Call {
     forces: Forces,
     draws: Vec<f64>,
     settings: [f64; 3],
-    /// For a step: the least alpha, and how many ticks.
+    /// For a step: `alpha_min`, and how many ticks.
     step: Option<(f64, u64)>,
     work: Vec<u64>,
 }
@@ -89,12 +89,25 @@ impl Call {
     fn enter(&self, sheet: &mut [u8], alpha: &mut u64, work: &mut [u64]) -> StepAnswer {
         let Forces { words, numbers, links } = &self.forces;
         let [target, alpha_decay, velocity_decay] = self.settings;
-        if let Some((least, budget)) = self.step {
-            return raw::step(sheet, alpha, words, numbers, links, &self.draws, target, alpha_decay, velocity_decay, least, budget, work);
+        if let Some((alpha_min, budget)) = self.step {
+            return raw::step(
+                sheet,
+                alpha,
+                words,
+                numbers,
+                links,
+                &self.draws,
+                target,
+                alpha_decay,
+                velocity_decay,
+                alpha_min,
+                budget,
+                work,
+            );
         }
         let counts = raw::tick(sheet, alpha, words, numbers, links, &self.draws, target, alpha_decay, velocity_decay, work);
         let done = u64::from(counts.refusal.number == 0);
-        StepAnswer { refusal: counts.refusal, ticks: done, finished: false, visits: counts.visits, draws: counts.draws }
+        StepAnswer { refusal: counts.refusal, ticks: done, finished: 0, visits: counts.visits, draws: counts.draws }
     }
 
     /// Runs a copy, and tests all but what the ticks done leave.
@@ -128,7 +141,7 @@ impl Call {
         if number == 0 {
             return Ok(());
         }
-        let nothing = answer.ticks == 0 && !answer.finished && answer.visits == 0 && answer.draws == 0;
+        let nothing = answer.ticks == 0 && answer.finished == 0 && answer.visits == 0 && answer.draws == 0;
         require(nothing, "counts aren't zero", number)?;
         require(sheet == self.sheet && alpha == self.alpha.to_bits(), "sheet or alpha are changed", number)
     }
@@ -160,8 +173,7 @@ impl Call {
 }
 
 fn moved(head: String, sheet: &[u8]) -> String {
-    let numbers = particles_of(sheet).into_iter().flat_map(|p| [p.x, p.y, p.vx, p.vy]);
-    numbers.fold(head, |line, x| line + &format!(" {:016x}", x.to_bits()))
+    head + &hexes(particles_of(sheet).into_iter().flat_map(|p| [p.x, p.y, p.vx, p.vy]))
 }
 
 pub fn tick(tick: &Tick, layout: &mut Layout) -> Line {
@@ -179,7 +191,7 @@ pub fn step(tick: &Tick, min: f64, budget: u64, layout: &mut Layout) -> Line {
     if !zeroes_work(a.refusal.number) {
         return Ok(refused(a.refusal));
     }
-    let finished = u8::from(a.finished);
-    let head = format!("ok {} {finished} {} {} {:016x} {} {} |", a.ticks, a.visits, a.draws, left.alpha, a.refusal.number, a.refusal.place);
+    let counts = format!("{} {} {} {}", a.ticks, a.finished, a.visits, a.draws);
+    let head = format!("ok {counts} {:016x} {} {} |", left.alpha, a.refusal.number, a.refusal.place);
     Ok(moved(head, &left.sheet))
 }

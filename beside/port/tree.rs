@@ -2,7 +2,7 @@
 
 use crate::case::Record;
 use crate::fence::Fenced;
-use crate::lent::{expect, lengths_rule, refused, require, zeroes_work, Layout, Line, BAD_LENGTH, RESULT, WORK};
+use crate::lent::{expect, hexes, lengths_rule, refused, require, zeroes_work, Layout, Line, BAD_LENGTH, RESULT, WORK};
 use talemiku::raw::{self, TreeAnswer};
 use talemiku::{Particle, ROW_NUMBERS};
 
@@ -80,19 +80,9 @@ fn line(left: &Left) -> Line {
     require(used <= left.rows.len() && left.rows[used..].iter().all(|&w| w == 0), "unused rows aren't zero", 0)?;
     require(answer.refusal.place == 0, "a place though nothing is refused", 0)?;
     let e = answer.extent;
-    let mut line = String::from("ok");
-    for end in [e.x0, e.y0, e.x1, e.y1] {
-        line += &format!(" {:016x}", end.to_bits());
-    }
-    line += &format!(" {} |", answer.nodes);
-    for row in left.rows[..used].chunks(ROW_NUMBERS) {
-        line += &format!(" {},{},{},{}", row[0], row[1], row[2], row[3]);
-    }
-    line += " |";
-    for number in &left.chains {
-        line += &format!(" {number}");
-    }
-    Ok(line)
+    let rows: String = left.rows[..used].chunks(ROW_NUMBERS).map(|row| format!(" {},{},{},{}", row[0], row[1], row[2], row[3])).collect();
+    let chains: String = left.chains.iter().map(|number| format!(" {number}")).collect();
+    Ok(format!("ok{} {} |{rows} |{chains}", hexes([e.x0, e.y0, e.x1, e.y1]), answer.nodes))
 }
 
 pub fn answer(slots: usize, records: &[Record], layout: &mut Layout) -> Line {

@@ -1,7 +1,7 @@
 //! The entries of the archive with slices for pointers and lengths, and answers as they come. All unsafe code is here.
 //!
-//! Nothing checks these declarations against crates/talemiku/src and crates/rules/src/lib.rt, so read them side by side. A slice passes as a pointer and
-//! a length, in order; an array behind a reference as a pointer alone.
+//! These declarations have the names, the order and the types of crates/talemiku/src and crates/rules/src/lib.rt. A slice passes as a pointer and a length, in order; an array
+//! behind a reference as a pointer alone. The linker knows nothing of types, so what stands here is believed; how the structs lie in memory is tested as they are compiled.
 //!
 //! Why each call is safe: a pointer and a length come from one slice, borrowed for the call, and `&mut` where the entry may write. The entries are proved to stay within
 //! these lengths and to end, whatever the contents; they keep no pointer and don't unwind.
@@ -10,6 +10,7 @@
 #![allow(clippy::too_many_arguments)]
 
 /// A refusal's number and its place; number 0 where nothing is refused.
+#[must_use]
 #[repr(C)]
 #[derive(Clone, Copy, Debug, PartialEq, Eq)]
 pub struct Refusal {
@@ -50,6 +51,7 @@ pub struct Particle {
 }
 
 /// What a floor is, or the refusal with the value 0.
+#[must_use]
 #[repr(C)]
 #[derive(Clone, Copy, Debug, PartialEq, Eq)]
 pub struct FloorAnswer {
@@ -60,6 +62,7 @@ pub struct FloorAnswer {
 }
 
 /// What is known of a tree beside its lists.
+#[must_use]
 #[repr(C)]
 #[derive(Clone, Copy, Debug, PartialEq)]
 pub struct TreeAnswer {
@@ -72,6 +75,7 @@ pub struct TreeAnswer {
 }
 
 /// What a force or a tick counted.
+#[must_use]
 #[repr(C)]
 #[derive(Clone, Copy, Debug, PartialEq, Eq)]
 pub struct Counts {
@@ -84,6 +88,7 @@ pub struct Counts {
 }
 
 /// What a step did.
+#[must_use]
 #[repr(C)]
 #[derive(Clone, Copy, Debug, PartialEq, Eq)]
 pub struct StepAnswer {
@@ -91,12 +96,60 @@ pub struct StepAnswer {
     pub refusal: Refusal,
     /// Ticks done.
     pub ticks: u64,
-    /// Whether alpha is at most the least one.
-    pub finished: bool,
+    /// 1 where alpha is at most `alpha_min`, else 0.
+    pub finished: u64,
     /// Nodes handed out in all these ticks.
     pub visits: u64,
     /// Draws used in all these ticks.
     pub draws: u64,
+}
+
+/// How the structs lie in memory, tested as they are compiled: each field is a word of eight bytes, one after another in their order. So a struct whose fields hold 1, 2, 3 and
+/// so on is the words 1, 2, 3 and so on, and nothing beside them.
+// older compilers don't see what constants without a name use
+#[allow(dead_code)]
+mod layout {
+    use super::{Counts, Extent, FloorAnswer, Particle, Refusal, StepAnswer, TreeAnswer};
+    use std::mem::{align_of, transmute};
+
+    union Word {
+        bits: u64,
+        number: f64,
+    }
+
+    /// The number whose bits are these. `f64::from_bits` can't stand in a constant before Rust 1.83.
+    const fn number(bits: u64) -> f64 {
+        // SAFETY: every pattern of bits is an f64.
+        unsafe { Word { bits }.number }
+    }
+
+    macro_rules! words {
+        ($words:literal, $name:ident, $value:expr) => {
+            const _: () = {
+                assert!(align_of::<$name>() == 8);
+                // SAFETY: every pattern of bits is a u64; other sizes don't compile, nor, in a constant, padding that is read.
+                let words: [u64; $words] = unsafe { transmute($value) };
+                let mut k = 0;
+                while k < $words {
+                    assert!(words[k] == k as u64 + 1);
+                    k += 1;
+                }
+            };
+        };
+    }
+
+    const REFUSAL: Refusal = Refusal { number: 1, place: 2 };
+    words!(2, Refusal, REFUSAL);
+    words!(4, Extent, Extent { x0: number(1), y0: number(2), x1: number(3), y1: number(4) });
+    words!(5, Particle, Particle { x: number(1), y: number(2), vx: number(3), vy: number(4), flags: 5 });
+    words!(3, FloorAnswer, FloorAnswer { refusal: REFUSAL, value: 3 });
+    words!(
+        7,
+        TreeAnswer,
+        TreeAnswer { refusal: REFUSAL, nodes: 3, extent: Extent { x0: number(4), y0: number(5), x1: number(6), y1: number(7) } }
+    );
+    words!(4, Counts, Counts { refusal: REFUSAL, visits: 3, draws: 4 });
+    words!(6, StepAnswer, StepAnswer { refusal: REFUSAL, ticks: 3, finished: 4, visits: 5, draws: 6 });
 }
 
 mod entry {
@@ -207,7 +260,7 @@ mod entry {
             target: f64,
             alpha_decay: f64,
             velocity_decay: f64,
-            least: f64,
+            alpha_min: f64,
             budget: u64,
             work: *mut u64,
             work_len: usize,
@@ -217,16 +270,20 @@ mod entry {
 
 /// The floor as a whole number, or refusal 4.
 pub fn floor(x: f64) -> FloorAnswer {
+    // SAFETY: a number goes in, and the struct that comes out is the entry's.
     unsafe { entry::talemiku_floor(x) }
 }
 
 /// The correctly rounded square root, from bits to bits.
+#[must_use]
 pub fn root(bits: u64) -> u64 {
+    // SAFETY: a word goes in, and one comes out.
     unsafe { entry::talemiku_root(bits) }
 }
 
 /// The tree of a sheet.
 pub fn tree(records: &[u8], rows: &mut [u32], chains: &mut [u32], work: &mut [u64]) -> TreeAnswer {
+    // SAFETY: each pointer is followed by the length of its own slice, and what is `&mut` overlaps no other; the entry stays within them.
     unsafe {
         entry::talemiku_tree(
             records.as_ptr(),
@@ -251,6 +308,7 @@ pub fn many_body(
     draws: &[f64],
     work: &mut [u64],
 ) -> Counts {
+    // SAFETY: each pointer is followed by the length of its own slice, and what is `&mut` overlaps no other; the entry stays within them.
     unsafe {
         entry::talemiku_many_body(
             places.as_ptr(),
@@ -280,6 +338,7 @@ pub fn collide(
     draws: &[f64],
     work: &mut [u64],
 ) -> Counts {
+    // SAFETY: each pointer is followed by the length of its own slice, and what is `&mut` overlaps no other; the entry stays within them.
     unsafe {
         entry::talemiku_collide(
             places.as_ptr(),
@@ -312,6 +371,7 @@ pub fn link(
     draws: &[f64],
     work: &mut [u64],
 ) -> Counts {
+    // SAFETY: each pointer is followed by the length of its own slice, and what is `&mut` overlaps no other; the entry stays within them.
     unsafe {
         entry::talemiku_link(
             places.as_ptr(),
@@ -337,11 +397,13 @@ pub fn link(
 
 /// Center on a list of particles.
 pub fn center(particles: &mut [Particle], x: f64, y: f64, strength: f64) -> Refusal {
+    // SAFETY: the pointer is followed by the length of its slice; any words are particles, so the entry may write what it likes.
     unsafe { entry::talemiku_center(particles.as_mut_ptr(), particles.len(), x, y, strength) }
 }
 
 /// The closing move on a list of particles.
 pub fn apply_velocities(particles: &mut [Particle], decay: f64) -> Refusal {
+    // SAFETY: the pointer is followed by the length of its slice; any words are particles, so the entry may write what it likes.
     unsafe { entry::talemiku_apply_velocities(particles.as_mut_ptr(), particles.len(), decay) }
 }
 
@@ -358,6 +420,7 @@ pub fn tick(
     velocity_decay: f64,
     work: &mut [u64],
 ) -> Counts {
+    // SAFETY: as in `tree`; alpha is one word and the forces are 56, as the entry takes them.
     unsafe {
         entry::talemiku_tick(
             sheet.as_mut_ptr(),
@@ -390,10 +453,11 @@ pub fn step(
     target: f64,
     alpha_decay: f64,
     velocity_decay: f64,
-    least: f64,
+    alpha_min: f64,
     budget: u64,
     work: &mut [u64],
 ) -> StepAnswer {
+    // SAFETY: as in `tree`; alpha is one word and the forces are 56, as the entry takes them.
     unsafe {
         entry::talemiku_step(
             sheet.as_mut_ptr(),
@@ -409,7 +473,7 @@ pub fn step(
             target,
             alpha_decay,
             velocity_decay,
-            least,
+            alpha_min,
             budget,
             work.as_mut_ptr(),
             work.len(),

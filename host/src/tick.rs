@@ -14,11 +14,12 @@ pub struct Settings {
 }
 
 /// What a step did.
+#[must_use = "`stop` says why a tick was refused"]
 #[derive(Clone, Copy, Debug, PartialEq, Eq)]
 pub struct Steps {
     /// Ticks done.
     pub ticks: u64,
-    /// Whether alpha is at most the least one.
+    /// Whether alpha is at most `alpha_min`.
     pub finished: bool,
     /// What these ticks counted.
     pub counts: Counts,
@@ -26,8 +27,11 @@ pub struct Steps {
     pub stop: Option<Refusal>,
 }
 
-/// One tick: alpha goes towards its target, then the forces act by ascending slot, then the closing move. A refusal leaves sheet and alpha
-/// as they were.
+/// One tick: alpha goes towards its target, then the forces act by ascending slot, then the closing move.
+///
+/// # Errors
+///
+/// 10 and 1 to 5 for what is lent; 6 to 9 as the first stage that can't be done gives them. A refusal leaves sheet and alpha as they were.
 ///
 /// ```
 /// use talemiku::{particles_of, sheet_of, tick, Force, Forces, Lent, Particle, Settings};
@@ -45,13 +49,17 @@ pub fn tick(sheet: &mut [u8], alpha: &mut f64, forces: &Forces, settings: Settin
     let Settings { target, alpha_decay, velocity_decay } = settings;
     let Lent { draws, work } = lent;
     let mut bits = alpha.to_bits();
-    let answer = raw::tick(sheet, &mut bits, &forces.words, &forces.numbers, &forces.links, draws, target, alpha_decay, velocity_decay, work);
+    let answer =
+        raw::tick(sheet, &mut bits, &forces.words, &forces.numbers, &forces.links, draws, target, alpha_decay, velocity_decay, work);
     *alpha = f64::from_bits(bits);
     Counts::of(answer)
 }
 
-/// Ticks while alpha is above the least one, at most as many as the budget says. Only what stands before the first tick is refused (1 to 5 and 10);
-/// a tick that is refused ends the step, and [`Steps::stop`] says why.
+/// Ticks while alpha is over `alpha_min`, at most as many as the budget says. A tick that is refused ends the step, and [`Steps::stop`] says why.
+///
+/// # Errors
+///
+/// 10 and 1 to 5 for what is lent, before the first tick: sheet and alpha are as they were. Not 6 to 9: those are a tick's.
 ///
 /// ```
 /// use talemiku::{sheet_of, step, Forces, Lent, Particle, Settings};
@@ -67,22 +75,34 @@ pub fn step(
     alpha: &mut f64,
     forces: &Forces,
     settings: Settings,
-    least: f64,
+    alpha_min: f64,
     budget: u64,
     lent: Lent<'_>,
 ) -> Result<Steps, Refusal> {
     let Settings { target, alpha_decay, velocity_decay } = settings;
     let Lent { draws, work } = lent;
     let mut bits = alpha.to_bits();
-    let answer =
-        raw::step(sheet, &mut bits, &forces.words, &forces.numbers, &forces.links, draws, target, alpha_decay, velocity_decay, least, budget, work);
+    let answer = raw::step(
+        sheet,
+        &mut bits,
+        &forces.words,
+        &forces.numbers,
+        &forces.links,
+        draws,
+        target,
+        alpha_decay,
+        velocity_decay,
+        alpha_min,
+        budget,
+        work,
+    );
     *alpha = f64::from_bits(bits);
     let stop = Refusal::of(answer.refusal);
     match stop {
         Some(refusal) if !refusal.clears_work() => Err(refusal),
         _ => Ok(Steps {
             ticks: answer.ticks,
-            finished: answer.finished,
+            finished: answer.finished != 0,
             counts: Counts { visits: answer.visits, draws: answer.draws as usize },
             stop,
         }),

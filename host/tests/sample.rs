@@ -141,7 +141,7 @@ fn sheet_is_right(case: &Case) -> bool {
             case.argument(5),
             &mut work,
         );
-        [a.refusal.number, a.refusal.place, a.ticks, a.finished as u64, a.visits, a.draws]
+        [a.refusal.number, a.refusal.place, a.ticks, a.finished, a.visits, a.draws]
     };
     case.answers(&answer) && alpha == case.argument(6) && case.leaves_bytes(4, &sheet) && case.leaves_words(10, &work)
 }
