@@ -39,11 +39,13 @@ impl Counts {
 }
 
 /// The bytes of velocities, as a force's buffer holds them.
+#[must_use]
 pub fn velocity_bytes(velocities: &[f64]) -> Vec<u8> {
     velocities.iter().flat_map(|v| v.to_bits().to_le_bytes()).collect()
 }
 
 /// The velocities that bytes hold.
+#[must_use]
 pub fn velocities_of(bytes: &[u8]) -> Vec<f64> {
     let number = |chunk: &[u8]| {
         let mut word = [0; 8];
@@ -54,6 +56,11 @@ pub fn velocities_of(bytes: &[u8]) -> Vec<f64> {
 }
 
 /// ManyBody: particles push apart, or pull, by a strength each.
+///
+/// # Errors
+///
+/// 1, 2, 4 or 5 for what is lent; 6 or 7 where the tree would pass level 64 or needs more slots; 8 where draws are wanting; 9 for a result out of range. A refusal leaves the
+/// buffer as it was.
 ///
 /// ```
 /// use talemiku::{many_body, velocities_of, Lent, Points, SLOT_WORDS};
@@ -71,6 +78,10 @@ pub fn many_body(points: Points<'_>, strengths: &[f64], alpha: f64, lent: Lent<'
 }
 
 /// Collide: discs of a radius each are parted where they overlap.
+///
+/// # Errors
+///
+/// As for [`many_body`], and 1 for too many iterations.
 ///
 /// ```
 /// use talemiku::{collide, velocities_of, Lent, Points, SLOT_WORDS};
@@ -101,6 +112,10 @@ pub struct Links<'a> {
 }
 
 /// Link: pairs of particles are drawn to a distance each.
+///
+/// # Errors
+///
+/// As for [`collide`], and 1 for too many links, 3 for an end that is no particle; it builds no tree, so 6 and 7 aren't given.
 ///
 /// ```
 /// use talemiku::{link, velocities_of, Lent, Links, Points};

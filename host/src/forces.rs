@@ -70,6 +70,7 @@ impl Force<'_> {
 
 impl Forces {
     /// The slots as they are, whatever their lists' lengths: lent to a tick, each slot takes as much of the numbers as its entry asks for.
+    #[must_use]
     pub fn pack(slots: &[Option<Force<'_>>; FORCE_SLOTS]) -> Forces {
         let mut packed = Forces { words: [0; FORCE_SLOTS * ENTRY], numbers: Vec::new(), links: Vec::new() };
         for (entry, force) in packed.words.chunks_exact_mut(ENTRY).zip(slots) {
@@ -105,6 +106,7 @@ impl Forces {
     /// let forces = Forces::new(2, &slots);
     /// assert_eq!(forces.numbers, [-30.0, -30.0, 4.0]);
     /// ```
+    #[must_use]
     pub fn new(particles: usize, slots: &[Option<Force<'_>>; FORCE_SLOTS]) -> Forces {
         let mut packed = Forces::pack(slots);
         if !slots.iter().flatten().all(|force| force.fits(particles)) {

@@ -10,7 +10,7 @@
 //! - [`tick()`], [`step`]: a whole sheet, with up to eight forces ([`Forces`]).
 //!
 //! Nothing is allocated by the archive: a tree's nodes live in lent work slots ([`SLOT_WORDS`]), jiggles come from a lent list of draws, and a call's own lists stand on the
-//! stack (some hundred KB). [`raw`] has the same calls with their answers as they come.
+//! stack (some 400 KB for a tick). [`raw`] has the same calls with their answers as they come.
 #![deny(missing_docs, unsafe_code)]
 
 mod force;

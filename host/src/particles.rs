@@ -4,6 +4,10 @@ use crate::{Particle, Refusal};
 
 /// Center: moves all particles so that their middle goes to (x, y), as far as the strength says.
 ///
+/// # Errors
+///
+/// 1, 10, 4 or 5 for what is lent, 9 for a result out of range. A refusal leaves all particles as they were, but for the payload of a NaN.
+///
 /// ```
 /// use talemiku::{center, Particle};
 /// let mut particles = [Particle::at(0.0, 0.0), Particle::at(2.0, 4.0)];
@@ -16,6 +20,10 @@ pub fn center(particles: &mut [Particle], x: f64, y: f64, strength: f64) -> Resu
 }
 
 /// The closing move: each particle goes by its velocity, and the velocity is multiplied by the decay. A held axis stays, with velocity 0.
+///
+/// # Errors
+///
+/// As for [`center`].
 ///
 /// ```
 /// use talemiku::{apply_velocities, Particle};

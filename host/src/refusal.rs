@@ -11,7 +11,16 @@ use std::fmt;
 /// assert_eq!(refusal, Refusal::Coordinate { particle: 0 });
 /// assert_eq!((refusal.number(), refusal.place()), (4, 0));
 /// ```
+///
+/// It is shown by its number, its place where it names one, and a sentence. Place 0 of 5 and of 10 may name none (a setting; a bad length), and the sentence then says so.
+///
+/// ```
+/// # use talemiku::Refusal;
+/// assert_eq!(Refusal::TooMany.to_string(), "refused 1: too many particles, links, ticks or iterations");
+/// assert_eq!(Refusal::Coordinate { particle: 7 }.to_string(), "refused 4 at 7: a coordinate is out of range");
+/// ```
 #[derive(Clone, Copy, Debug, PartialEq, Eq, Hash)]
+#[non_exhaustive]
 pub enum Refusal {
     /// 1: over 4,096 particles, 8,192 links, 4,096 ticks of one step, or 64 iterations of one force.
     TooMany,
@@ -51,10 +60,18 @@ pub enum Refusal {
         /// The record's index; 0 for a bad length.
         record: usize,
     },
+    /// A number that document 01 doesn't have: no call refuses by one, but an archive may be newer than this crate.
+    Other {
+        /// The number.
+        number: u64,
+        /// The place that came with it.
+        place: usize,
+    },
 }
 
 impl Refusal {
     /// The number that document 01 gives it.
+    #[must_use]
     pub fn number(self) -> u64 {
         match self {
             Refusal::TooMany => 1,
@@ -67,26 +84,30 @@ impl Refusal {
             Refusal::Draws => 8,
             Refusal::Result => 9,
             Refusal::Record { .. } => 10,
+            Refusal::Other { number, .. } => number,
         }
     }
 
-    /// The place that it names, 0 where there is none.
+    /// The place that document 01 gives it: 0 where it names none.
+    #[must_use]
     pub fn place(self) -> usize {
         match self {
             Refusal::LinkEnd { link } => link,
             Refusal::Coordinate { particle } | Refusal::Level { particle } | Refusal::Slots { particle } => particle,
-            Refusal::Number { place } => place,
+            Refusal::Number { place } | Refusal::Other { place, .. } => place,
             Refusal::Record { record } => record,
             Refusal::TooMany | Refusal::Lengths | Refusal::Draws | Refusal::Result => 0,
         }
     }
 
     /// Whether it leaves the lent work slots zero: 6 to 9, met while working.
+    #[must_use]
     pub fn clears_work(self) -> bool {
         (6..=9).contains(&self.number())
     }
 
     /// The refusal of an answer, or none for number 0.
+    #[must_use]
     pub fn of(raw: raw::Refusal) -> Option<Refusal> {
         let place = raw.place as usize;
         Some(match raw.number {
@@ -101,7 +122,7 @@ impl Refusal {
             8 => Refusal::Draws,
             9 => Refusal::Result,
             10 => Refusal::Record { record: place },
-            other => unreachable!("no call refuses by {other}"),
+            number => Refusal::Other { number, place },
         })
     }
 
@@ -116,19 +137,27 @@ impl Refusal {
 
 impl fmt::Display for Refusal {
     fn fmt(&self, f: &mut fmt::Formatter<'_>) -> fmt::Result {
-        let why = match self {
-            Refusal::TooMany => "too many particles, links, ticks or iterations",
-            Refusal::Lengths => "lent lengths disagree with the counts",
-            Refusal::LinkEnd { .. } => "a link's end is not a particle",
-            Refusal::Coordinate { .. } => "a coordinate is out of range",
-            Refusal::Number { .. } => "a number is out of its range",
-            Refusal::Level { .. } => "the tree would pass level 64",
-            Refusal::Slots { .. } => "more nodes than lent slots",
-            Refusal::Draws => "more jiggles needed than lent",
-            Refusal::Result => "a result out of range",
-            Refusal::Record { .. } => "a bad length or an unknown flag",
+        let (named, why) = match self {
+            Refusal::TooMany => (false, "too many particles, links, ticks or iterations"),
+            Refusal::Lengths => (false, "lent lengths disagree with the counts"),
+            Refusal::LinkEnd { .. } => (true, "a link's end is not a particle"),
+            Refusal::Coordinate { .. } => (true, "a coordinate is out of range"),
+            Refusal::Number { place: 0 } => (false, "a setting, or the first number of a list, is out of its range"),
+            Refusal::Number { .. } => (true, "a number is out of its range"),
+            Refusal::Level { .. } => (true, "the tree would pass level 64"),
+            Refusal::Slots { .. } => (true, "more nodes than lent slots"),
+            Refusal::Draws => (false, "more jiggles needed than lent"),
+            Refusal::Result => (false, "a result out of range"),
+            Refusal::Record { record: 0 } => (false, "the length is no multiple of 40, or the first record has an unknown flag"),
+            Refusal::Record { .. } => (true, "an unknown flag"),
+            Refusal::Other { .. } => (true, "a refusal that is not known here"),
         };
-        write!(f, "refused {} at {}: {why}", self.number(), self.place())
+        let (number, place) = (self.number(), self.place());
+        if named {
+            write!(f, "refused {number} at {place}: {why}")
+        } else {
+            write!(f, "refused {number}: {why}")
+        }
     }
 }
 

@@ -12,11 +12,13 @@ impl Particle {
     pub const FIXED_Y: u64 = 2;
 
     /// A particle at rest, free on both axes.
+    #[must_use]
     pub fn at(x: f64, y: f64) -> Particle {
         Particle { x, y, ..Particle::default() }
     }
 
     /// Its record.
+    #[must_use]
     pub fn to_record(self) -> [u8; RECORD_BYTES] {
         let words = [self.x.to_bits(), self.y.to_bits(), self.vx.to_bits(), self.vy.to_bits(), self.flags];
         let mut record = [0; RECORD_BYTES];
@@ -27,6 +29,7 @@ impl Particle {
     }
 
     /// The particle of a record, whatever its bytes.
+    #[must_use]
     pub fn from_record(record: &[u8; RECORD_BYTES]) -> Particle {
         let word = |k: usize| {
             let mut bytes = [0; 8];
@@ -46,11 +49,13 @@ impl Particle {
 /// assert_eq!(sheet.len(), 80);
 /// assert_eq!(particles_of(&sheet)[1], Particle::at(3.0, 3.0));
 /// ```
+#[must_use]
 pub fn sheet_of(particles: &[Particle]) -> Vec<u8> {
     particles.iter().flat_map(|p| p.to_record()).collect()
 }
 
 /// The particles of a sheet's whole records.
+#[must_use]
 pub fn particles_of(sheet: &[u8]) -> Vec<Particle> {
     let record = |bytes: &[u8]| {
         let mut record = [0; RECORD_BYTES];

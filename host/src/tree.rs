@@ -35,7 +35,11 @@ pub struct Row {
 /// particles of its chains, in that order, into `chains`. What is left over becomes zero.
 ///
 /// `work` holds a slot for every [`SLOT_WORDS`] words; `rows` is four numbers a slot long and `chains` one a particle. A sheet of n particles never needs
-/// more than 1 + 64 n slots. A refusal leaves both lists as they were.
+/// more than 1 + 64 n slots.
+///
+/// # Errors
+///
+/// 10, 1, 2, 4 or 5 for what is lent; 6 or 7 where the tree would pass level 64 or needs more slots. A refusal leaves both lists as they were.
 ///
 /// ```
 /// use talemiku::{rows, sheet_of, tree, Particle, ROW_NUMBERS, SLOT_WORDS};
