@@ -160,13 +160,17 @@ fn a_step_in_portions_ends_as_one_step() {
     let forces = forces(5, &[Force::ManyBody { strengths: &[-2.0; 5] }, discs, HOME]);
     let settings = Settings { target: 0.0, alpha_decay: 0.1, velocity_decay: 0.6 };
     let draws: Vec<f64> = (0..200).map(|k| f64::from(k * 37 % 101 - 50) * 1e-3).collect();
-    let run = |portion: u64| {
+    // draws lent to a portion; a tick that wants more has changed nothing, and is run again with twice as many
+    let run = |(portion, mut most): (u64, usize)| {
         let (mut sheet, mut alpha, mut work) = (sheet_of(&places), 1.0, [0; 400 * SLOT_WORDS]);
         let (mut ticks, mut visits, mut used, mut finished) = (0, 0, 0, false);
         while !finished && ticks < 100 {
-            let lent = Lent { draws: &draws[used..], work: &mut work };
+            let lent = Lent { draws: &draws[used..draws.len().min(used + most)], work: &mut work };
             let done = step(&mut sheet, &mut alpha, &forces, settings, 0.01, portion.min(100 - ticks), lent).expect("not refused");
-            assert_eq!(done.stop, None);
+            match done.stop {
+                Some(Refusal::Draws) => most *= 2,
+                stop => assert_eq!(stop, None),
+            }
             ticks += done.ticks;
             visits += done.counts.visits;
             used += done.counts.draws;
@@ -174,7 +178,9 @@ fn a_step_in_portions_ends_as_one_step() {
         }
         (sheet, alpha.to_bits(), ticks, visits, used, finished)
     };
-    let whole = run(100);
+    let whole = run((100, 200));
     assert!(whole.5 && whole.2 > 14 && whole.4 > 20, "{whole:?}");
-    assert_eq!([1, 7, 14].map(run), [whole.clone(), whole.clone(), whole]);
+    for portions in [(1, 200), (7, 200), (14, 200), (100, 1), (7, 3)] {
+        assert_eq!(run(portions), whole, "{portions:?}");
+    }
 }

@@ -1,5 +1,6 @@
 //! What is laid out: labels, each a disc, some held, some linked. An invented harbour, or a user's records.
 use crate::text;
+use std::ffi::OsStr;
 use talemiku::{sheet_of, Particle, RECORD_BYTES};
 
 /// The radius of a user's labels, unless one is given.
@@ -42,11 +43,10 @@ impl Chart {
 }
 
 /// The radius that a user's word means, or a sentence on why it means none.
-pub fn radius_of(word: &str) -> Result<f64, String> {
-    match word.parse::<f64>() {
-        Ok(radius) if (0.0..=GREATEST).contains(&radius) => Ok(radius),
-        _ => Err(format!("the radius must be a number from 0 to 2^40, and `{word}` is none")),
-    }
+pub fn radius_of(word: &OsStr) -> Result<f64, String> {
+    let radius = word.to_str().and_then(|word| word.parse().ok());
+    let fits = radius.filter(|radius| (0.0..=GREATEST).contains(radius));
+    fits.ok_or_else(|| format!("the radius must be a number from 0 to 2^40, and `{}` is none", word.to_string_lossy()))
 }
 
 /// The number of the harbour's first label of this name.

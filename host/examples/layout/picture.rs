@@ -39,9 +39,10 @@ pub fn draw(chart: &Chart, done: &Spread, pairs: [usize; 2]) -> Result<String, R
     let view = View::of(places.iter().flat_map(|places| places.iter().zip(&chart.radii)));
     let (width, height) = (Short(2.0 * WIDTH + 3.0 * GAP), Short(view.height + 2.0 * BAND));
     let size = format!("width=\"{width}\" height=\"{height}\"");
-    let mut svg =
-        format!("<svg xmlns=\"http://www.w3.org/2000/svg\" {size} viewBox=\"0 0 {width} {height}\" font-family=\"sans-serif\">\n");
-    svg += &format!("<style>{STYLE}</style>\n<rect class=\"paper\" {size}/>\n");
+    let mut svg = format!(
+        "<svg xmlns=\"http://www.w3.org/2000/svg\" {size} viewBox=\"0 0 {width} {height}\" font-family=\"sans-serif\">\n\
+        <style>{STYLE}</style>\n<rect class=\"paper\" {size}/>\n"
+    );
     for k in 0..2 {
         let cells = cells(sheets[k], places[k].len())?;
         let drawn = squares(&cells, &view) + &links(chart, &places[k], &view) + &labels(chart, &places[k], &view);

@@ -11,7 +11,10 @@ const SETTINGS: Settings = Settings { target: 0.0, alpha_decay: 0.0228, velocity
 const PORTION: u64 = 5;
 
 /// More labels are refused, so more isn't lent.
-const MOST: usize = 4096;
+pub const MOST: usize = 4096;
+
+/// How many draws a label are lent to a portion at first.
+const FEW: usize = 16;
 
 /// How far apart labels are kept, and linked ones drawn together, for radii that add up to 1.
 const ROOM: f64 = 1.06;
@@ -38,19 +41,23 @@ pub fn slots(labels: usize) -> usize {
 ///
 /// What a tick hands on to the next is the sheet, alpha and the draws not yet used. Each portion takes all three where the last one left them, and the checks
 /// before it let pass whatever a tick leaves. So the result is that of a single step; host/tests/tick.rs holds the two to each other.
-/// A tick that is refused, be it the first or a later one, refuses the chart.
+/// A tick that is refused, be it the first or a later one, refuses the chart, unless it only wanted more draws: it has changed nothing, and is run again with twice as many.
+/// That ends, since a tick never wants more than two for each node that is handed out and for each link.
 pub fn spread(chart: &Chart, mut progress: impl FnMut(u64)) -> Result<Spread, Refusal> {
     let labels = chart.radii.len();
-    let draws = draws(64 * (1 + labels.min(MOST)));
+    let (mut draws, mut most) = (Draws::new(), FEW * (1 + labels.min(MOST)));
     let mut work = vec![0; slots(labels) * SLOT_WORDS];
     let forces = forces(chart);
     let mut done = Spread { sheet: chart.sheet.clone(), alpha: 1.0, ticks: 0, visits: 0, draws: 0 };
     loop {
-        let lent = Lent { draws: &draws[done.draws..], work: &mut work };
+        let lent = Lent { draws: draws.next(most), work: &mut work };
         let portion = step(&mut done.sheet, &mut done.alpha, &forces, SETTINGS, LEAST, PORTION.min(TICKS - done.ticks), lent)?;
-        if let Some(refusal) = portion.stop {
-            return Err(refusal);
+        match portion.stop {
+            Some(Refusal::Draws) => most *= 2,
+            Some(refusal) => return Err(refusal),
+            None => {}
         }
+        draws.pass(portion.counts.draws);
         done.ticks += portion.ticks;
         done.visits += portion.counts.visits;
         done.draws += portion.counts.draws;
@@ -84,12 +91,28 @@ fn middle(sheet: &[u8]) -> (f64, f64) {
     (finite(places.iter().map(|p| p.x).sum()), finite(places.iter().map(|p| p.y).sum()))
 }
 
-/// So many jiggles, as small as the Rust's and the same on every run.
-fn draws(count: usize) -> Vec<f64> {
-    let mut state: u32 = 1;
-    let draw = |_| {
-        state = state.wrapping_mul(1_664_525).wrapping_add(1_013_904_223);
-        (f64::from(state) / 4_294_967_296.0 - 0.5) * 1e-6
-    };
-    (0..count).map(draw).collect()
+/// Jiggles, as small as the Rust's and the same on every run, without end: those that aren't used yet and have been made already, and how the next is made.
+struct Draws {
+    made: Vec<f64>,
+    state: u32,
+}
+
+impl Draws {
+    fn new() -> Draws {
+        Draws { made: Vec::new(), state: 1 }
+    }
+
+    /// At least so many.
+    fn next(&mut self, count: usize) -> &[f64] {
+        while self.made.len() < count {
+            self.state = self.state.wrapping_mul(1_664_525).wrapping_add(1_013_904_223);
+            self.made.push((f64::from(self.state) / 4_294_967_296.0 - 0.5) * 1e-6);
+        }
+        &self.made
+    }
+
+    /// So many are used.
+    fn pass(&mut self, count: usize) {
+        self.made.drain(..count);
+    }
 }
