@@ -12,7 +12,7 @@ pub struct Drawn {
     pub dry: bool,
 }
 
-// A gap with neither difference zero, or dry.
+// A gap in which a draw stands for each difference that was zero (it may be 0.0 itself), or dry.
 pub struct Jiggled {
     pub x: f64,
     pub y: f64,

@@ -9,7 +9,7 @@ use Rattle.rules.specs.Flow.{Gap, gap, shaken, lengthened}
 use Rattle.rules.specs.ManyBody.{softened}
 use Rattle.pulls.specs.declared.aim.Aim.{Aim}
 
--- a gap with neither difference zero, its length, and the draws that are left
+-- a gap in which a draw stands for each difference that was zero (it may be 0.0 itself), its length, and the draws that are left
 pub record Aimed : Type 0 where
   pub gap : Gap
   pub length : Float

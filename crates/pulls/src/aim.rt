@@ -10,7 +10,7 @@ ghost use Rattle.rules.specs.ManyBody as Rule;
 ghost use Rattle.force.specs.Draws.{From};
 ghost use Rattle.pulls.specs.Aims.{aimed, aimOf};
 
-// A gap with neither difference zero and its length, or dry where a draw was needed and none was left.
+// A gap in which a draw stands for each difference that was zero (it may be 0.0 itself), and its length, or dry where a draw was needed and none was left.
 pub struct Aim {
     pub x: f64,
     pub y: f64,
