@@ -18,8 +18,8 @@ use Rattle.slots.specs.declared.Quadtree.{Quadtree}
 use Rattle.walk.specs.declared.visit.Walk.{Walk}
 use Rattle.walk.specs.declared.visit.Waiting.{Waiting}
 use Rattle.slots.specs.Trees.{Follows, first, Below}
-use Rattle.walk.specs.Walk.{stackOf, Sized, lay, seen}
-use Rattle.walk.proofs.Walking.{Walking, Turn, start}
+use Rattle.walk.specs.Walk.{seen}
+use Rattle.walk.proofs.Walking.{Walking, Turn, Rooted, start}
 use Rattle.walk.proofs.WalkStands.{chains-below, found}
 use Rattle.force.specs.declared.draws.Spent.{Spent}
 use Rattle.force.specs.Draws.{spentOf}
@@ -42,11 +42,10 @@ module _ (at radii : List Float) (strength : Float) (i : ℕ) where
   abbrev pub GoesOn : List ℕ → List ℕ → Counted Flow → Walk → Counted Flow → Waiting → Type 0
   GoesOn m next b w s e = Turn (collideStep at radii strength i) (look m) (Below (length radii)) m next (radiusTree at radii) b w s e
 
-  pub sets-out : {m : List ℕ} {q : Quadtree} (s : Rounded at radii m q) (b : Counted Flow) (w : Walk) → Sized w → stackOf w ≡ lay (q .root) (q .extent) [] → Goes m (s .next) b w b
-  sets-out {m} {q} s b w z e =
+  pub sets-out : {m : List ℕ} {q : Quadtree} (s : Rounded at radii m q) (b : Counted Flow) {w v : Walk} → Rooted (q .root) (q .extent) w v → Goes m (s .next) b v b
+  sets-out {m} s b r =
       let t = s .valued .stands in
-      start (collideStep at radii strength i) (look m) (Below (length radii)) m (s .next) (q .root) (q .extent) (t .tree) (radiusTree at radii) b w
-      (found t (Below (length radii)) (chains-below t)) (t .levels) (seen-radii s) z e
+      start (collideStep at radii strength i) (look m) (Below (length radii)) m (s .next) (t .tree) (radiusTree at radii) b (found t (Below (length radii)) (chains-below t)) (t .levels) (seen-radii s) r
 
   -- an internal node: b says whether it is away, v what the walk does
   pub node-step : (n : Extent × Float) (σ : Flow) (b : Bool) (v v' : Visit) → b ≡ away at i (n .0) (radiusOf radii i ⊕ n .1) → v ≡ stopIf b → v ≡ v'

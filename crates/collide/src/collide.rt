@@ -19,9 +19,8 @@ ghost use Rattle.rules.specs.Collide as Collide;
 ghost use Rattle.quadtree.specs.Build.{Lent};
 ghost use Rattle.force.specs.Ran.{Runs};
 ghost use Rattle.collide.specs.Radius.{Rounded};
-ghost use Rattle.walk.specs.Walk.{walkOf, Sized};
 ghost use Rattle.contact.specs.Contact.{Spread};
-ghost use Rattle.collide.specs.Collide.{ended, Bounded, Stood, begun, walkFor, walkAll, walkTimes};
+ghost use Rattle.collide.specs.Collide.{ended, Bounded, Stood, begun, walkAll, walkTimes};
 
 // Refused by this number, which names no place, or not at all with 0.
 fn ended(number: u64, used: usize, visits: u64) -> Ran
@@ -34,58 +33,7 @@ fn ended(number: u64, used: usize, visits: u64) -> Ran
     }
 }
 
-// The walk of particle i over the tree, parent first, in lent arrays.
-fn walk_for(
-    q: Quadtree,
-    m: &[u64],
-    at: &[f64],
-    vs: &mut [f64],
-    radii: &[f64],
-    strength: f64,
-    i: usize,
-    draws: &[f64],
-    used: usize,
-    visits: u64,
-    slots: &mut [u32; 193],
-    ends: &mut [f64; 772],
-) -> Ran
-    requires { ⌜ Spread (now at) (now vs) (now radii) (now draws) used × Rounded (now at) (now radii) (now m) q × (i < length (now radii)) × (visits + nodes (Collide.radiusTree (now at) (now radii)) < 2 ^ 64) ⌝ }
-    requires { ⌜ Sized (walkOf (now slots) (now ends) 0) ⌝ }
-    ensures is { λ r. ⌜ Runs (now (vs .exit)) (now (draws .entry)) used r (walkFor (now (at .entry)) (now (radii .entry)) strength (begun (now (vs .entry)) (now (draws .entry)) used visits) i) ⌝ }
-    ensures few { λ r. ⌜ r .visits ≤ visits + nodes (Collide.radiusTree (now (at .entry)) (now (radii .entry))) ⌝ }
-    ensures sized { λ _. ⌜ Sized (walkOf (now (slots .exit)) (now (ends .exit)) 0) ⌝ }
-{
-    let mut spent = used;
-    let mut seen = visits;
-    let extent = q.extent;
-    let mut height = visit::lay_root(slots, ends, q.root, extent);
-    while 0 < height {
-        let h = height - 1;
-        let e = visit::waiting_at(slots, ends, h);
-        let s = e.slot;
-        let c = e.extent;
-        height = h;
-        seen += 1;
-        if store::tag(m, s) == 0 {
-            let below = Visit::stop_if(skips(at, radii, i, m, s, c));
-            if let Visit::Continue = below {
-                let children = store::children(m, s);
-                visit::push_cells(ends, h, children, c);
-                height = visit::push_slots(slots, h, children);
-            }
-        } else {
-            let met = meet_first(at, vs, radii, strength, i, m, s, draws, spent);
-            let dry = met.dry;
-            spent = met.used;
-            if dry {
-                return ended(8, spent, seen);
-            }
-        }
-    }
-    ended(0, spent, seen)
-}
-
-// Every particle once, in index order. The arrays of one Walk serve all their walks.
+// Every particle once, in index order, each by a walk over the tree, parent first. One Walk serves them all.
 fn walk_all(
     q: Quadtree,
     m: &[u64],
@@ -102,34 +50,37 @@ fn walk_all(
     ensures few { λ r. ⌜ r .visits ≤ visits + length (now (radii .entry)) * nodes (Collide.radiusTree (now (at .entry)) (now (radii .entry))) ⌝ }
 {
     let n = radii.len();
-    let w = Walk::empty();
-    let mut slots = w.slots;
-    let mut ends = w.ends;
+    let extent = q.extent;
+    let mut w = Walk::empty();
     let mut spent = used;
     let mut seen = visits;
     let mut i: usize = 0;
     while i < n {
-        let r = walk_for(
-            q,
-            m,
-            at,
-            vs,
-            radii,
-            strength,
-            i,
-            draws,
-            spent,
-            seen,
-            &mut slots,
-            &mut ends,
-        );
-        let refusal = r.refusal;
-        let number = refusal.number;
-        if number != 0 {
-            return r;
+        visit::push_cell(&mut w.ends, 0, q.root, extent);
+        w.height = visit::push_slot(&mut w.slots, 0, q.root);
+        while 0 < w.height {
+            let h = w.height - 1;
+            w.height = h;
+            let e = visit::waiting_at(&w.slots, &w.ends, h);
+            let s = e.slot;
+            let c = e.extent;
+            seen += 1;
+            if store::tag(m, s) == 0 {
+                let below = Visit::stop_if(skips(at, radii, i, m, s, c));
+                if let Visit::Continue = below {
+                    let children = store::children(m, s);
+                    visit::push_cells(&mut w.ends, h, children, c);
+                    w.height = visit::push_slots(&mut w.slots, h, children);
+                }
+            } else {
+                let met = meet_first(at, vs, radii, strength, i, m, s, draws, spent);
+                let dry = met.dry;
+                spent = met.used;
+                if dry {
+                    return ended(8, spent, seen);
+                }
+            }
         }
-        spent = r.used;
-        seen = r.visits;
         i += 1;
     }
     ended(0, spent, seen)

@@ -17,11 +17,10 @@ ghost use Prim.Native.Nat.{_+_, _*_, _/_, _≤_, _<_, _^_};
 ghost use lib.ListN.{length, drop};
 ghost use Rattle.rules.specs.Flow.{flow};
 ghost use Rattle.rules.specs.ManyBody as Rule;
-ghost use Rattle.rules.specs.Walk.{walk, counted};
+ghost use Rattle.rules.specs.Walk.{counted};
 ghost use Rattle.slots.specs.Trees.{Stands};
 ghost use Rattle.quadtree.specs.Build as Build;
 ghost use Rattle.force.specs.Ran.{Runs};
-ghost use Rattle.walk.specs.Walk.{walkOf, Sized};
 ghost use Rattle.charge.specs.Charge.{Charged};
 ghost use Rattle.node_pull.specs.NodePull.{Bodies};
 ghost use Rattle.many_body.specs.ManyBody.{pulledAll};
@@ -38,73 +37,7 @@ pub fn standard() -> Tuning
     }
 }
 
-// All that pulls the particle i: a walk parent first, in lent arrays.
-fn pull(
-    q: Quadtree,
-    t: Tuning,
-    at: &[f64],
-    vs: &mut [f64],
-    strengths: &[f64],
-    alpha: f64,
-    i: usize,
-    draws: &[f64],
-    used: usize,
-    visits: u64,
-    next: &[u32],
-    m: &[u64],
-    slots: &mut [u32; 193],
-    ends: &mut [f64; 772],
-) -> Ran
-    requires { ⌜ Charged (now at) (now strengths) (now m) (now next) q ⌝ }
-    requires { ⌜ Bodies (now at) (now vs) (now strengths) (now next) × (i < length (now strengths)) × (used ≤ length (now draws)) × (visits + q .nodes < 2 ^ 64) ⌝ }
-    requires { ⌜ Sized (walkOf (now slots) (now ends) 0) ⌝ }
-    ensures runs { λ r. ⌜ Runs (now (vs .exit)) (now (draws .entry)) used r (walk (Rule.manyBodyStep t (now (at .entry)) (now (strengths .entry)) alpha i) (Rule.chargedTree (now (at .entry)) (now (strengths .entry))) (counted (flow (now (vs .entry)) (drop used (now (draws .entry)))) visits)) ⌝ }
-    ensures count { λ r. ⌜ r .visits ≤ visits + q .nodes ⌝ }
-    ensures sized { λ _. ⌜ Sized (walkOf (now (slots .exit)) (now (ends .exit)) 0) ⌝ }
-{
-    let mut spent = used;
-    let mut count = visits;
-    let extent = q.extent;
-    let mut height = visit::lay_root(slots, ends, q.root, extent);
-    while 0 < height {
-        let h = height - 1;
-        let e = visit::waiting_at(slots, ends, h);
-        let s = e.slot;
-        let c = e.extent;
-        height = h;
-        count += 1;
-        let r = meet(t, at, vs, strengths, alpha, i, next, m, s, c, draws, spent);
-        spent = r.used;
-        if r.dry {
-            return Ran {
-                refusal: Refusal {
-                    number: 8,
-                    place: 0,
-                },
-                used: spent,
-                visits: count,
-            };
-        }
-        if store::tag(m, s) == 0 {
-            let below = r.visit;
-            if let Visit::Continue = below {
-                let children = store::children(m, s);
-                visit::push_cells(ends, h, children, c);
-                height = visit::push_slots(slots, h, children);
-            }
-        }
-    }
-    Ran {
-        refusal: Refusal {
-            number: 0,
-            place: 0,
-        },
-        used: spent,
-        visits: count,
-    }
-}
-
-// Every particle in index order. The arrays of one Walk serve all their walks.
+// Every particle in index order, each pulled by all that it meets on a walk parent first. One Walk serves them all.
 fn pull_all(
     q: Quadtree,
     t: Tuning,
@@ -124,36 +57,43 @@ fn pull_all(
     ensures count { λ r. ⌜ r .visits ≤ visits + length (now (strengths .entry)) * q .nodes ⌝ }
 {
     let n = strengths.len();
-    let w = Walk::empty();
-    let mut slots = w.slots;
-    let mut ends = w.ends;
+    let extent = q.extent;
+    let mut w = Walk::empty();
     let mut spent = used;
     let mut count = visits;
     let mut i: usize = 0;
     while i < n {
-        let r = pull(
-            q,
-            t,
-            at,
-            vs,
-            strengths,
-            alpha,
-            i,
-            draws,
-            spent,
-            count,
-            next,
-            m,
-            &mut slots,
-            &mut ends,
-        );
-        let refusal = r.refusal;
-        spent = r.used;
-        count = r.visits;
-        if refusal.number != 0 {
-            return r;
+        visit::push_cell(&mut w.ends, 0, q.root, extent);
+        w.height = visit::push_slot(&mut w.slots, 0, q.root);
+        while 0 < w.height {
+            let h = w.height - 1;
+            w.height = h;
+            let e = visit::waiting_at(&w.slots, &w.ends, h);
+            let s = e.slot;
+            let c = e.extent;
+            count += 1;
+            let r = meet(t, at, vs, strengths, alpha, i, next, m, s, c, draws, spent);
+            spent = r.used;
+            if r.dry {
+                return Ran {
+                    refusal: Refusal {
+                        number: 8,
+                        place: 0,
+                    },
+                    used: spent,
+                    visits: count,
+                };
+            }
+            if store::tag(m, s) == 0 {
+                let below = r.visit;
+                if let Visit::Continue = below {
+                    let children = store::children(m, s);
+                    visit::push_cells(&mut w.ends, h, children, c);
+                    w.height = visit::push_slots(&mut w.slots, h, children);
+                }
+            }
         }
-        i = i + 1;
+        i += 1;
     }
     Ran {
         refusal: Refusal {

@@ -12,7 +12,7 @@ use Rattle.rules.specs.Cell.{quarter}
 use Rattle.walk.specs.declared.visit.Walk.{Walk}
 use Rattle.walk.specs.declared.visit.Waiting.{Waiting}
 use Rattle.slots.specs.Trees.{kids}
-use Rattle.walk.specs.Walk.{cellAt, waitingAt, stackAt, walkOf, stackOf, Sized, lay, layKids, above, putSlot, putCell, height2, height1, height0, heightAfter, putSlots, putCells}
+use Rattle.walk.specs.Walk.{mostWaiting, cellAt, waitingAt, stackAt, stackOf, Sized, lay, layKids, above, putSlot, putCell, height2, height1, height0, heightAfter, putSlots, putCells}
 
 -- ---- a number is that of a slot, or none
 
@@ -102,9 +102,9 @@ below ss es h s c (suc j) b =
     rw (getD-set-other ss h j s 0 (omega arith), f (j * 4) (omega arith), f (j * 4 + 1) (omega arith), f (j * 4 + 2) (omega arith), f (j * 4 + 3) (omega arith), below ss es h s c j (omega arith))
 
 abbrev Room : List ℕ → List Float → Type 0
-Room ss es = (length ss ≡ 193) × (length es ≡ 772)
+Room ss es = (length ss ≡ mostWaiting) × (length es ≡ 4 * mostWaiting)
 
-laid : (ss : List ℕ) (es : List Float) (h p : ℕ) (c : Extent) → Room ss es → above h p ≤ 193
+laid : (ss : List ℕ) (es : List Float) (h p : ℕ) (c : Extent) → Room ss es → above h p ≤ mostWaiting
     → stackAt (putSlot ss h p) (putCell es h p c) (above h p) ≡ lay p c (stackAt ss es h)
 unfolding putSlot putCell cellAt
 laid ss es h zero c z r = refl
@@ -117,26 +117,29 @@ unfolding putSlot putCell
 room ss es h zero c z = z
 room ss es h (suc s) c z = (length-set ss h s ∙ z .0, length-four es (h * 4) c ∙ z .1)
 
--- a root is laid at the bottom
-pub root-laid : (ss : List ℕ) (es : List Float) (p : ℕ) (c : Extent) → Sized (walkOf ss es 0) → {es′ : List Float} {ss′ : List ℕ} {h : ℕ}
-    → es′ ≡ putCell es 0 p c → ss′ ≡ putSlot ss 0 p → h ≡ above 0 p → Sized (walkOf ss′ es′ h) × (stackAt ss′ es′ h ≡ lay p c [])
-root-laid ss es p c z e s k =
-    let y = room ss es 0 p c (z .slots, z .ends) in (
-      record { slots = ap length s ∙ y .0; ends = ap length e ∙ y .1 },
-      rw (s, e, k) (laid ss es 0 p c (z .slots, z .ends) (omega (arith, above-one 0 p))),
+-- a root finds room at the bottom
+pub root-fits : (p : ℕ) → above 0 p ≤ mostWaiting
+root-fits p = omega (arith, above-one 0 p)
+
+-- and is then all that waits
+pub root-laid : (w v : Walk) (p : ℕ) (c : Extent) → Sized w → v .slots ≡ putSlot (w .slots) 0 p → v .ends ≡ putCell (w .ends) 0 p c → v .height ≡ above 0 p → Sized v × (stackOf v ≡ lay p c [])
+root-laid w v p c z e0 e1 e2 =
+    let y = room (w .slots) (w .ends) 0 p c (z .slots, z .ends) in (
+      record { slots = ap length e0 ∙ y .0; ends = ap length e1 ∙ y .1 },
+      rw (e0, e1, e2) (laid (w .slots) (w .ends) 0 p c (z .slots, z .ends) (root-fits p)),
     )
 
 -- ---- the four children of a node
 
-module _ (h : ℕ) (ks : List ℕ) (r : heightAfter h ks ≤ 193) where
-  pub fits0 : height0 h ks ≤ 193
+module _ (h : ℕ) (ks : List ℕ) (r : heightAfter h ks ≤ mostWaiting) where
+  pub fits0 : height0 h ks ≤ mostWaiting
   unfolding heightAfter
   fits0 = omega (arith, r, above-more (height0 h ks) (getD ks 0 0))
 
-  pub fits1 : height1 h ks ≤ 193
+  pub fits1 : height1 h ks ≤ mostWaiting
   fits1 = omega (arith, fits0, above-more (height1 h ks) (getD ks 1 0))
 
-  pub fits2 : height2 h ks ≤ 193
+  pub fits2 : height2 h ks ≤ mostWaiting
   fits2 = omega (arith, fits1, above-more (height2 h ks) (getD ks 2 0))
 
 -- four numbers laid one after the other are the four of a node
@@ -168,7 +171,7 @@ unfolding heightAfter
 length-layFour ks c es =
     rw (length-lay (getD ks 0 0) (quarter 0 c), length-lay (getD ks 1 0) (quarter 1 c), length-lay (getD ks 2 0) (quarter 2 c), length-lay (getD ks 3 0) (quarter 3 c))
 
-laid-four : (ss : List ℕ) (es : List Float) (h : ℕ) (ks : List ℕ) (c : Extent) → Room ss es → heightAfter h ks ≤ 193
+laid-four : (ss : List ℕ) (es : List Float) (h : ℕ) (ks : List ℕ) (c : Extent) → Room ss es → heightAfter h ks ≤ mostWaiting
     → stackAt (putSlots ss h ks) (putCells es h ks c) (heightAfter h ks) ≡ layFour ks c (stackAt ss es h)
 unfolding putSlots putCells heightAfter
 laid-four ss es h ks c z r =
@@ -208,7 +211,7 @@ module _ (w : Walk) (h : ℕ) (m : List ℕ) (s : ℕ) (c : Extent) where
   height-kids = sym (length-layFour (kids m s) c (stackAt (w .slots) (w .ends) h) ∙ ap (λ (n : ℕ). heightAfter n (kids m s)) (length-stack (w .slots) (w .ends) h))
 
   -- the arrays with its children laid are the children laid on what waits
-  pub pushed-kids : Sized w → heightAfter h (kids m s) ≤ 193 → (v : Walk) → v .slots ≡ putSlots (w .slots) h (kids m s) → v .ends ≡ putCells (w .ends) h (kids m s) c
+  pub pushed-kids : Sized w → heightAfter h (kids m s) ≤ mostWaiting → (v : Walk) → v .slots ≡ putSlots (w .slots) h (kids m s) → v .ends ≡ putCells (w .ends) h (kids m s) c
       → v .height ≡ heightAfter h (kids m s) → stackOf v ≡ layKids m s c (stackAt (w .slots) (w .ends) h)
   pushed-kids z r v e0 e1 e2 = rw (e0, e1, e2) (laid-four (w .slots) (w .ends) h (kids m s) c (z .slots, z .ends) r)
 

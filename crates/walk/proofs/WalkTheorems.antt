@@ -12,6 +12,7 @@ use Rattle.rules.specs.Outcome.{Outcome, done, refused, _>>=_, ifDone}
 use Rattle.rules.specs.Tree.{Tree, none, leaf, node, nodes}
 use Rattle.rules.specs.Walk.{Entry, internal, tip, Counted, counted, After, after, unlessSkip, walk, parentLast}
 use Rattle.walk.specs.declared.visit.Walk.{Walk}
+use Rattle.walk.specs.Walk.{mostWaiting}
 use Rattle.walk.proofs.Walking as walking
 use Rattle.walk.proofs.WalkAfter as later
 
@@ -185,7 +186,7 @@ module _ {A S : Type 0} (step : Entry A → S → Outcome (After S)) where
 
 -- At most 193 wait at any turn.
 pub waits-few : {A S : Type 0} {step : Entry A → S → Outcome (After S)} {look : ℕ → Extent → A} {P : List ℕ → Type 0} {m next : List ℕ} {T : Tree A} {begun : Counted S} {w : Walk} {now : Counted S}
-    → walking.Walking step look P m next T begun w now → w .height ≤ 193
+    → walking.Walking step look P m next T begun w now → w .height ≤ mostWaiting
 waits-few w = walking.low w
 
 -- ---- parent last

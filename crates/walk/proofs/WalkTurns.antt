@@ -19,7 +19,7 @@ use Rattle.rules.specs.Walk.{Entry, internal, tip, Counted, counted, After, aft
 use Rattle.rules.proofs.OutcomeLaws.{bind-cong, bind-assoc}
 use Rattle.walk.specs.declared.visit.Waiting.{Waiting}
 use Rattle.slots.specs.Trees.{word, kid, Follows, first, Leads, EachSlot, ChainFrom}
-use Rattle.walk.specs.Walk.{lay, layKids, seen, EachChain}
+use Rattle.walk.specs.Walk.{mostWaiting, lay, layKids, seen, EachChain}
 
 -- ---- what follows what was done
 
@@ -50,10 +50,10 @@ module _ (P : List ℕ → Type 0) (m next : List ℕ) where
   Stand [] [] = Unit {0}
   Stand [] (t ∷ ts) = ⊥
   Stand (e ∷ es) [] = ⊥
-  Stand (e ∷ es) (t ∷ ts) = Found (e .slot + 1) t × (length es + 3 * depth t ≤ 195) × Stand es ts
+  Stand (e ∷ es) (t ∷ ts) = Found (e .slot + 1) t × (length es + 3 * depth t ≤ mostWaiting + 2) × Stand es ts
 
   -- never more than 193 wait
-  stand-low : (es : List Waiting) (ts : List (Tree ℕ)) → Stand es ts → length es ≤ 193
+  stand-low : (es : List Waiting) (ts : List (Tree ℕ)) → Stand es ts → length es ≤ mostWaiting
   stand-low [] ts s = omega arith
   stand-low (e ∷ es) [] s = absurd s
   stand-low (e ∷ es) (none ∷ ts) s = absurd (omega (arith, s .0 .0))
@@ -126,7 +126,7 @@ module _ {A S : Type 0} (step : Entry A → S → Outcome (After S)) (look : ℕ
     sum : nodesAll trees ≡ nodes t + nodesAll ts
     short : length (lay p c es) ≤ length es + 1
 
-  laid : (p : ℕ) (c : Extent) (t : Tree ℕ) (es : List Waiting) (ts : List (Tree ℕ)) → Found P m next p t → length es + 3 * depth t ≤ 195 → Stand P m next es ts → Laid p c t es ts
+  laid : (p : ℕ) (c : Extent) (t : Tree ℕ) (es : List Waiting) (ts : List (Tree ℕ)) → Found P m next p t → length es + 3 * depth t ≤ mostWaiting + 2 → Stand P m next es ts → Laid p c t es ts
   laid zero c none es ts f d s = record { trees = ts; stands = s; same = λ n. refl; sum = omega arith; short = omega arith }
   laid zero c (leaf i is) es ts f d s = absurd (omega (arith, f .0 .0))
   laid zero c (node i t0 t1 t2 t3) es ts f d s = absurd (omega (arith, f .0 .0))
@@ -165,7 +165,7 @@ module _ {A S : Type 0} (step : Entry A → S → Outcome (After S)) (look : ℕ
 
   opened : (s : ℕ) (c : Extent) (t0 t1 t2 t3 : Tree ℕ) (es : List Waiting) (ts : List (Tree ℕ))
       → Found P m next (kid m s 0) t0 → Found P m next (kid m s 1) t1 → Found P m next (kid m s 2) t2 → Found P m next (kid m s 3) t3
-      → length es + 3 * suc (max (max (depth t0) (depth t1)) (max (depth t2) (depth t3))) ≤ 195 → Stand P m next es ts → Opened s c t0 t1 t2 t3 es ts
+      → length es + 3 * suc (max (max (depth t0) (depth t1)) (max (depth t2) (depth t3))) ≤ mostWaiting + 2 → Stand P m next es ts → Opened s c t0 t1 t2 t3 es ts
   opened s c t0 t1 t2 t3 es ts f0 f1 f2 f3 d w =
       let e3 = lay (kid m s 3) (quarter 3 c) es in
       let e2 = lay (kid m s 2) (quarter 2 c) e3 in
@@ -199,7 +199,7 @@ module _ {A S : Type 0} (step : Entry A → S → Outcome (After S)) (look : ℕ
       go [] s q = sym q
       go (t ∷ ts) s q = absurd s
 
-  pub low : (T : Tree A) (begun now : Counted S) (es : List Waiting) → Going T begun es now → length es ≤ 193
+  pub low : (T : Tree A) (begun now : Counted S) (es : List Waiting) → Going T begun es now → length es ≤ mostWaiting
   low T begun now es g = stand-low P m next es (g .trees) (g .stands)
 
   -- ---- a turn
@@ -270,7 +270,7 @@ module _ {A S : Type 0} (step : Entry A → S → Outcome (After S)) (look : ℕ
           go (node i t0 t1 t2 t3 ∷ ts) s q b = inside-node i t0 t1 t2 t3 ts (omega (arith, s .0 .0 .0)) s q b
 
       -- its children find room
-      pub room : length (layKids m (e .slot) (e .extent) es) ≤ 193
+      pub room : length (layKids m (e .slot) (e .extent) es) ≤ mostWaiting
       room = stand-low P m next (layKids m (e .slot) (e .extent) es) (inside .open′ .trees) (inside .open′ .stands)
 
       -- fewer are left with its children in its place

@@ -14,8 +14,8 @@ use Rattle.rules.specs.Walk.{Entry, internal, tip, Counted, counted, After, aft
 use Rattle.walk.specs.declared.visit.Walk.{Walk}
 use Rattle.walk.specs.declared.visit.Waiting.{Waiting}
 use Rattle.slots.specs.Trees.{word, kids, Follows, first, ChainFrom}
-use Rattle.walk.specs.Walk.{waitingAt, stackAt, stackOf, Sized, lay, layKids, heightAfter, putSlots, putCells, seen}
-use Rattle.walk.proofs.WalkStack.{length-stack, top-of, height-kids, pushed-kids, pushed-sized}
+use Rattle.walk.specs.Walk.{mostWaiting, waitingAt, stackAt, stackOf, Sized, layKids, above, putSlot, putCell, heightAfter, putSlots, putCells, seen}
+use Rattle.walk.proofs.WalkStack.{root-laid, length-stack, top-of, height-kids, pushed-kids, pushed-sized}
 use Rattle.walk.proofs.WalkTurns as turns
 
 -- A walk of the rules' `step` over T from `begun`, in which w waits, and the state and the count are `now`. `look` is what is read at a slot whose cell is given; P holds of each chain.
@@ -37,6 +37,13 @@ leftOf m w = turns.left m (stackOf w)
 abbrev pub popped : Walk → Walk
 popped w = record { slots = w .slots; ends = w .ends; height = w .height - 1 }
 
+-- whatever waited in w, with the root p alone laid it is v
+pub record Rooted (p : ℕ) (c : Extent) (w v : Walk) : Type 0 where
+  pub sized : Sized w
+  pub slots : v .slots ≡ putSlot (w .slots) 0 p
+  pub ends : v .ends ≡ putCell (w .ends) 0 p c
+  pub height : v .height ≡ above 0 p
+
 -- w with e taken off and its children laid is v
 pub record Pushed (m : List ℕ) (e : Waiting) (w v : Walk) : Type 0 where
   pub children : List ℕ
@@ -47,12 +54,13 @@ pub record Pushed (m : List ℕ) (e : Waiting) (w v : Walk) : Type 0 where
 
 module _ {A S : Type 0} (step : Entry A → S → Outcome (After S)) (look : ℕ → Extent → A) (P : List ℕ → Type 0) (m next : List ℕ) where
   -- a walk begins with its root waiting
-  pub start : (p : ℕ) (c : Extent) (t : Tree ℕ) (T : Tree A) (begun : Counted S) (w : Walk) → turns.Found P m next p t → depth t ≤ 65 → seen look c t ≡ T
-      → Sized w → stackOf w ≡ lay p c [] → Walking step look P m next T begun w begun
-  start p c t T begun w f d e z q =
+  pub start : {p : ℕ} {c : Extent} (t : Tree ℕ) (T : Tree A) (begun : Counted S) {w v : Walk} → turns.Found P m next p t → depth t ≤ 65 → seen look c t ≡ T
+      → Rooted p c w v → Walking step look P m next T begun v begun
+  start {p} {c} t T begun {w} {v} f d e r =
+      let l = root-laid w v p c (r .sized) (r .slots) (r .ends) (r .height) in
       record {
-        going = subst (λ (U : Tree A). turns.Going step look P m next U begun (stackOf w) begun) e (rw q (turns.start step look P m next p c t begun f d));
-        sized = z;
+        going = subst (λ (U : Tree A). turns.Going step look P m next U begun (stackOf v) begun) e (rw (l .1) (turns.start step look P m next p c t begun f d));
+        sized = l .0;
       }
 
 module _ {A S : Type 0} {step : Entry A → S → Outcome (After S)} {look : ℕ → Extent → A} {P : List ℕ → Type 0} {m next : List ℕ} {T : Tree A} {begun : Counted S} {w : Walk} {now : Counted S}
@@ -61,8 +69,12 @@ module _ {A S : Type 0} {step : Entry A → S → Outcome (After S)} {look : ℕ
   pub finish : w .height ≡ 0 → walk step T begun ≡ done now
   finish h = turns.finish step look P m next T begun now (rw h at (inv .going))
 
+  -- no more nodes are handed out than there are
+  pub few : now .visits ≤ begun .visits + nodes T
+  few = omega (arith, inv .going .few)
+
   -- never more than 193 wait
-  pub low : w .height ≤ 193
+  pub low : w .height ≤ mostWaiting
   low = omega (arith, turns.low step look P m next T begun now (stackOf w) (inv .going), length-stack (w .slots) (w .ends) (w .height))
 
 module _ {A S : Type 0} {step : Entry A → S → Outcome (After S)} {look : ℕ → Extent → A} {P : List ℕ → Type 0} {m next : List ℕ} {T : Tree A} {begun : Counted S} {w : Walk} {now : Counted S} {e : Waiting}
@@ -92,7 +104,7 @@ module _ {A S : Type 0} {step : Entry A → S → Outcome (After S)} {look : ℕ
 
   module _ (z : word m (e .slot) 0 ≡ 0) where
     -- its children find room
-    pub room : {children : List ℕ} → children ≡ kids m (e .slot) → heightAfter (w .height - 1) children ≤ 193
+    pub room : {children : List ℕ} → children ≡ kids m (e .slot) → heightAfter (w .height - 1) children ≤ mostWaiting
     room k =
         rw k
         (omega (arith, height-kids w (w .height - 1) m (e .slot) (e .extent), turns.room step look P m next T begun e (stackAt (w .slots) (w .ends) (w .height - 1)) now on-top z))

@@ -28,16 +28,18 @@ abbrev pub stackAt : List ℕ → List Float → ℕ → List Waiting
 stackAt ss es zero = []
 stackAt ss es (suc h) = waitingAt ss es h ∷ stackAt ss es h
 
--- arrays with a height are a walk
-abbrev pub walkOf : List ℕ → List Float → ℕ → Walk
-walkOf ss es h = record { slots = ss; ends = es; height = h }
-
+-- all that wait in a walk
 abbrev pub stackOf : Walk → List Waiting
 stackOf w = stackAt (w .slots) (w .ends) (w .height)
 
+-- never more than this many wait
+abbrev pub mostWaiting : ℕ
+mostWaiting = 193
+
+-- there is room for that many, with four ends to each
 pub record Sized (w : Walk) : Type 0 where
-  pub slots : length (w .slots) ≡ 193
-  pub ends : length (w .ends) ≡ 772
+  pub slots : length (w .slots) ≡ mostWaiting
+  pub ends : length (w .ends) ≡ 4 * mostWaiting
 
 -- ---- children are laid
 

@@ -1,16 +1,16 @@
-// Parent first: the slots that wait in a walk, with their cells. Walks one after the other share one Walk: it is made once, and its arrays are lent to the function that walks, which keeps the height.
+// Parent first: the slots that wait in a walk, with their cells. The function that walks has a Walk as a local and changes it in place, lending one field at a time. Walks one after the other share it, so that it is cleared once.
 ghost use mathlib.Core.Path.{_≡_};
-ghost use mathlib.Core.List.{[]};
 ghost use Prim.Native.Nat.{_<_, _≤_};
-ghost use Rattle.walk.specs.Walk.{waitingAt, stackAt, walkOf, Sized, lay, above, putSlot, putCell, heightAfter, putSlots, putCells};
+ghost use Rattle.walk.specs.Walk.{waitingAt, mostWaiting, Sized, above, putSlot, putCell, heightAfter, putSlots, putCells};
 use cells::extent;
 use number::wide;
 use rules::Extent;
+use slots::Quadtree;
 
-// At most 193 wait, the last of them on top: slot numbers, and four ends to each cell.
+// At most 193 wait, the last of them on top: slot numbers, four ends to each cell, and how many there are.
 pub struct Walk {
-    pub slots: [u32; 193],
-    pub ends: [f64; 772],
+    pub slots: [u32; Quadtree::MOST_WAITING],
+    pub ends: [f64; 4 * Quadtree::MOST_WAITING],
     pub height: usize,
 }
 
@@ -20,8 +20,12 @@ pub struct Waiting {
 }
 
 // The slot and the cell that wait at a height.
-pub fn waiting_at<'a>(slots: &'a [u32; 193], ends: &'a [f64; 772], h: usize) -> Waiting
-    requires { ⌜ h < 193 ⌝ }
+pub fn waiting_at<'a>(
+    slots: &'a [u32; Quadtree::MOST_WAITING],
+    ends: &'a [f64; 4 * Quadtree::MOST_WAITING],
+    h: usize,
+) -> Waiting
+    requires { ⌜ h < mostWaiting ⌝ }
     ensures { λ r. ⌜ r ≡ waitingAt (now (slots .entry)) (now (ends .entry)) h ⌝ }
 {
     let at = h * 4;
@@ -35,24 +39,29 @@ pub fn waiting_at<'a>(slots: &'a [u32; 193], ends: &'a [f64; 772], h: usize) -> 
     Waiting { slot, extent }
 }
 
-// A child's number is laid, where there is a child.
-fn push_slot(slots: &mut [u32; 193], h: usize, child: u32) -> usize
-    requires { ⌜ above h child ≤ 193 ⌝ }
-    ensures { λ r. ⌜ (now (slots .exit) ≡ putSlot (now (slots .entry)) h child) × (r ≡ above h child) ⌝ }
+// The slot that a number leads to is laid at the height h, none for 0; the height is then what is answered. A root is laid at 0, where nothing else waits.
+pub fn push_slot(slots: &mut [u32; Quadtree::MOST_WAITING], h: usize, number: u32) -> usize
+    requires { ⌜ above h number ≤ mostWaiting ⌝ }
+    ensures { λ r. ⌜ (now (slots .exit) ≡ putSlot (now (slots .entry)) h number) × (r ≡ above h number) ⌝ }
 {
-    if child == 0 {
+    if number == 0 {
         return h;
     }
-    slots[h] = child - 1;
+    slots[h] = number - 1;
     h + 1
 }
 
-// Its cell is laid, where there is a child.
-fn push_cell(ends: &mut [f64; 772], h: usize, child: u32, c: Extent) -> usize
-    requires { ⌜ above h child ≤ 193 ⌝ }
-    ensures { λ r. ⌜ (now (ends .exit) ≡ putCell (now (ends .entry)) h child c) × (r ≡ above h child) ⌝ }
+// Its cell is laid there.
+pub fn push_cell(
+    ends: &mut [f64; 4 * Quadtree::MOST_WAITING],
+    h: usize,
+    number: u32,
+    c: Extent,
+) -> usize
+    requires { ⌜ above h number ≤ mostWaiting ⌝ }
+    ensures { λ r. ⌜ (now (ends .exit) ≡ putCell (now (ends .entry)) h number c) × (r ≡ above h number) ⌝ }
 {
-    if child == 0 {
+    if number == 0 {
         return h;
     }
     let at = h * 4;
@@ -63,9 +72,9 @@ fn push_cell(ends: &mut [f64; 772], h: usize, child: u32, c: Extent) -> usize
     h + 1
 }
 
-// The numbers of a node's children, child 0 on top; the height is then what is answered.
-pub fn push_slots(slots: &mut [u32; 193], h: usize, children: [u32; 4]) -> usize
-    requires { ⌜ heightAfter h children ≤ 193 ⌝ }
+// The slots of a node's children, child 0 on top.
+pub fn push_slots(slots: &mut [u32; Quadtree::MOST_WAITING], h: usize, children: [u32; 4]) -> usize
+    requires { ⌜ heightAfter h children ≤ mostWaiting ⌝ }
     ensures { λ r. ⌜ (now (slots .exit) ≡ putSlots (now (slots .entry)) h children) × (r ≡ heightAfter h children) ⌝ }
 {
     let h2 = push_slot(slots, h, children[3]);
@@ -75,8 +84,13 @@ pub fn push_slots(slots: &mut [u32; 193], h: usize, children: [u32; 4]) -> usize
 }
 
 // Their cells, quarters of the cell c.
-pub fn push_cells(ends: &mut [f64; 772], h: usize, children: [u32; 4], c: Extent)
-    requires { ⌜ heightAfter h children ≤ 193 ⌝ }
+pub fn push_cells(
+    ends: &mut [f64; 4 * Quadtree::MOST_WAITING],
+    h: usize,
+    children: [u32; 4],
+    c: Extent,
+)
+    requires { ⌜ heightAfter h children ≤ mostWaiting ⌝ }
     ensures { λ _. ⌜ now (ends .exit) ≡ putCells (now (ends .entry)) h children c ⌝ }
 {
     let h2 = push_cell(ends, h, children[3], extent::quarter(3, c));
@@ -85,23 +99,14 @@ pub fn push_cells(ends: &mut [f64; 772], h: usize, children: [u32; 4], c: Extent
     push_cell(ends, h0, children[0], extent::quarter(0, c));
 }
 
-// The root alone waits, where there is one; the height is then what is answered. What lay in the arrays before doesn't matter.
-pub fn lay_root(slots: &mut [u32; 193], ends: &mut [f64; 772], root: u32, extent: Extent) -> usize
-    requires { ⌜ Sized (walkOf (now slots) (now ends) 0) ⌝ }
-    ensures { λ r. ⌜ Sized (walkOf (now (slots .exit)) (now (ends .exit)) r) × (stackAt (now (slots .exit)) (now (ends .exit)) r ≡ lay root extent []) ⌝ }
-{
-    push_cell(ends, 0, root, extent);
-    push_slot(slots, 0, root)
-}
-
 impl Walk {
     // Nothing waits.
     pub fn empty() -> Walk
         ensures { λ r. ⌜ Sized r ⌝ }
     {
         Walk {
-            slots: [0; 193],
-            ends: [0.0; 772],
+            slots: [0; Quadtree::MOST_WAITING],
+            ends: [0.0; 4 * Quadtree::MOST_WAITING],
             height: 0,
         }
     }

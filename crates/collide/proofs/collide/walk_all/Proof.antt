@@ -1,118 +1,313 @@
 use mathlib.Core.Path.{_≡_, refl, sym, _∙_, subst}
-use Prim.Native.Nat.{ℕ, _+_, _-_, _*_, _≤_}
+use mathlib.Core.List.{List}
+use Prim.Native.Nat.{ℕ, _+_, _-_, _*_, _≤_, _<_}
 use native.Mathlib.Omega.{arith}
 use borrow.Author.Needs.{needs}
 use lib.ListN.{length}
+use Rattle.rules.specs.declared.Visit.the-variants.{Continue, Skip}
 use Rattle.rules.specs.Outcome.{zeroesWork}
 use Rattle.rules.specs.Tree.{nodes}
+use Rattle.rules.specs.Walk.{Counted}
+use Rattle.rules.specs.Flow.{Flow}
 use Rattle.rules.specs.Collide.{radiusTree}
-use Rattle.walk.specs.Walk.{walkOf, Sized}
+use Rattle.slots.specs.Trees.{word}
+use Rattle.walk.specs.Walk.{Sized}
+use Rattle.walk.proofs.WalkStack.{root-fits}
+use Rattle.walk.proofs.Walking.{Pushed, leftOf, finish, few, low, reach, falls, room, turn-skip, turn-down, falls-down, chain, turn-leaf, turn-refused-leaf}
 use Rattle.force.specs.Draws.{From}
 use Rattle.force.specs.Ran.{standing, ranOf}
 use Rattle.force.proofs.Stages.{left, left-first, left-refused, left-on, left-end, one-more}
-use Rattle.collide.specs.Collide.{begun, walkFor, walkAll}
+use Rattle.collide.specs.Collide.{ended, begun, walkFor, walkAll}
+use Rattle.collide.proofs.RadiusLaws.{chain-below}
+use Rattle.collide.proofs.CollideSteps.{Goes, GoesOn, sets-out, node-step, leaf-on, leaf-dry}
 use Rattle.collide.proofs.collide.walk_all.Statement.{statement}
 use Rattle.collide.proofs.collide.walk_all.Tie as tie
 
+-- the walk of particle i, from what it found
+abbrev Inv-loop2 : tie.InvT-loop2
+Inv-loop2 q m at vs₀ radii strength draws used visits n extent w₀ spent₀ seen₀ i vs w spent seen =
+    (length vs ≡ length vs₀)
+    × From draws spent₀ spent
+    × ((next : List ℕ) × Goes at radii strength i m next (begun vs₀ draws spent₀ seen₀) w (begun vs draws spent seen))
+
+abbrev μ-loop2 : tie.MeasureT-loop2
+μ-loop2 q m at vs₀ radii strength draws used visits n extent w₀ spent₀ seen₀ i vs w spent seen = leftOf m w
+
+-- the walks from particle i on are left
 abbrev Inv-loop : tie.InvT-loop
-Inv-loop q m at vs₀ radii strength draws used visits n slots₀ ends₀ spent₀ seen₀ i₀ vs slots ends spent seen i =
+Inv-loop q m at vs₀ radii strength draws used visits n extent w₀ spent₀ seen₀ i₀ vs w spent seen i =
     (i ≤ n)
     × (length vs ≡ length vs₀)
     × From draws used spent
     × (seen ≤ visits + i * nodes (radiusTree at radii))
     × (left (walkFor at radii strength) n 0 (begun vs₀ draws used visits) ≡ left (walkFor at radii strength) n i (begun vs draws spent seen))
-    × Sized (walkOf slots ends 0)
+    × Sized w
 
 abbrev μ-loop : tie.MeasureT-loop
-μ-loop q m at vs₀ radii strength draws used visits n slots₀ ends₀ spent₀ seen₀ i₀ vs slots ends spent seen i = n - i
+μ-loop q m at vs₀ radii strength draws used visits n extent w₀ spent₀ seen₀ i₀ vs w spent seen i = n - i
+
+-- ---- the points of the code
 
 abbrev At : Type 0
-At = tie.At-loop Inv-loop μ-loop
+At = tie.At-loop Inv-loop2 μ-loop2 Inv-loop μ-loop
 
-abbrev start : At → tie.Start Inv-loop μ-loop
-start l = l .before .before .before .before .before .before .before .before .before
+abbrev Inside : Type 0
+Inside = tie.At-loop2 Inv-loop2 μ-loop2 Inv-loop μ-loop
 
-loop-holds : tie.Need-loop-holds Inv-loop μ-loop
-loop-holds c =
-    let z = c .before .before .empty .ensures in
-    (omega arith, refl, omega (arith, c .before .before .before .before .before .before .before .before .pre .0 .drawn), omega arith, refl, record { slots = z .slots; ends = z .ends })
+abbrev Read : Type 0
+Read = tie.After-waiting-at Inv-loop2 μ-loop2 Inv-loop μ-loop
 
-walk-for-requires : tie.Need-walk-for-requires Inv-loop μ-loop
-walk-for-requires c κs =
-    let l = c .before .before .before .before in
-    let i = c .before .before .before .loop-test .taken in
-    let f = start l in
-    let a = f .args in
-    let h = one-more (l .loop .i) (length (a .radii .now)) (nodes (radiusTree (a .at .now) (a .radii .now))) i in (
-      (record { places = f .pre .0 .places; speeds = l .loop .inv .1 ∙ f .pre .0 .speeds; drawn = l .loop .inv .2 .reach }, f .pre .1, i, omega (arith, h, l .loop .inv .3, f .pre .2)),
-      l .loop .inv .5,
+abbrev start : At → tie.Start Inv-loop2 μ-loop2 Inv-loop μ-loop
+start o = o .before .before .before .before .before .before .before .before
+
+abbrev outer : Inside → At
+outer l = l .before .before .before .before .before .before
+
+abbrev top : Read → Inside
+top n = n .before .before .before .before .before
+
+abbrev read : tie.After-tag Inv-loop2 μ-loop2 Inv-loop μ-loop → Read
+read g = g .before .before
+
+-- what the particle found, and what it has come to
+abbrev found : At → Counted Flow
+found o = begun (o .loop .vs) (start o .args .draws .now) (o .loop .spent) (o .loop .seen)
+
+abbrev come : Inside → Counted Flow
+come l = begun (l .loop2 .vs) (start (outer l) .args .draws .now) (l .loop2 .spent) (l .loop2 .seen)
+
+loop-holds : tie.Need-loop-holds Inv-loop2 μ-loop2 Inv-loop μ-loop
+loop-holds c = (omega arith, refl, omega (arith, c .before .before .before .before .before .before .before .pre .0 .drawn), omega arith, refl, c .empty .ensures)
+
+loop2-holds : tie.Need-loop2-holds Inv-loop2 μ-loop2 Inv-loop μ-loop
+loop2-holds c =
+    let o = c .before .before .before .before .before in
+    let a = start o .args in (
+      refl,
+      omega (arith, o .loop .inv .2),
+      (
+        start o .pre .1 .next,
+        sets-out (a .at .now) (a .radii .now) (a .strength) (o .loop .i) (start o .pre .1) (found o)
+            (record { sized = o .loop .inv .5; slots = c .push-slot .ensures .0; ends = c .before .before .push-cell .ensures .0; height = c .push-slot .ensures .1 }),
+      ),
     )
 
-returns : tie.Need-returns Inv-loop μ-loop
-unfolding walkAll
-returns c =
-    let w = c .before .before .before .before in
-    let l = c .before .before .before .before .before .before .before .before .before in
-    let i = c .before .before .before .before .before .before .before .before .loop-test .taken in
-    let a = start l .args in
-    let f = walkFor (a .at .now) (a .radii .now) (a .strength) in
-    let n = length (a .radii .now) in
-    let h = one-more (l .loop .i) n (nodes (radiusTree (a .at .now) (a .radii .now))) i in (
-      record {
-        is = left-refused f n (l .loop .i) i (begun (l .loop .vs) (a .draws .now) (l .loop .spent) (l .loop .seen)) (w .walk-for .last .1 .1 .1 .0) (a .draws .now) (w .walk-for .result) (w .walk-for .ensures .0 .is) (c .if1 .taken)
-            ∙ sym (l .loop .inv .4) ∙ sym (left-first f n (begun (a .vs .now) (a .draws .now) (a .used) (a .visits)));
-        draws = omega (arith, w .walk-for .ensures .0 .draws, l .loop .inv .2);
-        late = w .walk-for .ensures .0 .late;
-      },
-      omega (arith, h, l .loop .inv .3, w .walk-for .ensures .1 .0),
+-- a turn, with what waits on top read
+turn : (n : Read)
+    → let l = top n in
+    let o = outer l in
+    let a = start o .args in
+    GoesOn (a .at .now) (a .radii .now) (a .strength) (o .loop .i) (a .m .now) (l .loop2 .inv .2 .0) (found o) (l .loop2 .w) (come l) (n .waiting-at .result)
+turn n = record { walking = top n .loop2 .inv .2 .1; waits = n .before .before .before .before .loop2-test .taken; top = n .waiting-at .ensures }
+
+waiting-at-requires : tie.Need-waiting-at-requires Inv-loop2 μ-loop2 Inv-loop μ-loop
+waiting-at-requires c κs = omega (arith, low (c .before .before .before .before .loop2 .inv .2 .1))
+
+-- this walk is one of them all
+among : (l : Inside)
+    → let o = outer l in
+    let a = start o .args in
+    (o .loop .i < length (a .radii .now)) × (o .loop .seen + nodes (radiusTree (a .at .now) (a .radii .now)) ≤ a .visits + length (a .radii .now) * nodes (radiusTree (a .at .now) (a .radii .now)))
+among l =
+    let o = outer l in
+    let a = start o .args in
+    let i = l .before .before .before .before .before .loop-test .taken in
+    (i, omega (arith, one-more (o .loop .i) (length (a .radii .now)) (nodes (radiusTree (a .at .now) (a .radii .now))) i, o .loop .inv .3))
+
+add-seen : tie.Need-add-seen Inv-loop2 μ-loop2 Inv-loop μ-loop
+add-seen c = let n = c .before in omega (arith, reach (turn n) .1, among (top n) .1, start (outer (top n)) .pre .2)
+
+skips-requires : tie.Need-skips-requires Inv-loop2 μ-loop2 Inv-loop μ-loop
+skips-requires c κs = let n = read (c .before) in (start (outer (top n)) .pre .0 .places, among (top n) .0, reach (turn n) .0)
+
+inner : (c : tie.Then1 Inv-loop2 μ-loop2 Inv-loop μ-loop) → let n = read (c .before) in word (start (outer (top n)) .args .m .now) (n .waiting-at .result .slot) 0 ≡ 0
+inner c = sym (c .before .tag .ensures) ∙ c .if1 .taken
+
+leaf : (c : tie.Else1 Inv-loop2 μ-loop2 Inv-loop μ-loop) → let n = read (c .before) in word (start (outer (top n)) .args .m .now) (n .waiting-at .result .slot) 0 ≡ 0 → ⊥
+leaf c z = c .if1 .left (c .before .tag .ensures ∙ z)
+
+abbrev told : tie.After-push-slots Inv-loop2 μ-loop2 Inv-loop μ-loop → tie.After-stop-if Inv-loop2 μ-loop2 Inv-loop μ-loop
+told c = c .before .before .before .before .before .before .before
+
+pushed : (c : tie.After-push-slots Inv-loop2 μ-loop2 Inv-loop μ-loop)
+    → let n = read (told c .before .before .before) in
+    Pushed (start (outer (top n)) .args .m .now) (n .waiting-at .result) (top n .loop2 .w) (record { slots = c .push-slots .last .0; ends = c .before .before .push-cells .last .0; height = c .push-slots .result })
+pushed c =
+    record {
+      children = c .before .before .before .before .children .result;
+      these = c .before .before .before .before .children .ensures;
+      slots = c .push-slots .ensures .0;
+      ends = c .before .before .push-cells .ensures;
+      height = c .push-slots .ensures .1;
+    }
+
+loop2-again : tie.Need-loop2-again Inv-loop2 μ-loop2 Inv-loop μ-loop
+loop2-again c =
+    let k = told c in
+    let t = k .before .before in
+    let l = top (read (t .before)) in
+    let a = start (outer l) .args in (
+      l .loop2 .inv .0,
+      l .loop2 .inv .1,
+      (
+        l .loop2 .inv .2 .0,
+        turn-down (turn (read (t .before))) (inner t) (pushed c)
+            (node-step (a .at .now) (a .radii .now) (a .strength) (outer l .loop .i) _ _ _ (k .stop-if .result) Continue (k .before .skips .ensures) (k .stop-if .ensures) (c .before .before .before .before .before .enum-told .given .1)),
+      ),
     )
 
-loop-again : tie.Need-loop-again Inv-loop μ-loop
-loop-again c =
-    let w = c .before .before .before .before in
-    let l = c .before .before .before .before .before .before .before .before .before in
-    let a = start l .args in
-    let f = walkFor (a .at .now) (a .radii .now) (a .strength) in
-    let n = length (a .radii .now) in (
-      omega (arith, c .before .before .before .before .before .before .before .before .loop-test .taken),
-      w .walk-for .kept .1 .1 .1 .0 ∙ l .loop .inv .1,
-      omega (arith, w .walk-for .ensures .0 .draws, l .loop .inv .2),
-      omega (arith, l .loop .inv .3, w .walk-for .ensures .1 .0),
-      l .loop .inv .4
-          ∙ left-on f n (l .loop .i) (c .before .before .before .before .before .before .before .before .loop-test .taken) (begun (l .loop .vs) (a .draws .now) (l .loop .spent) (l .loop .seen)) (w .walk-for .last .1 .1 .1 .0) (a .draws .now) (w .walk-for .result) (w .walk-for .ensures .0 .is) (c .if1 .left),
-      w .walk-for .ensures .1 .1,
+loop2-again-2 : tie.Need-loop2-again-2 Inv-loop2 μ-loop2 Inv-loop μ-loop
+loop2-again-2 c =
+    let k = c .before .before in
+    let t = k .before .before in
+    let l = top (read (t .before)) in
+    let a = start (outer l) .args in (
+      l .loop2 .inv .0,
+      l .loop2 .inv .1,
+      (
+        l .loop2 .inv .2 .0,
+        turn-skip (turn (read (t .before))) (inner t)
+            (node-step (a .at .now) (a .radii .now) (a .strength) (outer l .loop .i) _ _ _ (k .stop-if .result) Skip (k .before .skips .ensures) (k .stop-if .ensures) (c .enum-told2 .given .1)),
+      ),
     )
 
-returns-2 : tie.Need-returns-2 Inv-loop μ-loop
+-- ---- a leaf
+
+long : (l : Inside) → length (l .loop2 .vs) ≡ length (start (outer l) .args .vs .now)
+long l = l .loop2 .inv .0 ∙ outer l .loop .inv .1
+
+meet-first-requires : tie.Need-meet-first-requires Inv-loop2 μ-loop2 Inv-loop μ-loop
+meet-first-requires c κs =
+    let t = c .before in
+    let n = read (t .before) in
+    let l = top n in
+    let f = start (outer l) in
+    let h = leaf t in
+    let b = chain-below (chain (turn n) h) in (
+      record { places = f .pre .0 .places; speeds = long l ∙ f .pre .0 .speeds; drawn = l .loop2 .inv .1 .reach },
+      among l .0,
+      reach (turn n) .0,
+      omega (arith, h),
+      omega (arith, h, b),
+    )
+
+abbrev met : tie.After-slice-known2 Inv-loop2 μ-loop2 Inv-loop μ-loop → tie.After-meet-first Inv-loop2 μ-loop2 Inv-loop μ-loop
+met c = c .before .before
+
+returns : tie.Need-returns Inv-loop2 μ-loop2 Inv-loop μ-loop
 unfolding ranOf standing zeroesWork walkAll
-returns-2 c =
-    let l = c .before .before in
-    let a = start l .args in
+returns c =
+    let p = met (c .before .before) in
+    let t = p .before .before in
+    let n = read (t .before) in
+    let l = top n in
+    let o = outer l in
+    let a = start o .args in
     let f = walkFor (a .at .now) (a .radii .now) (a .strength) in
-    let n = length (a .radii .now) in
-    let e : l .loop .i ≡ n = omega arith in
+    let k = length (a .radii .now) in
+    let r = p .meet-first .result in
+    let v = p .meet-first .last .1 .0 in
     rw (c .ended .ensures) (
       record {
-        is = left-end f n (l .loop .i) (begun (l .loop .vs) (a .draws .now) (l .loop .spent) (l .loop .seen)) (omega arith) ∙ sym (l .loop .inv .4) ∙ sym (left-first f n (begun (a .vs .now) (a .draws .now) (a .used) (a .visits)));
-        draws = l .loop .inv .2;
+        is = left-refused f k (o .loop .i) (among l .0) (found o) v (a .draws .now) (ended 8 (r .used) (l .loop2 .seen + 1))
+            (sym (turn-refused-leaf (turn n) (leaf t)
+            (λ is e b h. leaf-dry (a .at .now) (a .radii .now) (a .strength) (o .loop .i) _ (l .loop2 .inv .2 .0) is _ _ e b v (a .draws .now) r (p .meet-first .ensures .0) (c .before .if2 .taken))))
+            (λ z. omega arith)
+            ∙ sym (o .loop .inv .4) ∙ sym (left-first f k (begun (a .vs .now) (a .draws .now) (a .used) (a .visits)));
+        draws = omega (arith, p .meet-first .ensures .1, l .loop2 .inv .1, o .loop .inv .2);
         late = refl;
       },
-      subst (λ (x : ℕ). l .loop .seen ≤ a .visits + x * nodes (radiusTree (a .at .now) (a .radii .now))) e (l .loop .inv .3),
+      omega (arith, reach (turn n) .1, among l .1),
+    )
+
+loop2-again-3 : tie.Need-loop2-again-3 Inv-loop2 μ-loop2 Inv-loop μ-loop
+loop2-again-3 c =
+    let p = met (c .before) in
+    let t = p .before .before in
+    let n = read (t .before) in
+    let l = top n in
+    let a = start (outer l) .args in (
+      p .meet-first .kept .1 .0 ∙ l .loop2 .inv .0,
+      omega (arith, p .meet-first .ensures .1, l .loop2 .inv .1),
+      (
+        l .loop2 .inv .2 .0,
+        turn-leaf (turn n) (leaf t) Continue
+            (λ is e b h. leaf-on (a .at .now) (a .radii .now) (a .strength) (outer l .loop .i) _ (l .loop2 .inv .2 .0) is _ _ e b (p .meet-first .last .1 .0) (a .draws .now) (p .meet-first .result) (p .meet-first .ensures .0) (c .if2 .left)),
+      ),
+    )
+
+-- ---- the next particle
+
+loop-again : tie.Need-loop-again Inv-loop2 μ-loop2 Inv-loop μ-loop
+unfolding ranOf standing
+loop-again c =
+    let l = c .before in
+    let o = outer l in
+    let a = start o .args in
+    let g = l .loop2 .inv .2 .1 in (
+      omega (arith, among l .0),
+      long l,
+      omega (arith, l .loop2 .inv .1, o .loop .inv .2),
+      omega (arith, few g, o .loop .inv .3),
+      o .loop .inv .4
+          ∙ left-on (walkFor (a .at .now) (a .radii .now) (a .strength)) (length (a .radii .now)) (o .loop .i) (among l .0) (found o) (l .loop2 .vs) (a .draws .now) (ended 0 (l .loop2 .spent) (l .loop2 .seen))
+          (sym (finish g (omega arith))) refl,
+      g .sized,
+    )
+
+returns-2 : tie.Need-returns-2 Inv-loop2 μ-loop2 Inv-loop μ-loop
+unfolding ranOf standing zeroesWork walkAll
+returns-2 c =
+    let o = c .before .before in
+    let a = start o .args in
+    let f = walkFor (a .at .now) (a .radii .now) (a .strength) in
+    let n = length (a .radii .now) in
+    let e : o .loop .i ≡ n = omega arith in
+    rw (c .ended2 .ensures) (
+      record {
+        is = left-end f n (o .loop .i) (found o) (omega arith) ∙ sym (o .loop .inv .4) ∙ sym (left-first f n (begun (a .vs .now) (a .draws .now) (a .used) (a .visits)));
+        draws = o .loop .inv .2;
+        late = refl;
+      },
+      subst (λ (x : ℕ). o .loop .seen ≤ a .visits + x * nodes (radiusTree (a .at .now) (a .radii .now))) e (o .loop .inv .3),
     )
 
 pub walk-all-spec : {M : Type 1} → statement M
 walk-all-spec =
     tie.close
     (tie.spec
+    Inv-loop2
+    μ-loop2
     Inv-loop
     μ-loop
     (λ c κs. search needs)
     loop-holds
-    walk-for-requires
-    (λ c. c .before .before .before .before .walk-for .kept .1 .1 .1 .0 ∙ c .before .before .before .before .before .before .before .before .before .loop .inv .1)
+    (λ c κs. root-fits (start (c .before .before) .args .q .root))
+    (λ c κs. root-fits (start (c .before .before .before .before) .args .q .root))
+    loop2-holds
+    (λ c. search needs)
+    waiting-at-requires
+    add-seen
+    (λ c κs. reach (turn (c .before)) .0)
+    skips-requires
+    (λ c κs. search needs)
+    (λ c. search needs)
+    (λ c κs. reach (turn (read (c .before .before .before .before .before))) .0)
+    (λ c κs. let t = c .before .before .before .before .before .before in room (turn (read (t .before))) (inner t) (c .before .children .ensures))
+    (λ c κs. let t = c .before .before .before .before .before .before .before .before in room (turn (read (t .before))) (inner t) (c .before .before .before .children .ensures))
+    (λ c. let t = told c .before .before in falls-down (turn (read (t .before))) (inner t) (pushed c))
+    loop2-again
+    (λ c. search needs)
+    (λ c. falls (turn (read (c .before .before .before .before .before))))
+    loop2-again-2
+    meet-first-requires
+    (λ c κs. search needs)
+    (λ c. let p = met (c .before .before) in p .meet-first .kept .1 .0 ∙ long (top (read (p .before .before .before))))
     returns
-    (λ c. omega (arith, c .before .before .before .before .before .before .before .before .loop-test .taken, start (c .before .before .before .before .before .before .before .before .before) .good .1 .1 .1 .1 .0))
-    (λ c. omega (arith, c .before .before .before .before .before .before .before .before .loop-test .taken))
+    (λ c. falls (turn (read (met (c .before) .before .before .before))))
+    loop2-again-3
+    (λ c. omega (arith, among (c .before) .0, start (outer (c .before)) .good .1 .1 .1 .1 .0))
+    (λ c. omega (arith, among (c .before) .0))
     loop-again
     (λ c κs. search needs)
     (λ c. c .before .before .loop .inv .1)

@@ -2,13 +2,14 @@ use mathlib.Core.Path.{sym}
 use Prim.Native.Nat.{_<_}
 use native.Mathlib.Omega.{arith}
 use borrow.Author.Needs.{needs}
+use Rattle.walk.specs.Walk.{mostWaiting}
 use Rattle.walk.proofs.WalkStack.{above-none, above-some, slot-none, slot-some}
 use Rattle.walk.proofs.visit.push_slot.Statement.{statement}
 use Rattle.walk.proofs.visit.push_slot.Tie as tie
 
 -- a child finds room
-low : (c : tie.Else1) → c .before .args .h < 193
-low c = omega (arith, above-some (c .before .args .h) (c .before .args .child) (c .if1 .left), c .before .pre)
+low : (c : tie.Else1) → c .before .args .h < mostWaiting
+low c = omega (arith, above-some (c .before .args .h) (c .before .args .number) (c .if1 .left), c .before .pre)
 
 returns : tie.Need-returns
 returns c = (slot-none _ (c .before .args .h) _ (c .if1 .taken), sym (above-none _ _ (c .if1 .taken)))
