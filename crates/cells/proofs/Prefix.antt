@@ -9,7 +9,7 @@ use native.Mathlib.Decide.{ℕ-discrete}
 use native.Mathlib.Numerals.{add-one}
 use lib.Dec.{T, leb}
 use lib.Ieee.{Float}
-use borrow.Author.Tests.{leb-true, leb-false, le-leb}
+use borrow.Author.Tests.{leb-true, leb-false, le-leb, lt-leb}
 use Rattle.rules.specs.declared.Extent.{Extent}
 use Rattle.rules.specs.declared.Refusal.{Refusal}
 use Rattle.rules.specs.Plain.{countFrom, upTo}
@@ -83,6 +83,36 @@ first-refused f i (suc k) q e = go (f i) refl e (first-refused f (i + 1) k q)
         let (p, l, h, b) = rest e in
         (p, omega arith, h, λ j a c. elim (ℕ-discrete j i) [ yes z ↦ ap f z ∙ u | no ne ↦ b j (omega arith) c ])
     go (refused r) u e rest = (i, omega arith, u ∙ e, λ j a c. absurd (omega arith))
+
+-- ---- the check of one tree, by its levels and nodes
+
+module _ {A : Type 0} (slots i : ℕ) (t : Tree A) where
+  pub fits-fine : (fitsCheck slots i t ≡ fine) ↔ ((depth t ≤ 65) × (nodes t ≤ slots))
+  unfolding fitsCheck
+  fits-fine = (λ e. let (a, b) = tests (leb (depth t) 65) (leb (nodes t) slots) e in (leb-true (depth t) 65 a, leb-true (nodes t) slots b), λ (a, b). rw (le-leb (depth t) 65 a, le-leb (nodes t) slots b))
+    where
+      tests : (a b : Bool) → require a 6 i then require b 7 i ≡ fine → (a ≡ true) × (b ≡ true)
+      tests true true e = (refl, refl)
+      tests true false e = absurd (let z : _≡_ {A = ℕ} 0 1 = cc in omega arith)
+      tests false b e = absurd (let z : _≡_ {A = ℕ} 0 1 = cc in omega arith)
+
+  pub fits-deep : 65 < depth t → fitsCheck slots i t ≡ refused (refusal 6 i)
+  unfolding fitsCheck
+  fits-deep d = rw (lt-leb (depth t) 65 d)
+
+  pub fits-full : depth t ≤ 65 → slots < nodes t → fitsCheck slots i t ≡ refused (refusal 7 i)
+  unfolding fitsCheck
+  fits-full d n = rw (le-leb (depth t) 65 d, lt-leb (nodes t) slots n)
+
+  fits-refused : (q : Refusal) → fitsCheck slots i t ≡ refused q → ((q ≡ refusal 6 i) × (65 < depth t)) ⊎ ((q ≡ refusal 7 i) × (depth t ≤ 65) × (slots < nodes t))
+  unfolding fitsCheck
+  fits-refused q e = go (leb (depth t) 65) (leb (nodes t) slots) refl refl e
+    where
+      go : (a b : Bool) → leb (depth t) 65 ≡ a → leb (nodes t) slots ≡ b → require a 6 i then require b 7 i ≡ refused q
+          → ((q ≡ refusal 6 i) × (65 < depth t)) ⊎ ((q ≡ refusal 7 i) × (depth t ≤ 65) × (slots < nodes t))
+      go true true u v e = absurd (let z : _≡_ {A = ℕ} 0 1 = cc in omega arith)
+      go true false u v e = inr ((cc), leb-true (depth t) 65 u, leb-false (nodes t) slots v)
+      go false b u v e = inl ((cc), leb-false (depth t) 65 u)
 
 module _ (at : List Float) where
   -- ---- from a cell to the quarter that has all its points
@@ -225,25 +255,6 @@ module _ (at : List Float) where
       ]
 
   -- ---- the check of every prefix
-
-  fits-fine : (slots i : ℕ) (t : Tree Extent) → (fitsCheck slots i t ≡ fine) ↔ ((depth t ≤ 65) × (nodes t ≤ slots))
-  unfolding fitsCheck
-  fits-fine slots i t = (λ e. let (a, b) = tests (leb (depth t) 65) (leb (nodes t) slots) e in (leb-true (depth t) 65 a, leb-true (nodes t) slots b), λ (a, b). rw (le-leb (depth t) 65 a, le-leb (nodes t) slots b))
-    where
-      tests : (a b : Bool) → require a 6 i then require b 7 i ≡ fine → (a ≡ true) × (b ≡ true)
-      tests true true e = (refl, refl)
-      tests true false e = absurd (let z : _≡_ {A = ℕ} 0 1 = cc in omega arith)
-      tests false b e = absurd (let z : _≡_ {A = ℕ} 0 1 = cc in omega arith)
-
-  fits-refused : (slots i : ℕ) (t : Tree Extent) (q : Refusal) → fitsCheck slots i t ≡ refused q → ((q ≡ refusal 6 i) × (65 < depth t)) ⊎ ((q ≡ refusal 7 i) × (depth t ≤ 65) × (slots < nodes t))
-  unfolding fitsCheck
-  fits-refused slots i t q e = go (leb (depth t) 65) (leb (nodes t) slots) refl refl e
-    where
-      go : (a b : Bool) → leb (depth t) 65 ≡ a → leb (nodes t) slots ≡ b → require a 6 i then require b 7 i ≡ refused q
-          → ((q ≡ refusal 6 i) × (65 < depth t)) ⊎ ((q ≡ refusal 7 i) × (depth t ≤ 65) × (slots < nodes t))
-      go true true u v e = absurd (let z : _≡_ {A = ℕ} 0 1 = cc in omega arith)
-      go true false u v e = inr ((cc), leb-true (depth t) 65 u, leb-false (nodes t) slots v)
-      go false b u v e = inl ((cc), leb-false (depth t) 65 u)
 
   -- ==== theorems
 

@@ -3,7 +3,7 @@ use mathlib.Core.Path.{_≡_, refl, sym, ap, _∙_, subst}
 use mathlib.Core.Bool.{Bool, true, false, true≢false}
 use mathlib.Core.List.{List, [], _∷_, _++_}
 use mathlib.Core.Logic.{inl, inr}
-use Prim.Native.Nat.{ℕ, zero, suc, _+_, _-_, _*_, _^_, _≤_, _<_, max}
+use Prim.Native.Nat.{ℕ, zero, suc, _+_, _-_, _*_, _/_, _^_, _≤_, _<_, max}
 use native.Mathlib.Omega.{arith}
 use lib.Dec.{leb}
 use lib.ListN.{length, set}
@@ -12,7 +12,8 @@ use lib.Ieee.{Float}
 use Rattle.rules.specs.declared.Extent.{Extent}
 use Rattle.rules.specs.Plain.{all, upTo}
 use Rattle.rules.specs.Cell.{quarter}
-use Rattle.rules.specs.Tree.{Tree, none, leaf, node, depth, nodes, same, alike, inQuarter, pointsIn, treeIn, greatestLevel}
+use Rattle.rules.specs.Outcome.{refused, refusal, fine}
+use Rattle.rules.specs.Tree.{Tree, none, leaf, node, depth, nodes, same, alike, inQuarter, pointsIn, treeIn, fitsCheck}
 use Rattle.rules.proofs.CellList.{In, all-in, keep-in}
 use Rattle.rules.proofs.CellPoints.{same-trans, same-quarter}
 use Rattle.rules.proofs.CellCount.{leaves, Fruitful, fruitful, upTo-snoc, length-upTo}
@@ -21,12 +22,13 @@ use Rattle.rules.proofs.CellDeep.{inQuarter-own}
 use Rattle.rules.proofs.CellIs.{Is}
 use Rattle.rules.proofs.CellInsert.{insertT}
 use Rattle.rules.proofs.CellRule.{tree-whole, chains, nodes-points, insert-tree, insert-refused, insert-none, insert-same}
+use Rattle.cells.proofs.Prefix.{fits-fine, fits-deep, fits-full}
 use Rattle.slots.proofs.Trees.{cells-depth, cells-nodes, each-map}
 use Rattle.slots.specs.declared.Quadtree.{Quadtree}
 use Rattle.slots.specs.Slots.{kids, putInternal, putLeaf}
 use Rattle.slots.specs.Trees.{EachSlot, Once, inCells}
 use Rattle.leaves.specs.Leaf.{side, gap, hung}
-use Rattle.placing.specs.Add.{lead, Stored, Holds, pick, Reaches}
+use Rattle.placing.specs.Add.{lead, Stored, Holds, pick, Reaches, moreCheck}
 use Rattle.slots.proofs.Slots.{Same, same-trans as slot-trans, internal-length, internal-same, internal-tag, internal-kids, leaf-length, leaf-same, leaf-tag}
 use Rattle.placing.proofs.SlotsTree.{each-both, lead-le, over, upd, leads, upd-below, each-child, stored-over, stored-child, leads-upd, leads-small, once-out, frame}
 use Rattle.placing.proofs.AddWay.{up, up-is, side-lt, reach-all, reach-each, reach-stored, reach-once, reach-depth, plug, plug-nodes, plug-depth, Renews, plug-renews, plug-once, plug-stored, plug-cells, plug-deep}
@@ -57,10 +59,20 @@ two-levels a t0 t1 t2 t3 h = go (leb 2 (depth (node a t0 t1 t2 t3))) refl
 module _ (at : List Float) where
   -- ---- what the slots hold is the tree of the points
 
+  holds-levels : (is m : List ℕ) (q : Quadtree) → Holds at is m q → depth (treeIn at (q .extent) is) ≤ 65
+  holds-levels is m q h = subst (λ (n : ℕ). n ≤ 65) (sym (cells-depth (q .extent) (h .tree)) ∙ ap depth (h .cells)) (h .most)
+
   pub holds-is : (is m : List ℕ) (q : Quadtree) (h : Holds at is m q) → Is at (q .extent) (inCells (q .extent) (h .tree)) is
-  holds-is is m q h =
-      subst (λ (t : Tree Extent). Is at (q .extent) t is) (sym (h .cells))
-      (tree-whole at (q .extent) is (subst (λ (n : ℕ). n ≤ 65) (sym (cells-depth (q .extent) (h .tree)) ∙ ap depth (h .cells)) (h .most)))
+  holds-is is m q h = subst (λ (t : Tree Extent). Is at (q .extent) t is) (sym (h .cells)) (tree-whole at (q .extent) is (holds-levels is m q h))
+
+  -- so that tree isn't refused
+  pub holds-fits : (is m : List ℕ) (q : Quadtree) (c : Extent) (p : ℕ) → Holds at is m q → q .extent ≡ c → fitsCheck (length m / 8) p (treeIn at c is) ≡ fine
+  holds-fits is m q c p h e =
+      subst (λ (c : Extent). fitsCheck (length m / 8) p (treeIn at c is) ≡ fine) e
+      (fits-fine (length m / 8) p (treeIn at (q .extent) is) .1 (holds-levels is m q h, slots (nodes (treeIn at (q .extent) is)) (sym (ap nodes (h .cells)) ∙ cells-nodes (q .extent) (h .tree) ∙ h .count) (h .room)))
+    where
+      slots : (n : ℕ) → n ≡ q .nodes → q .nodes * 8 ≤ length m → n ≤ length m / 8
+      slots n a b = omega arith
 
   -- at most 1 + 64 slots a particle
   pub holds-few : (n : ℕ) (m : List ℕ) (q : Quadtree) → Holds at (upTo n) m q → q .nodes ≤ 1 + 64 * n
@@ -164,11 +176,11 @@ module _ (at : List Float) where
           g ∙ insert-tree at p (inCells c (h .tree)) c (upTo p) (holds-is (upTo p) m q h) z ∙ ap (treeIn at c) (sym (upTo-snoc p))
 
       -- with too few slots it is refused
-      pub next-full : length m < y * 8 → (depth (treeIn at (q .extent) (upTo (p + 1))) ≤ greatestLevel + 1) × (length m < nodes (treeIn at (q .extent) (upTo (p + 1))) * 8)
-      next-full lt = (
-        subst (λ (t : Tree Extent). depth t ≤ 65) after-cells (subst (λ (k : ℕ). k ≤ 65) (sym (cells-depth (q .extent) after)) after-most),
-        subst (λ (t : Tree Extent). length m < nodes t * 8) after-cells (subst (λ (k : ℕ). length m < k * 8) (sym (cells-nodes (q .extent) after ∙ after-nodes)) lt),
-      )
+      pub next-full : length m / 8 < y → moreCheck at m (q .extent) p ≡ refused (refusal 7 p)
+      next-full lt =
+          subst (λ (t : Tree Extent). fitsCheck (length m / 8) p t ≡ refused (refusal 7 p)) after-cells
+          (fits-full (length m / 8) p (inCells (q .extent) after) (subst (λ (k : ℕ). k ≤ 65) (sym (cells-depth (q .extent) after)) after-most)
+          (subst (λ (k : ℕ). length m / 8 < k) (sym (cells-nodes (q .extent) after ∙ after-nodes)) lt))
 
       -- once v is written, the slots hold it
       pub next-holds : (b : List ℕ) (r' : Quadtree) → Stored b v → ((j : ℕ) → j < q .nodes → (lead u ≡ j + 1 → ⊥) → Same m b j) → y * 8 ≤ length b
@@ -269,14 +281,15 @@ module _ (at : List Float) where
           greater g = omega arith
 
       -- the two stay together to the last level
-      pub too-deep : (s i : ℕ) (js : List ℕ) → Reaches at p l (q .extent) (h .tree) d (leaf s (i ∷ js)) → same at i p ≡ false → gap at p (64 - l) d i ≡ 64 - l → greatestLevel + 1 < depth (treeIn at (q .extent) (upTo (p + 1)))
-      too-deep s i js r ne e =
+      pub too-deep : (s i : ℕ) (js : List ℕ) → Reaches at p l (q .extent) (h .tree) d (leaf s (i ∷ js)) → same at i p ≡ false → gap at p (64 - l) d i ≡ 64 - l → (w : List ℕ) → moreCheck at w (q .extent) p ≡ refused (refusal 6 p)
+      too-deep s i js r ne e w =
           let c = q .extent in
           let z : l ≤ 64 = leaf-level s (i ∷ js) r in
           let f : up l (suc (64 - l)) ≡ 65 = up-is l (suc (64 - l)) ∙ levels z in
-          subst (λ (x : List ℕ). 65 < depth (treeIn at c x)) (sym (upTo-snoc p))
+          fits-deep (length w / 8) p (treeIn at c (upTo (p + 1)))
+          (subst (λ (x : List ℕ). 65 < depth (treeIn at c x)) (sym (upTo-snoc p))
           (insert-refused at p (inCells c (h .tree)) c (upTo p) (holds-is (upTo p) m q h)
-          (subst (λ (k : ℕ). k < depth (insertT at p c k (inCells c (h .tree)))) f (plug-deep at p l c (h .tree) d (leaf s (i ∷ js)) (suc (64 - l)) r (split-deep at p i js (64 - l) d d ne e))))
+          (subst (λ (k : ℕ). k < depth (insertT at p c k (inCells c (h .tree)))) f (plug-deep at p l c (h .tree) d (leaf s (i ∷ js)) (suc (64 - l)) r (split-deep at p i js (64 - l) d d ne e)))))
         where
           levels : l ≤ 64 → l + suc (64 - l) ≡ 65
           levels z = omega arith

@@ -23,14 +23,18 @@ use Rattle.placing.proofs.SlotsTree.{over, upd}
 use Rattle.placing.proofs.AddWay.{side-lt, reach-each, reach-depth}
 use Rattle.placing.proofs.AddSplit.{splitT, gap-le, split-length, split-same, split-stored}
 use Rattle.placing.proofs.AddChain.{upTo-in, in-upTo, new-linked, join-linked, chain-first}
-use Rattle.placing.proofs.AddHold.{holds-few, hole-new, leaf-new, leaf-chain, Replaces, next-full, next-holds, leaf-level, node-level, joins, hangs, splits, too-deep, joined-stored, hung-length, hung-same, hung-stored}
+use Rattle.placing.proofs.AddHold.{holds-fits, holds-few, hole-new, leaf-new, leaf-chain, Replaces, next-full, next-holds, leaf-level, node-level, joins, hangs, splits, too-deep, joined-stored, hung-length, hung-same, hung-stored}
 
 pub ranged-points : (at : List Float) (n : ℕ) → Ranged at n → Points at (upTo n)
 ranged-points at n h = points at (upTo n) (λ i m. let r = h i (in-upTo n i m) in both (within (xAt at i)) (within (yAt at i)) (r .0) (r .1))
 
+-- the slots hold the tree with p
+pub grown : (at : List Float) (m : List ℕ) (c : Extent) (p : ℕ) (q : Quadtree) → Holds at (upTo (p + 1)) m q → q .extent ≡ c → Grown at m c p (Done q)
+grown at m c p q h e = (holds-fits at (upTo (p + 1)) m q c p h e, (h, e))
+
 -- the chains beside the tree
 pub placed : (at : List Float) (m next tail : List ℕ) (c : Extent) (p : ℕ) (r : Inserted) → Grown at m c p r → Linked at next tail (p + 1) → Placed at m next tail c p r
-placed at m next tail c p (Done q) (h, e) k = (h, e, k)
+placed at m next tail c p (Done q) (f, (h, e)) k = (f, (h, e, k))
 placed at m next tail c p Deep h k = h
 placed at m next tail c p Full h k = h
 
@@ -82,7 +86,7 @@ module _ (at : List Float) (m : List ℕ) (q : Quadtree) (p : ℕ) (g : Seeks at
 
     module _ (ne : same at f p ≡ false) (k : ℕ) (ek : k ≡ gap at p (64 - l) c f) where
       pub grown-deep : k ≡ 64 - l → (w : List ℕ) → Grown at w (q .extent) p Deep
-      grown-deep e w = too-deep at p m q (h .holds) l c s f (h .rest) way ne (sym ek ∙ e)
+      grown-deep e w = too-deep at p m q (h .holds) l c s f (h .rest) way ne (sym ek ∙ e) w
 
       pub gap-most : k ≤ 64
       gap-most = omega (arith, gap-le at p (64 - l) c f)
@@ -116,14 +120,14 @@ module _ (at : List Float) (m : List ℕ) (q : Quadtree) (p : ℕ) (g : Seeks at
           pub grown-split : (w : List ℕ) (r : Quadtree) → w ≡ parted at p f k c s (q .nodes) m → r ≡ withMore q (k + 2) (l + k + 1) → Grown at w (q .extent) p (Done r)
           grown-split w r ew er =
               let v : Tree ℕ = splitT at p (f ∷ h .rest) k c s (q .nodes) in
-              let n : Quadtree = withMore q (k + 2) (l + k + 1) in (
-                subst₂ (λ (w : List ℕ) (r : Quadtree). Holds at (upTo (p + 1)) w r) (sym ew) (sym er)
-                    (next-holds at p m q (h .holds) l (64 - l) c u v (q .nodes + (k + 2)) (k + 2) way split-replaces (parted at p f k c s (q .nodes) m) n
-                    (split-stored at p (f ∷ h .rest) f k c s (q .nodes) m refl leaf-below (split-asks .room) (split-asks .small))
-                    (λ j y n. split-same at p f k c s (q .nodes) m j (λ e. n (ap (λ (i : ℕ). i + 1) (sym e))) y)
-                    (omega (arith, split-length at p f k c s (q .nodes) m)) refl refl refl (ap (max (q .deepest)) (level l k))),
-                ap (λ (r : Quadtree). r .extent) er,
-              )
+              let n : Quadtree = withMore q (k + 2) (l + k + 1) in
+              grown at w (q .extent) p r
+              (subst₂ (λ (w : List ℕ) (r : Quadtree). Holds at (upTo (p + 1)) w r) (sym ew) (sym er)
+              (next-holds at p m q (h .holds) l (64 - l) c u v (q .nodes + (k + 2)) (k + 2) way split-replaces (parted at p f k c s (q .nodes) m) n
+              (split-stored at p (f ∷ h .rest) f k c s (q .nodes) m refl leaf-below (split-asks .room) (split-asks .small))
+              (λ j y n. split-same at p f k c s (q .nodes) m j (λ e. n (ap (λ (i : ℕ). i + 1) (sym e))) y)
+              (omega (arith, split-length at p f k c s (q .nodes) m)) refl refl refl (ap (max (q .deepest)) (level l k))))
+              (ap (λ (r : Quadtree). r .extent) er)
             where
               level : (l k : ℕ) → l + k + 1 ≡ l + (k + 2) - 1
               level l k = omega arith
@@ -170,14 +174,14 @@ module _ (at : List Float) (m : List ℕ) (q : Quadtree) (p : ℕ) (g : Seeks at
       pub grown-hung : (w : List ℕ) (r : Quadtree) → w ≡ hung p m s k (q .nodes) → r ≡ withMore q 1 (l + 1) → Grown at w (q .extent) p (Done r)
       grown-hung w r ew er =
           let (own-slot, quad, room, small, new) = hang-asks in
-          let n : Quadtree = withMore q 1 (l + 1) in (
-            subst₂ (λ (w : List ℕ) (r : Quadtree). Holds at (upTo (p + 1)) w r) (sym (ew ∙ ap (λ (i : ℕ). hung p m s i (q .nodes)) (h .quadrant))) (sym er)
-                (next-holds at p m q (h .holds) l (64 - l) d t v (q .nodes + 1) 2 (h .reached) hang-replaces (hung p m s (side at p d) (q .nodes)) n
-                (hung-stored at p m q (h .holds) l d s (h .t0) (h .t1) (h .t2) (h .t3) (h .reached) room small)
-                (hung-same at p m q (h .holds) l d s (h .t0) (h .t1) (h .t2) (h .t3) (h .reached) room small (side at p d))
-                (omega (arith, fits, hung-length at p m q (h .holds) l d s (h .t0) (h .t1) (h .t2) (h .t3) (h .reached) room small (side at p d))) refl refl refl (ap (max (q .deepest)) (level l))),
-            ap (λ (r : Quadtree). r .extent) er,
-          )
+          let n : Quadtree = withMore q 1 (l + 1) in
+          grown at w (q .extent) p r
+          (subst₂ (λ (w : List ℕ) (r : Quadtree). Holds at (upTo (p + 1)) w r) (sym (ew ∙ ap (λ (i : ℕ). hung p m s i (q .nodes)) (h .quadrant))) (sym er)
+          (next-holds at p m q (h .holds) l (64 - l) d t v (q .nodes + 1) 2 (h .reached) hang-replaces (hung p m s (side at p d) (q .nodes)) n
+          (hung-stored at p m q (h .holds) l d s (h .t0) (h .t1) (h .t2) (h .t3) (h .reached) room small)
+          (hung-same at p m q (h .holds) l d s (h .t0) (h .t1) (h .t2) (h .t3) (h .reached) room small (side at p d))
+          (omega (arith, fits, hung-length at p m q (h .holds) l d s (h .t0) (h .t1) (h .t2) (h .t3) (h .reached) room small (side at p d))) refl refl refl (ap (max (q .deepest)) (level l))))
+          (ap (λ (r : Quadtree). r .extent) er)
         where
           level : (l : ℕ) → l + 1 ≡ l + 2 - 1
           level l = omega arith
@@ -198,8 +202,6 @@ module _ (at : List Float) (m next tail : List ℕ) (q : Quadtree) (p : ℕ) (g 
 
     pub placed-joined : same at f p ≡ true → (a b : List ℕ) → a ≡ set next (getD tail f 0) (p + 1) → b ≡ set tail f p → Placed at m a b (q .extent) p (Done q)
     placed-joined e a b ea eb =
-        let (less, early) = first-of at m q p (g .seeks) s l f c h in (
-          joined-holds at m q p (g .seeks) s l f c h e,
-          refl,
-          subst₂ (λ (x y : List ℕ). Linked at x y (p + 1)) (sym ea) (sym eb) (join-linked at p next tail (g .linked) alone (g .in-next) (g .in-tail) (own at m q p (g .seeks)) f less early e),
-        )
+        let (less, early) = first-of at m q p (g .seeks) s l f c h in
+        placed at m a b (q .extent) p (Done q) (grown at m (q .extent) p q (joined-holds at m q p (g .seeks) s l f c h e) refl)
+        (subst₂ (λ (x y : List ℕ). Linked at x y (p + 1)) (sym ea) (sym eb) (join-linked at p next tail (g .linked) alone (g .in-next) (g .in-tail) (own at m q p (g .seeks)) f less early e))

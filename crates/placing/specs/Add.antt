@@ -2,15 +2,16 @@
 use mathlib.Core.Path.{_≡_}
 use mathlib.Core.Bool.{true}
 use mathlib.Core.List.{List, [], _∷_}
-use Prim.Native.Nat.{ℕ, zero, suc, _+_, _-_, _*_, _^_, _≤_, _<_, max}
+use Prim.Native.Nat.{ℕ, zero, suc, _+_, _-_, _*_, _/_, _^_, _≤_, _<_, max}
 use lib.ListN.{length, getD}
 use lib.Ieee.{Float}
 use Rattle.rules.specs.declared.Extent.{Extent}
 use Rattle.rules.specs.Plain.{upTo}
 use Rattle.rules.specs.Number.{within, xAt, yAt}
 use Rattle.rules.specs.Floor.{floor}
+use Rattle.rules.specs.Outcome.{Outcome, done, refused, refusal, Check, DoneOr, DoneUnless}
 use Rattle.rules.specs.Cell.{quarter}
-use Rattle.rules.specs.Tree.{Tree, none, leaf, node, nodes, depth, treeIn, greatestLevel}
+use Rattle.rules.specs.Tree.{Tree, none, leaf, node, nodes, depth, treeIn, greatestLevel, fitsCheck}
 use Rattle.rules.proofs.CellInside.{Inside}
 use Rattle.rules.proofs.CoverTerms.{Grows}
 use Rattle.slots.specs.declared.Quadtree.{Quadtree}
@@ -120,17 +121,23 @@ Found at m q p (Hole s k l) = FoundHole at m q p s k l
 abbrev pub withMore : Quadtree → ℕ → ℕ → Quadtree
 withMore q n l = record { extent = q .extent; root = q .root; nodes = q .nodes + n; deepest = max (q .deepest) l }
 
--- The tree with p in the extent c; or 6, where it would pass the greatest level; or 7, where only slots are wanting.
-abbrev pub Grown : List Float → List ℕ → Extent → ℕ → Inserted → Type 0
-Grown at m c p (Done q) = Holds at (upTo (p + 1)) m q × (q .extent ≡ c)
-Grown at m c p Deep = greatestLevel + 1 < depth (treeIn at c (upTo (p + 1)))
-Grown at m c p Full = (depth (treeIn at c (upTo (p + 1))) ≤ greatestLevel + 1) × (length m < nodes (treeIn at c (upTo (p + 1))) * 8)
+-- What each answer to inserting p is: the tree, or document 01's number with p as its place.
+abbrev pub insertOutcome : ℕ → Inserted → Outcome Quadtree
+insertOutcome p (Done q) = done q
+insertOutcome p Deep = refused (refusal 6 p)
+insertOutcome p Full = refused (refusal 7 p)
 
--- and its chains
+-- what the rules refuse of the tree with p in the extent c, in the slots m
+abbrev pub moreCheck : List Float → List ℕ → Extent → ℕ → Check
+moreCheck at m c p = fitsCheck (length m / 8) p (treeIn at c (upTo (p + 1)))
+
+-- It is refused as the rules refuse it; otherwise the slots hold the tree with p in the extent c.
+abbrev pub Grown : List Float → List ℕ → Extent → ℕ → Inserted → Type 0
+Grown at m c p r = DoneUnless (moreCheck at m c p) (λ q. Holds at (upTo (p + 1)) m q × (q .extent ≡ c)) (insertOutcome p r)
+
+-- and its chains are linked
 abbrev pub Placed : List Float → List ℕ → List ℕ → List ℕ → Extent → ℕ → Inserted → Type 0
-Placed at m next tail c p (Done q) = Holds at (upTo (p + 1)) m q × (q .extent ≡ c) × Linked at next tail (p + 1)
-Placed at m next tail c p Deep = Grown at m c p Deep
-Placed at m next tail c p Full = Grown at m c p Full
+Placed at m next tail c p r = DoneUnless (moreCheck at m c p) (λ q. Holds at (upTo (p + 1)) m q × (q .extent ≡ c) × Linked at next tail (p + 1)) (insertOutcome p r)
 
 -- p is covered from the extent of q, in which all particles before it lie
 pub record Covers (at : List Float) (q : Quadtree) (c : Covered) (p : ℕ) : Type 0 where
@@ -164,14 +171,11 @@ pub record Wrapped (at : List Float) (m : List ℕ) (to : Extent) (p : ℕ) (r :
   pub extent : r .extent ≡ to
   pub rooted : 0 < r .root
 
--- or what refuses the tree with p
+-- or what the rules refuse of the tree with p
 abbrev pub Enlarged : List Float → List ℕ → Extent → ℕ → Inserted → Type 0
-Enlarged at m c p (Done q) = Wrapped at m c p q
-Enlarged at m c p Deep = Grown at m c p Deep
-Enlarged at m c p Full = Grown at m c p Full
+Enlarged at m c p r = DoneOr (Wrapped at m c p) (λ z. moreCheck at m c p ≡ refused z) (insertOutcome p r)
 
--- the first leaf, or no slot for it
+-- the first leaf, which is the whole tree, or what the rules refuse of it
 abbrev pub Planted : List ℕ → List ℕ → Extent → ℕ → Inserted → Type 0
-Planted m w c p (Done q) = (w ≡ putLeaf m 0 p) × (8 ≤ length m) × (q ≡ record { extent = c; root = 1; nodes = 1; deepest = 0 })
-Planted m w c p Deep = ⊥
-Planted m w c p Full = length w < 8
+Planted m w c p r =
+    DoneUnless (fitsCheck (length w / 8) p (leaf c (p ∷ []))) (λ q. (w ≡ putLeaf m 0 p) × (q ≡ record { extent = c; root = 1; nodes = 1; deepest = 0 })) (insertOutcome p r)

@@ -20,7 +20,7 @@ pub enum Stop {
     Hole(usize, usize, usize),
 }
 
-// The tree with the particle, or refusal 6, or refusal 7.
+// The tree with the particle, or refusal 6, or refusal 7: `insertOutcome` says which case is which.
 pub enum Inserted {
     Done(Quadtree),
     Deep,

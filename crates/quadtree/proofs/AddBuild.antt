@@ -2,39 +2,38 @@
 use mathlib.Core.Path.{_≡_, refl, sym, ap, _∙_, subst}
 use mathlib.Core.Bool.{true≢false}
 use mathlib.Core.List.{List, List·Memᴰ, List·Memᴰ·head, List·Memᴰ·tail}
-use Prim.Native.Nat.{ℕ, zero, suc, _+_, _-_, _*_, _/_, _≤_, _<_}
+use Prim.Native.Nat.{ℕ, zero, suc, _+_, _-_, _/_, _≤_, _<_}
 use native.Mathlib.Omega.{arith}
 use native.Mathlib.Decide.{ℕ-discrete}
 use lib.Dec.{T}
 use lib.ListN.{length}
 use lib.Ieee.{Float}
-use borrow.Author.Tests.{le-leb, lt-leb}
 use Rattle.rules.specs.declared.Extent.{Extent}
+use Rattle.rules.specs.declared.Refusal.{Refusal}
 use Rattle.rules.specs.Plain.{countFrom, upTo}
 use Rattle.rules.specs.Number.{within, xAt, yAt}
 use Rattle.rules.specs.Floor.{floor}
 use Rattle.rules.specs.Cell.{nowhere}
 use Rattle.rules.specs.Cover.{coverPoint, nothing, holds, coverAll, coverFirst, extentOf}
-use Rattle.rules.specs.Outcome.{Check, refused, refusal, fine, _>>=_, checkFrom}
-use Rattle.rules.specs.Tree.{Tree, none, leaf, node, depth, nodes, alike, treeIn, treeOf, fitsCheck, treeCheck}
+use Rattle.rules.specs.Outcome.{Check, refused, fine, _>>=_, checkFrom}
+use Rattle.rules.specs.Tree.{Tree, none, leaf, node, alike, treeIn, treeOf, fitsCheck, treeCheck}
 use Rattle.rules.proofs.CellCount.{upTo-snoc}
 use Rattle.rules.proofs.CellInside.{Inside}
 use Rattle.rules.proofs.CellIs.{Is, grow-none}
 use Rattle.rules.proofs.CellChain.{EachLeaf, Chain}
 use Rattle.slots.specs.declared.Quadtree.{Quadtree}
 use Rattle.cells.specs.declared.cover.Covered.{Covered}
-use Rattle.placing.specs.declared.Inserted.the-variants.{Done, Deep, Full}
+use Rattle.placing.specs.declared.Inserted.the-variants.{Done}
 use Rattle.slots.specs.Trees.{inCells, Follows as Chained, Stands}
 use Rattle.cells.specs.Cover.{squareOf, Reachable, Near, CoveredTo}
 use Rattle.leaves.specs.Chain.{Linked}
-use Rattle.placing.specs.Add.{lead, Holds, Ranged, Placed, Inserts}
+use Rattle.placing.specs.Add.{lead, Holds, Ranged, moreCheck, Placed, Inserts}
 use Rattle.quadtree.specs.declared.build.Built.the-variants as Built
 use Rattle.quadtree.specs.Build.{particles, Builds, Follows, Extends}
 use Rattle.cells.proofs.CoverLaws as Laws
 use Rattle.cells.proofs.Prefix.{member-less}
 use Rattle.placing.proofs.SlotsTree.{stored-leads}
 use Rattle.placing.proofs.AddChain.{chain-follows}
-use Rattle.slots.proofs.Trees.{cells-depth, cells-nodes}
 use Rattle.placing.proofs.AddHold.{holds-is, holds-chains}
 use Rattle.quadtree.proofs.AddInsert.{is-T}
 use Rattle.placing.proofs.AddPlaced.{ranged-points}
@@ -118,27 +117,9 @@ module _ (at : List Float) where
     unfolding treeOf
     tree-is c p e = ap (λ (c : Extent). treeIn at c (upTo (p + 1))) e
 
-    module _ (c : Extent) (p : ℕ) (l : p < n) (e : c ≡ extentOf (coverFirst at (p + 1))) where
-      abbrev t : Tree Extent
-      t = treeIn at c (upTo (p + 1))
-
-      fits : fitsCheck slots p t ≡ fitsCheck slots p (treeOf at (p + 1))
-      fits = ap (fitsCheck slots p) (tree-is c p e)
-
-      turn : (k : Check) → fitsCheck slots p t ≡ k → left p ≡ (k >>= λ _. left (p + 1))
-      turn k f = left-turn p l ∙ ap (λ (k : Check). k >>= λ _. left (p + 1)) (sym fits ∙ f)
-
-      pub left-fine : depth t ≤ 65 → nodes t ≤ slots → left p ≡ left (p + 1)
-      unfolding fitsCheck
-      left-fine d s = turn fine (rw (le-leb (depth t) 65 d, le-leb (nodes t) slots s))
-
-      pub left-deep : 65 < depth t → left p ≡ refused (refusal 6 p)
-      unfolding fitsCheck
-      left-deep d = turn (refused (refusal 6 p)) (rw (lt-leb (depth t) 65 d))
-
-      pub left-full : depth t ≤ 65 → slots < nodes t → left p ≡ refused (refusal 7 p)
-      unfolding fitsCheck
-      left-full d s = turn (refused (refusal 7 p)) (rw (le-leb (depth t) 65 d, lt-leb (nodes t) slots s))
+    -- what the check of p's prefix is, decides
+    turn : (c : Extent) (p : ℕ) → p < n → c ≡ extentOf (coverFirst at (p + 1)) → (k : Check) → fitsCheck slots p (treeIn at c (upTo (p + 1))) ≡ k → left p ≡ (k >>= λ _. left (p + 1))
+    turn c p l e k f = left-turn p l ∙ ap (λ (k : Check). k >>= λ _. left (p + 1)) (ap (fitsCheck slots p) (sym (tree-is c p e)) ∙ f)
 
   -- ---- the loop
 
@@ -186,30 +167,14 @@ module _ (at : List Float) where
         }
 
     module _ (c : Covered) (x : Extends at q p c) (w a d : List ℕ) (s : length w / 8 ≡ slots) where
+      decided : (k : Check) → moreCheck at w (c .extent) p ≡ k → treeCheck at (particles at) slots ≡ (k >>= λ _. left (particles at) slots (p + 1))
+      decided k f = b .check ∙ turn (particles at) slots (c .extent) p l (x .extent) k (subst (λ (n : ℕ). fitsCheck n p (treeIn at (c .extent) (upTo (p + 1))) ≡ k) s f)
+
       pub build-done : (r : Quadtree) → Placed at w a d (c .extent) p (Done r) → Building slots w a d r (p + 1)
-      build-done r (h, e, k) =
-          let t : inCells (c .extent) (h .tree) ≡ treeIn at (c .extent) (upTo (p + 1)) = subst (λ (c : Extent). inCells c (h .tree) ≡ treeIn at c (upTo (p + 1))) e (h .cells) in
-          record {
-            holds = h;
-            linked = k;
-            extent = e ∙ x .extent;
-            check =
-                b .check
-                ∙ left-fine (particles at) slots (c .extent) p l (x .extent) (subst (λ (n : ℕ). n ≤ 65) (sym (cells-depth (c .extent) (h .tree)) ∙ ap depth t) (h .most))
-                (subst (λ (n : ℕ). n ≤ slots) (sym (cells-nodes (c .extent) (h .tree) ∙ h .count) ∙ ap nodes t) (fit (h .room)));
-          }
-        where
-          fit : r .nodes * 8 ≤ length w → r .nodes ≤ slots
-          fit z = omega arith
+      build-done r (f, (h, e, k)) = record { holds = h; linked = k; extent = e ∙ x .extent; check = decided fine f }
 
-      pub build-deep : Placed at w a d (c .extent) p Deep → treeCheck at (particles at) slots ≡ refused (refusal 6 p)
-      build-deep h = b .check ∙ left-deep (particles at) slots (c .extent) p l (x .extent) h
-
-      pub build-full : Placed at w a d (c .extent) p Full → treeCheck at (particles at) slots ≡ refused (refusal 7 p)
-      build-full h = b .check ∙ left-full (particles at) slots (c .extent) p l (x .extent) (h .0) (short (h .1))
-        where
-          short : {k : ℕ} → length w < k * 8 → slots < k
-          short z = omega arith
+      pub build-refused : (r : Refusal) → moreCheck at w (c .extent) p ≡ refused r → Builds at w a (Built.Refused r)
+      build-refused r f = ap (treeCheck at (particles at)) s ∙ decided (refused r) f
 
   leaves-map : (P Q : List ℕ → Type 0) → ((js : List ℕ) → P js → Q js) → (t : Tree ℕ) → EachLeaf (λ _. P) t → EachLeaf (λ _. Q) t
   leaves-map P Q f none h = tt
@@ -237,6 +202,5 @@ module _ (at : List Float) where
       let z : p ≡ n = omega arith in
       let e : q .extent ≡ extentOf (coverFirst at n) = b .extent ∙ ap (λ (i : ℕ). extentOf (coverFirst at i)) z in (
         ap (treeCheck at n) s ∙ b .check ∙ left-end n slots p ge,
-        holds-stands n m next tail q r (subst (λ (i : ℕ). Holds at (upTo i) m q) z (b .holds)) (subst (λ (i : ℕ). Linked at next tail i) z (b .linked)) e,
-        e,
+        (holds-stands n m next tail q r (subst (λ (i : ℕ). Holds at (upTo i) m q) z (b .holds)) (subst (λ (i : ℕ). Linked at next tail i) z (b .linked)) e, e),
       )

@@ -1,7 +1,7 @@
 -- The turns of wrapping, and what an insertion with a covered extent does or refuses.
 use mathlib.Core.Path.{_≡_, refl, sym, ap, _∙_, subst, subst₂}
 use mathlib.Core.Bool.{Bool, true, false}
-use mathlib.Core.List.{List, [], _∷_}
+use mathlib.Core.List.{List, [], _∷_, _++_}
 use Prim.Native.Nat.{ℕ, suc, _+_, _-_, _*_, _/_, _≤_, _<_}
 use native.Mathlib.Omega.{arith}
 use lib.Dec.{T}
@@ -10,11 +10,13 @@ use lib.ListN.{length, getD, set, length-set}
 use lib.Seq.{getD-set-same}
 use lib.Ieee.{Float}
 use Rattle.rules.specs.declared.Extent.{Extent}
+use Rattle.rules.specs.declared.Refusal.{Refusal}
 use Rattle.rules.specs.Plain.{upTo}
 use Rattle.rules.specs.Number.{within, xAt, yAt}
 use Rattle.rules.specs.Floor.{floor}
 use Rattle.rules.specs.Cover.{Square, inside, holds, extentOf}
-use Rattle.rules.specs.Tree.{Tree, none, leaf, node, depth, nodes, treeIn, greatestLevel}
+use Rattle.rules.specs.Outcome.{refused, refusal}
+use Rattle.rules.specs.Tree.{Tree, none, leaf, node, depth, nodes, treeIn, greatestLevel, fitsCheck}
 use Rattle.rules.proofs.CoverTerms.{Grows, done, more, next}
 use Rattle.rules.proofs.CellList.{In}
 use Rattle.rules.proofs.CellInside.{Inside}
@@ -31,16 +33,17 @@ use Rattle.slots.specs.Slots.{word, putInternal, childless}
 use Rattle.slots.specs.Trees.{inCells}
 use Rattle.cells.specs.Cover.{squareOf, Near, DoubledTo}
 use Rattle.leaves.specs.Chain.{Linked}
-use Rattle.placing.specs.Add.{lead, Stored, Holds, Ranged, Seeks, Puts, Alone, Grown, Placed, Covers, Wraps, Wrapped, Planted}
+use Rattle.placing.specs.Add.{lead, Stored, Holds, Ranged, Seeks, Puts, Alone, moreCheck, Grown, Placed, Covers, Wraps, Wrapped, Planted}
 use Rattle.cells.proofs.CoverEnds.{doubled-square}
 use Rattle.cells.proofs.CoverLaws.{Lies, covered-grows}
+use Rattle.cells.proofs.Prefix.{fits-fine, fits-deep, fits-full}
 use Rattle.slots.proofs.Slots.{internal-length, internal-tag, leaf-length, leaf-tag}
 use Rattle.placing.proofs.SlotsTree.{lead-le}
 use Rattle.placing.proofs.AddChain.{upTo-in, in-upTo, begin-linked}
 use Rattle.slots.proofs.Trees.{cells-depth, cells-nodes}
 use Rattle.placing.proofs.AddHold.{holds-is}
 use Rattle.quadtree.proofs.AddWrap.{grows-none, inExtent, Internal, leaf-regrown, wrappedIn, wrap-holds, next-near, next-within, next-less, wrap-deep, wrap-full}
-use Rattle.placing.proofs.AddPlaced.{few, placed, kept}
+use Rattle.placing.proofs.AddPlaced.{grown, few, placed, kept}
 
 pub is-T : (b : Bool) → b ≡ true → T b
 is-T b e = subst T (sym e) tt
@@ -143,25 +146,29 @@ module _ (at : List Float) where
           let a : insertT at p e 65 none ≡ leaf e (p ∷ []) = insert-none at p e 65 in
           sym a ∙ insert-tree at p none e (upTo p) no-points (subst (λ (t : Tree Extent). depth t ≤ 65) (sym a) (omega arith)) ∙ ap (treeIn at e) (sym (upTo-snoc p))
 
+      first-refused : (w : List ℕ) (r : Refusal) → fitsCheck (length w / 8) p (leaf (c .extent) (p ∷ [])) ≡ refused r → moreCheck at w (c .extent) p ≡ refused r
+      first-refused w r h = subst (λ (t : Tree Extent). fitsCheck (length w / 8) p t ≡ refused r) first-cells h
+
       pub first-grown : (w : List ℕ) (r : Inserted) → Planted m w (c .extent) p r → Grown at w (c .extent) p r
-      first-grown w (Done r) (ew, room, er) = (
-        subst (Holds at (upTo (p + 1)) w) (sym er)
-            (record {
-              tree = leaf 0 (p ∷ []);
-              root = refl;
-              stored = ap (λ (w : List ℕ). word w 0 0) ew ∙ leaf-tag m 0 p (omega arith);
-              cells = first-cells;
-              most = omega arith;
-              deepest = refl;
-              count = refl;
-              below = omega arith;
-              once = tt;
-              room = omega (arith, ap length ew, leaf-length m 0 p);
-            }),
-        ap (λ (r : Quadtree). r .extent) er,
-      )
-      first-grown w Deep h = absurd h
-      first-grown w Full h = (subst (λ (t : Tree Extent). depth t ≤ 65) first-cells (omega arith), subst (λ (t : Tree Extent). length w < nodes t * 8) first-cells (omega arith))
+      first-grown w (Done r) (fits, (ew, er)) =
+          let (levels, room) = fits-fine (length w / 8) p (leaf (c .extent) (p ∷ [])) .0 fits in
+          grown at w (c .extent) p r
+          (subst (Holds at (upTo (p + 1)) w) (sym er)
+          (record {
+            tree = leaf 0 (p ∷ []);
+            root = refl;
+            stored = ap (λ (w : List ℕ). word w 0 0) ew ∙ leaf-tag m 0 p (omega (arith, ap length ew, leaf-length m 0 p));
+            cells = first-cells;
+            most = omega arith;
+            deepest = refl;
+            count = refl;
+            below = omega arith;
+            once = tt;
+            room = omega arith;
+          }))
+          (ap (λ (r : Quadtree). r .extent) er)
+      first-grown w Deep h = first-refused w (refusal 6 p) h
+      first-grown w Full h = first-refused w (refusal 7 p) h
 
     -- a leaf root
 
@@ -217,15 +224,16 @@ module _ (at : List Float) where
 
         some-deep : greatestLevel < q .deepest + c .doublings → (w : List ℕ) → Grown at w v p Deep
         some-deep l w =
-            subst (λ (x : List ℕ). 65 < depth (treeIn at v x)) (sym (upTo-snoc p))
-            (wrap-deep at p (upTo p) (in-range p before-ranged) (c .doublings - 1) e u (f .near) (all-lie p e (f .inside)) internal (holds-is at (upTo p) m q (g .holds)) v (f .covered .reachable) go (omega (arith, levels, doublings-are)))
+            fits-deep (length w / 8) p (treeIn at v (upTo (p + 1)))
+            (subst (λ (x : List ℕ). 65 < depth (treeIn at v x)) (sym (upTo-snoc p))
+            (wrap-deep at p (upTo p) (in-range p before-ranged) (c .doublings - 1) e u (f .near) (all-lie p e (f .inside)) internal (holds-is at (upTo p) m q (g .holds)) v (f .covered .reachable) go (omega (arith, levels, doublings-are))))
 
         some-full : q .deepest + c .doublings ≤ greatestLevel → length m / 8 < q .nodes + c .doublings → Grown at m v p Full
         some-full shallow l =
             let r = wrap-full at p (upTo p) (in-range p before-ranged) (c .doublings - 1) e u (f .near) (all-lie p e (f .inside)) internal (holds-is at (upTo p) m q (g .holds)) v (f .covered .reachable) go (omega (arith, levels, doublings-are)) in
-            subst (λ (x : List ℕ). (depth (treeIn at v x) ≤ 65) × (length m < nodes (treeIn at v x) * 8)) (sym (upTo-snoc p)) (r .0, more (r .1))
+            subst (λ (x : List ℕ). fitsCheck (length m / 8) p (treeIn at v x) ≡ refused (refusal 7 p)) (sym (upTo-snoc p)) (fits-full (length m / 8) p (treeIn at v (upTo p ++ (p ∷ []))) (r .0) (more (r .1)))
           where
-            more : {k : ℕ} → k ≡ nodes u + suc (c .doublings - 1) + 1 → length m < k * 8
+            more : {k : ℕ} → k ≡ nodes u + suc (c .doublings - 1) + 1 → length m / 8 < k
             more e = omega (arith, count, doublings-are)
 
       pub enlarge-deep : greatestLevel < q .deepest + c .doublings → (w : List ℕ) → Grown at w v p Deep

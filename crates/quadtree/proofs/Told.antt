@@ -27,4 +27,4 @@ module _ (at : List Float) (n : ℕ) (m next : List ℕ) (slots : ℕ) (b : Buil
   told-fine e = rw (← count-is, ← k) (subst (Builds at m next) e h .0)
 
   pub told-stands : {q : Quadtree} → b ≡ Built.Tree q → Stands at n m next q
-  told-stands {q} e = subst (λ (i : ℕ). Stands at i m next q) count-is (subst (Builds at m next) e h .1)
+  told-stands {q} e = subst (λ (i : ℕ). Stands at i m next q) count-is (subst (Builds at m next) e h .1 .0)

@@ -5,7 +5,7 @@ use Prim.Native.Nat.{ℕ, _+_, _*_, _/_, _≤_, _<_}
 use lib.ListN.{length}
 use lib.Ieee.{Float}
 use Rattle.rules.specs.Cover.{coverFirst, extentOf}
-use Rattle.rules.specs.Outcome.{refused, fine}
+use Rattle.rules.specs.Outcome.{Outcome, done, refused, DoneUnless}
 use Rattle.rules.specs.Tree.{treeCheck}
 use Rattle.slots.specs.declared.Quadtree.{Quadtree}
 use Rattle.cells.specs.declared.cover.Covered.{Covered}
@@ -25,11 +25,15 @@ pub record Lent (at : List Float) (next tail : List ℕ) : Type 0 where
   pub links : length next ≡ particles at
   pub tails : length tail ≡ particles at
 
--- The slots hold the tree of all particles, in the extent reached by covering them in order; or the earliest particle whose prefix breaks 6 or 7 is refused so, 6 if both.
+-- what each answer to building is: the tree, or the refusal
+abbrev pub buildOutcome : Built → Outcome Quadtree
+buildOutcome (Tree q) = done q
+buildOutcome (Refused r) = refused r
+
+-- It is refused as the rules refuse it: the earliest particle whose prefix breaks 6 or 7, 6 if both; otherwise the slots hold the tree of all particles, in the extent reached by covering them in order.
 abbrev pub Builds : List Float → List ℕ → List ℕ → Built → Type 0
-Builds at m next (Tree q) =
-    (treeCheck at (particles at) (length m / 8) ≡ fine) × Stands at (particles at) m next q × (q .extent ≡ extentOf (coverFirst at (particles at)))
-Builds at m next (Refused r) = treeCheck at (particles at) (length m / 8) ≡ refused r
+Builds at m next b =
+    DoneUnless (treeCheck at (particles at) (length m / 8)) (λ q. Stands at (particles at) m next q × (q .extent ≡ extentOf (coverFirst at (particles at)))) (buildOutcome b)
 
 -- a tree in the extent of the particles before p, with a root if there are any
 pub record Follows (at : List Float) (q : Quadtree) (p : ℕ) : Type 0 where

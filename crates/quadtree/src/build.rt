@@ -9,7 +9,7 @@ use rules::Extent;
 use rules::Refusal;
 use slots::Quadtree;
 
-// The tree, or refusal 6 or 7 with the particle's number as its place.
+// The tree, or refusal 6 or 7 with the particle's number as its place: `buildOutcome`.
 pub enum Built {
     Tree(Quadtree),
     Refused(Refusal),

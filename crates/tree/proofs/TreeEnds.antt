@@ -104,11 +104,11 @@ module _ {l : TreeInput} {size : ℕ} {at : List Float} {links tails : ℕ} (d :
         -- built, it can be listed
         pub can-list : length next ≡ links → Whole at n m next q (length (l .rows)) (length (l .chains))
         can-list j = record {
-          stands = rw (← half) (s .1);
+          stands = rw (← half) (s .1 .0);
           links = omega (arith, d .links);
           places = d .passed .chains;
           few = d .passed .few;
-          room = omega (arith, s .1 .room, d .passed .rows);
+          room = omega (arith, s .1 .0 .room, d .passed .rows);
         }
 
         -- and is
@@ -119,6 +119,6 @@ module _ {l : TreeInput} {size : ℕ} {at : List Float} {links tails : ℕ} (d :
             let places = placesOf (particlesOf (l .sheet)) in
             let g : treeCheck places n (slotsOf (l .work)) ≡ fine = rw (← read, ← half, ← slots) (s .0) in
             let count : q .nodes ≡ nodes (treeOf places n) =
-            sym (s .1 .count) ∙ sym (cells-nodes (q .extent) (s .1 .tree)) ∙ ap (λ (t : Tree Extent). nodes t) (s .1 .is) ∙ rw (half, read) in
-            let extent : q .extent ≡ extentOf (coverFirst places n) = s .2 ∙ rw (half, read) in
+            sym (s .1 .0 .count) ∙ sym (cells-nodes (q .extent) (s .1 .0 .tree)) ∙ ap (λ (t : Tree Extent). nodes t) (s .1 .0 .is) ∙ rw (half, read) in
+            let extent : q .extent ≡ extentOf (coverFirst places n) = s .1 .1 ∙ rw (half, read) in
             ends-listed {t = treeOf places n} (rw g) (rw (← count, ← extent) f) (rw (← read) r) (rw (← read) c) (rw (← k) w)

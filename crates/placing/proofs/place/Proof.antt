@@ -2,6 +2,7 @@ use mathlib.Core.Path.{sym, subst, _∙_}
 use native.Mathlib.Omega.{arith}
 use borrow.Author.Needs.{needs}
 use Rattle.placing.specs.declared.Stop.{Stop}
+use Rattle.placing.specs.declared.Inserted.the-variants.{Done}
 use Rattle.placing.specs.Add.{Found, FoundLeaf, FoundHole}
 use Rattle.placing.proofs.AddPlaced.{placed, few, first-of, leaf-new-point, hole-most, hole-new-point, grown-hole-full, hang-asks, grown-hung, kept, join-asks, placed-joined}
 use Rattle.placing.proofs.place.Statement.{statement}
@@ -92,13 +93,10 @@ returns-4 c =
     let h = k .before .before .before in
     let s = start (h .before .before) in
     let g = h .stop2 .given .0 in
-    let r =
-    grown-hung (s .args .at .now) (s .args .m .now) (s .args .q) (s .args .p) (s .pre .0 .seeks) (g .0) (g .1 .0) (g .1 .1 .0) (found-hole h) (λ z. e .if2 .left (k .slots .ensures ∙ z)) (w .hang .last .0) (c .more .result) (w .hang .ensures) (c .more .ensures) in (
-      r .0,
-      r .1,
-      kept (s .args .at .now) (s .args .m .now) (s .args .next .now) (s .args .tail .now) (s .args .q) (s .args .p) (s .pre .0) (s .pre .1)
-          (hole-new-point (s .args .at .now) (s .args .m .now) (s .args .q) (s .args .p) (s .pre .0 .seeks) (g .0) (g .1 .0) (g .1 .1 .0) (found-hole h)),
-    )
+    placed (s .args .at .now) (w .hang .last .0) (s .args .next .now) (s .args .tail .now) (s .args .q .extent) (s .args .p) (Done (c .more .result))
+    (grown-hung (s .args .at .now) (s .args .m .now) (s .args .q) (s .args .p) (s .pre .0 .seeks) (g .0) (g .1 .0) (g .1 .1 .0) (found-hole h) (λ z. e .if2 .left (k .slots .ensures ∙ z)) (w .hang .last .0) (c .more .result) (w .hang .ensures) (c .more .ensures))
+    (kept (s .args .at .now) (s .args .m .now) (s .args .next .now) (s .args .tail .now) (s .args .q) (s .args .p) (s .pre .0) (s .pre .1)
+    (hole-new-point (s .args .at .now) (s .args .m .now) (s .args .q) (s .args .p) (s .pre .0 .seeks) (g .0) (g .1 .0) (g .1 .1 .0) (found-hole h)))
 
 add-more : tie.Need-add-more
 add-more c =

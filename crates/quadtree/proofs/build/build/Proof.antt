@@ -3,11 +3,9 @@ use Prim.Native.Nat.{ℕ, _-_, _/_, _≤_}
 use native.Mathlib.Omega.{arith}
 use lib.ListN.{length}
 use borrow.Author.Needs.{needs}
-use Rattle.rules.specs.Tree.{treeCheck}
 use Rattle.placing.specs.declared.Inserted.{Inserted}
 use Rattle.placing.specs.Add.{Placed}
-use Rattle.quadtree.specs.Build.{particles}
-use Rattle.quadtree.proofs.AddBuild.{Building, build-start, build-follows, build-inserts, build-done, build-deep, build-full, build-end}
+use Rattle.quadtree.proofs.AddBuild.{Building, build-start, build-follows, build-inserts, build-done, build-refused, build-end}
 use Rattle.quadtree.proofs.build.build.Statement.{statement}
 use Rattle.quadtree.proofs.build.build.Tie as tie
 
@@ -59,10 +57,8 @@ returns c =
     let b = k .before .before .before .before in
     let d = b .before .before in
     let s = start d in
-    let at = s .args .at .now in
-    ap (treeCheck at (particles at)) (same-slots k)
-    ∙ build-deep at (length (s .args .m .now) / 8) (d .loop .m) (d .loop .next) (d .loop .tail) (d .loop .q) (d .loop .p) (d .loop .inv .4) (s .pre .ranged) (b .before .loop-test .taken) (b .extend .result) (b .extend .ensures)
-    (k .insert .last .0) (k .insert .last .1 .1 .0) (k .insert .last .1 .1 .1 .0) (same-slots k) (placed k _ (c .enum-told .given .1))
+    build-refused (s .args .at .now) (length (s .args .m .now) / 8) (d .loop .m) (d .loop .next) (d .loop .tail) (d .loop .q) (d .loop .p) (d .loop .inv .4) (s .pre .ranged) (b .before .loop-test .taken) (b .extend .result) (b .extend .ensures)
+    (k .insert .last .0) (k .insert .last .1 .1 .0) (k .insert .last .1 .1 .1 .0) (same-slots k) _ (placed k _ (c .enum-told .given .1))
 
 returns-2 : tie.Need-returns-2 Inv-loop μ-loop
 returns-2 c =
@@ -70,10 +66,8 @@ returns-2 c =
     let b = k .before .before .before .before in
     let d = b .before .before in
     let s = start d in
-    let at = s .args .at .now in
-    ap (treeCheck at (particles at)) (same-slots k)
-    ∙ build-full at (length (s .args .m .now) / 8) (d .loop .m) (d .loop .next) (d .loop .tail) (d .loop .q) (d .loop .p) (d .loop .inv .4) (s .pre .ranged) (b .before .loop-test .taken) (b .extend .result) (b .extend .ensures)
-    (k .insert .last .0) (k .insert .last .1 .1 .0) (k .insert .last .1 .1 .1 .0) (same-slots k) (placed k _ (c .enum-told2 .given .1))
+    build-refused (s .args .at .now) (length (s .args .m .now) / 8) (d .loop .m) (d .loop .next) (d .loop .tail) (d .loop .q) (d .loop .p) (d .loop .inv .4) (s .pre .ranged) (b .before .loop-test .taken) (b .extend .result) (b .extend .ensures)
+    (k .insert .last .0) (k .insert .last .1 .1 .0) (k .insert .last .1 .1 .1 .0) (same-slots k) _ (placed k _ (c .enum-told2 .given .1))
 
 loop-again : tie.Need-loop-again Inv-loop μ-loop
 loop-again c =
