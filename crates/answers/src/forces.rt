@@ -1,5 +1,8 @@
 // Cases of a force alone. Parts: 1 the answer; 2 where the velocities begin, alpha (Collide: its strength), iterations; 3 the places; 4 the draws; 5 the buffer and 6 the buffer after;
 // 7 and 8 the work slots; 9 the links; 10 the strengths (Collide: the radii); 11 the distances.
+use crate::DRAWS;
+use crate::SLOTS;
+use lists::MOST_LINKS;
 use number::float_of;
 use rules::Counts;
 use sample::argument;
@@ -9,6 +12,7 @@ use sample::read_numbers;
 use sample::read_words;
 use sample::same_bytes;
 use sample::same_words;
+use slots::Quadtree;
 
 fn ended_right(case: &[u8], a: Counts, buffer: &[u8], work: &[u64]) -> bool {
     let r = a.refusal;
@@ -16,7 +20,7 @@ fn ended_right(case: &[u8], a: Counts, buffer: &[u8], work: &[u64]) -> bool {
     same_words(case, 1, &answer) && same_bytes(case, 6, buffer) && same_words(case, 8, work)
 }
 
-// Only Link is lent links and distances: room for 8,193 links, one too many.
+// Only Link is lent links and distances: room for one link too many.
 fn link_is_right(
     case: &[u8],
     places: &[f64],
@@ -25,8 +29,8 @@ fn link_is_right(
     draws: &[f64],
     work: &mut [u64],
 ) -> bool {
-    let mut links_room = [0u32; 16386];
-    let mut distances_room = [0.0f64; 8193];
+    let mut links_room = [0u32; 2 * (MOST_LINKS + 1)];
+    let mut distances_room = [0.0f64; MOST_LINKS + 1];
     let links = read_halves(case, 9, &mut links_room);
     let distances = read_numbers(case, 11, &mut distances_room);
     let start = argument(case, 0) as usize;
@@ -102,13 +106,13 @@ fn run(
     }
 }
 
-// Room for 4,097 particles, one too many, and a strength for each of 8,193 links.
+// Room for one particle too many, and a strength for each of so many links.
 pub fn force_is_right(case: &[u8], kind: u64) -> bool {
-    let mut places_room = [0.0f64; 8194];
-    let mut buffer_room = [0u8; 65536];
-    let mut strengths_room = [0.0f64; 8193];
-    let mut draws_room = [0.0f64; 64];
-    let mut work_room = [0u64; 648];
+    let mut places_room = [0.0f64; 2 * (Quadtree::MOST_PARTICLES + 1)];
+    let mut buffer_room = [0u8; 16 * Quadtree::MOST_PARTICLES];
+    let mut strengths_room = [0.0f64; MOST_LINKS + 1];
+    let mut draws_room = [0.0f64; DRAWS];
+    let mut work_room = [0u64; 8 * SLOTS];
     let places = read_numbers(case, 3, &mut places_room);
     let buffer = read_bytes(case, 5, &mut buffer_room);
     let strengths = read_numbers(case, 10, &mut strengths_room);

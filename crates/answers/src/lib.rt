@@ -10,3 +10,8 @@ pub use sheets::settings;
 pub use sheets::step_ended_right;
 pub use sheets::tick_is_right;
 pub use trees::tree_is_right;
+
+// The room for draws and for work slots that a case of the sample may lend.
+pub const DRAWS: usize = 64;
+
+pub const SLOTS: usize = 81;

@@ -1,4 +1,5 @@
 // Cases of the tree. Parts: 1 the answer; 2 the sheet; 3 the rows and 4 the rows after; 5 and 6 the chains; 7 and 8 the work slots.
+use crate::SLOTS;
 use number::bits_of;
 use rules::TreeAnswer;
 use sample::read_bytes;
@@ -6,6 +7,7 @@ use sample::read_halves;
 use sample::read_words;
 use sample::same_halves;
 use sample::same_words;
+use slots::Quadtree;
 
 fn ended_right(case: &[u8], a: TreeAnswer, rows: &[u32], chains: &[u32], work: &[u64]) -> bool {
     let r = a.refusal;
@@ -30,12 +32,12 @@ fn run(case: &[u8], sheet: &[u8], rows: &mut [u32], chains: &mut [u32], work: &m
     ended_right(case, a, rows, chains, work)
 }
 
-// Room for 4,097 particles, one too many, and for 81 slots.
+// Room for one particle too many.
 pub fn tree_is_right(case: &[u8]) -> bool {
-    let mut sheet_room = [0u8; 163880];
-    let mut rows_room = [0u32; 324];
-    let mut chains_room = [0u32; 4097];
-    let mut work_room = [0u64; 648];
+    let mut sheet_room = [0u8; 40 * (Quadtree::MOST_PARTICLES + 1)];
+    let mut rows_room = [0u32; 4 * SLOTS];
+    let mut chains_room = [0u32; Quadtree::MOST_PARTICLES + 1];
+    let mut work_room = [0u64; 8 * SLOTS];
     let sheet = read_bytes(case, 2, &mut sheet_room);
     let rows = read_halves(case, 3, &mut rows_room);
     let chains = read_halves(case, 5, &mut chains_room);

@@ -2,10 +2,11 @@
 use rules::Particle;
 ghost use mathlib.Core.Path.{_≡_};
 ghost use mathlib.Core.List.{List};
-ghost use Prim.Native.Nat.{_%_, _≤_};
+ghost use Prim.Native.Nat.{_*_, _%_, _≤_};
 ghost use lib.ListN.{length};
 ghost use Rattle.rules.specs.Plain.{foldl};
 ghost use Rattle.rules.specs.Number.{_⊕_, 0·};
+ghost use Rattle.rules.specs.Refusal.{mostParticles};
 ghost use Rattle.rules.specs.Sheet.{placesOf};
 ghost use Rattle.rules.specs.Particle as Rule;
 ghost use Rattle.rules.specs.declared.Particle as P;
@@ -41,7 +42,7 @@ fn sum_axis(places: &[f64], axis: usize) -> f64
 
 // How far the mean of one axis lies from c, times the strength.
 fn offset(places: &[f64], axis: usize, c: f64, strength: f64) -> f64
-    requires { ⌜ (axis ≤ 1) × (length (now places) ≤ 8192) ⌝ }
+    requires { ⌜ (axis ≤ 1) × (length (now places) ≤ 2 * mostParticles) ⌝ }
     ensures { λ r. ⌜ r ≡ Rule.offset c strength (column axis (now (places .entry))) ⌝ }
 {
     let n = places.len() / 2;
@@ -67,7 +68,7 @@ fn shift_all(sx: f64, sy: f64, places: &mut [f64])
 
 // Of any particles with these places: no other number of a particle is looked at or changed.
 pub fn center_all(x: f64, y: f64, strength: f64, places: &mut [f64])
-    requires { ⌜ (length (now places) % 2 ≡ 0) × (length (now places) ≤ 8192) ⌝ }
+    requires { ⌜ (length (now places) % 2 ≡ 0) × (length (now places) ≤ 2 * mostParticles) ⌝ }
     ensures { λ _. ⌜ ((ps : List P.Particle) → placesOf ps ≡ now (places .entry) → now (places .exit) ≡ placesOf (Rule.centered x y strength ps)) ⌝ }
 {
     let sx = offset(places, 0, x, strength);

@@ -9,11 +9,12 @@ use lib.Ieee.{Float}
 use Rattle.rules.specs.declared.ForceEntry.{ForceEntry}
 use Rattle.rules.specs.Plain.{all, sum}
 use Rattle.rules.specs.Outcome.{fine, checkEach}
+use Rattle.rules.specs.Refusal.{mostParticles}
 use Rattle.rules.specs.Tick.{entryCounts, strengthsRight, numbersNeeded, linksNeeded, forceEnds, forcesFrom}
 
 -- few particles, iterations and links; lists as long as the entries need; every link end a particle
 pub record Fits (n : ℕ) (entries : List ForceEntry) (numbers : List Float) (links : List ℕ) : Type 0 where
-  pub few : n ≤ 4096
+  pub few : n ≤ mostParticles
   pub counts : checkEach (λ _ e. entryCounts e) entries ≡ fine
   pub lengths : all strengthsRight entries && eqb (length numbers) (sum (map (numbersNeeded n) entries)) && eqb (length links) (sum (map linksNeeded entries) * 2) ≡ true
   pub ends : checkEach (λ _ f. forceEnds n f) (forcesFrom n entries numbers links) ≡ fine

@@ -4,6 +4,7 @@ use crate::ends::all_ends;
 use crate::lengths::lengths_agree;
 use crate::ranges::all_ranges;
 use crate::ranges::settings_check;
+use lists::MOST_TICKS;
 use lists::count_check;
 use lists::draws_check;
 use lists::first;
@@ -12,6 +13,7 @@ use rules::Refusal;
 use rules::Settings;
 use sheet::records_check;
 use sheet::whole_records;
+use slots::Quadtree;
 ghost use mathlib.Core.Path.{_≡_};
 ghost use mathlib.Core.List.{[], _∷_, _++_, map};
 ghost use Prim.Native.Nat.{_*_};
@@ -28,8 +30,8 @@ fn sizes_check(sheet: &[u8], forces: &[u64; 56], ticks: u64) -> Refusal
     ensures { λ r. ⌜ r ≡ refusalOf (sizesCheck (now (sheet .entry)) (now (forces .entry)) ticks) ⌝ }
 {
     let length = whole_records(sheet);
-    let particles = count_check(4096, sheet.len() / 40);
-    let ticks = count_check(4096, ticks as usize);
+    let particles = count_check(Quadtree::MOST_PARTICLES, sheet.len() / 40);
+    let ticks = count_check(MOST_TICKS, ticks as usize);
     let counts = counts_check(forces);
     first(first(first(length, particles), ticks), counts)
 }

@@ -1,5 +1,7 @@
 // 1: too many iterations of one force, or too many links.
 use crate::entry::entry_at;
+use lists::MOST_ITERATIONS;
+use lists::MOST_LINKS;
 use lists::count_check;
 use lists::first;
 use rules::ForceEntry;
@@ -13,8 +15,8 @@ fn entry_counts(e: ForceEntry) -> Refusal
     ensures { λ r. ⌜ r ≡ refusalOf (entryCounts e) ⌝ }
 {
     let kind = e.kind;
-    let links = count_check(8192, e.links as usize);
-    let iterations = count_check(64, e.iterations as usize);
+    let links = count_check(MOST_LINKS, e.links as usize);
+    let iterations = count_check(MOST_ITERATIONS, e.iterations as usize);
     match kind {
         2 => iterations,
         3 => first(links, iterations),

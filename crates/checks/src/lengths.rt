@@ -10,6 +10,7 @@ ghost use Prim.Native.Nat.{_*_, _≤_, _<_, _^_};
 ghost use lib.Dec.{eqb};
 ghost use Rattle.rules.specs.Plain.{all, sum};
 ghost use Rattle.rules.specs.Outcome.{fine, checkEach};
+ghost use Rattle.rules.specs.Refusal.{mostParticles};
 ghost use Rattle.rules.specs.Tick.{entryCounts, strengthsRight, numbersNeeded, linksNeeded, entriesOf};
 
 // A link's strengths are none or one for each link.
@@ -69,7 +70,7 @@ fn all_links(forces: &[u64; 56]) -> usize
 
 // Of lists with so many numbers and so many link ends. No sum is made before the counts and the strengths are known to be small.
 pub fn lengths_agree(forces: &[u64; 56], n: usize, numbers: usize, links: usize) -> bool
-    requires { ⌜ (n ≤ 4096) × (checkEach (λ _ e. entryCounts e) (entriesOf (now forces)) ≡ fine) ⌝ }
+    requires { ⌜ (n ≤ mostParticles) × (checkEach (λ _ e. entryCounts e) (entriesOf (now forces)) ≡ fine) ⌝ }
     ensures { λ r. ⌜ r ≡ all strengthsRight (entriesOf (now (forces .entry))) && eqb numbers (sum (map (numbersNeeded n) (entriesOf (now (forces .entry))))) && eqb links (sum (map linksNeeded (entriesOf (now (forces .entry)))) * 2) ⌝ }
 {
     if !all_right(forces) {

@@ -3,6 +3,7 @@ use collide::collide::collide;
 use force_call::input_lengths;
 use force_call::refused;
 use force_call::settle;
+use lists::MOST_ITERATIONS;
 use lists::count_check;
 use lists::distances_check;
 use lists::draws_check;
@@ -12,6 +13,7 @@ use lists::points_check;
 use lists::setting_check;
 use rules::Counts;
 use rules::Refusal;
+use slots::Quadtree;
 ghost use mathlib.Core.Path.{_≡_};
 ghost use mathlib.Core.Bool.{true, _&&_};
 ghost use mathlib.Core.List.{[]};
@@ -45,8 +47,8 @@ fn lent_check(
     ensures { λ r. ⌜ r ≡ refusalOf (lentCheck (lent (now (places .entry)) (now (buffer .entry)) start [] []) (Force.collide (now (radii .entry)) 0· iterations) true) ⌝ }
 {
     let counts = first(
-        count_check(4096, places.len() / 2),
-        count_check(64, iterations),
+        count_check(Quadtree::MOST_PARTICLES, places.len() / 2),
+        count_check(MOST_ITERATIONS, iterations),
     );
     let lengths = lengths_check(lengths_agree(places, buffer, start, radii));
     first(counts, lengths)
@@ -123,9 +125,9 @@ fn with_lists(
 {
     let pairs = places.len();
     let n = pairs / 2;
-    let mut speeds = [0.0f64; 8192];
-    let mut next = [0u32; 4096];
-    let mut tail = [0u32; 4096];
+    let mut speeds = [0.0f64; 2 * Quadtree::MOST_PARTICLES];
+    let mut next = [0u32; Quadtree::MOST_PARTICLES];
+    let mut tail = [0u32; Quadtree::MOST_PARTICLES];
     on_part(
         places,
         part,

@@ -9,16 +9,16 @@ use Rattle.rules.specs.declared.ForceEntry.{ForceEntry}
 use Rattle.rules.specs.Plain.{all}
 use Rattle.rules.specs.Outcome.{Outcome, done, refusal, fine, _>>=_, _then_, refusalOf, zeroesWork}
 use Rattle.rules.specs.Number.{within}
-use Rattle.rules.specs.Refusal.{resultCheck}
+use Rattle.rules.specs.Refusal.{mostParticles, resultCheck}
 use Rattle.rules.specs.Tick.{State, state, entryCounts, strengthsRight, numbersNeeded, linksNeeded, forceOf, forceEnds}
 use Rattle.force.specs.declared.Ran.{Ran}
 use Rattle.force.specs.Draws.{From}
 use Rattle.force.specs.Ran.{standing}
 use Rattle.closing.specs.Columns.{particlesFrom}
 
--- n particles, at most 4,096 and none further than 2 ^ 40 from zero: places and speeds in pairs; and no draw used past the last
+-- n particles, not too many and none further than 2 ^ 40 from zero: places and speeds in pairs; and no draw used past the last
 pub record Columns (at vs ds : List Float) (n used : ℕ) : Type 0 where
-  pub few : n ≤ 4096
+  pub few : n ≤ mostParticles
   pub places : length at ≡ n * 2
   pub speeds : length vs ≡ n * 2
   pub ranged : all within at ≡ true

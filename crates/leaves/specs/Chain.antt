@@ -6,6 +6,7 @@ use mathlib.Core.Logic.{_⊎_}
 use Prim.Native.Nat.{ℕ, _+_, _≤_, _<_}
 use lib.ListN.{length, getD}
 use lib.Ieee.{Float}
+use Rattle.rules.specs.Refusal.{mostParticles}
 use Rattle.rules.specs.Tree.{same}
 
 module _ (at : List Float) where
@@ -35,4 +36,4 @@ module _ (at : List Float) where
 pub record Chains (next tail : List ℕ) (f p : ℕ) : Type 0 where
   pub first : f < length tail
   pub last : getD tail f 0 < length next
-  pub few : p < 4096
+  pub few : p < mostParticles

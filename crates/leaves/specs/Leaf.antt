@@ -6,6 +6,7 @@ use lib.Ieee.{Float}
 use Rattle.rules.specs.declared.Extent.{Extent}
 use Rattle.rules.specs.Plain.{branch}
 use Rattle.rules.specs.Number.{xAt, yAt}
+use Rattle.rules.specs.Refusal.{mostParticles}
 use Rattle.rules.specs.Cell.{quadrant, quarter}
 use Rattle.rules.specs.Tree.{inQuarter}
 use Rattle.slots.specs.Slots.{childless, kids, putInternal, putLeaf}
@@ -40,15 +41,15 @@ pub record Forks (size s j k x f p : ℕ) : Type 0 where
   pub new-quadrant : k < 4
   pub room : (x + 2) * 8 ≤ size
   pub small : x + 2 < 2 ^ 32
-  pub first : f < 4096
-  pub new : p < 4096
+  pub first : f < mostParticles
+  pub new : p < mostParticles
 
 -- what a split asks of its slots and particles
 pub record Splits (size places s x g f p : ℕ) : Type 0 where
   pub own : s * 8 + 8 ≤ size
   pub room : (x + g + 2) * 8 ≤ size
   pub small : x + g + 2 < 2 ^ 32
-  pub first : f < 4096
-  pub new : p < 4096
+  pub first : f < mostParticles
+  pub new : p < mostParticles
   pub first-place : f * 2 + 2 ≤ places
   pub new-place : p * 2 + 2 ≤ places

@@ -2,11 +2,12 @@
 ghost use mathlib.Core.Path.{_≡_};
 ghost use Prim.Native.Nat.{_+_, _<_};
 ghost use lib.ListN.{length, getD, set};
+ghost use Rattle.rules.specs.Refusal.{mostParticles};
 ghost use Rattle.leaves.specs.Chain.{Chains};
 
 // A chain of p alone.
 pub fn begin(next: &mut [u32], tail: &mut [u32], p: usize)
-    requires { ⌜ (p < length (now next)) × (p < length (now tail)) × (p < 4096) ⌝ }
+    requires { ⌜ (p < length (now next)) × (p < length (now tail)) × (p < mostParticles) ⌝ }
     ensures { λ _. ⌜ (now (next .exit) ≡ set (now (next .entry)) p 0) × (now (tail .exit) ≡ set (now (tail .entry)) p p) ⌝ }
 {
     next[p] = 0;

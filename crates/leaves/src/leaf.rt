@@ -2,6 +2,7 @@
 ghost use mathlib.Core.Path.{_≡_};
 ghost use Prim.Native.Nat.{_+_, _*_, _^_, _≤_, _<_};
 ghost use lib.ListN.{length};
+ghost use Rattle.rules.specs.Refusal.{mostParticles};
 ghost use Rattle.leaves.specs.Leaf.{hung, gap, forked, parted, Forks, Splits};
 use crate::point;
 use cells::indexer::Indexer;
@@ -33,7 +34,7 @@ pub fn meet(at: &[f64], cell: Extent, most: usize, f: usize, p: usize) -> usize
 
 // A leaf of p in slot x, as child k of slot s.
 pub fn hang(m: &mut [u64], s: usize, k: usize, x: usize, p: usize)
-    requires { ⌜ (s * 8 + 8 ≤ length (now m)) × (k < 4) × ((x + 1) * 8 ≤ length (now m)) × (x + 1 < 2 ^ 32) × (p < 4096) ⌝ }
+    requires { ⌜ (s * 8 + 8 ≤ length (now m)) × (k < 4) × ((x + 1) * 8 ≤ length (now m)) × (x + 1 < 2 ^ 32) × (p < mostParticles) ⌝ }
     ensures { λ _. ⌜ now (m .exit) ≡ hung p (now (m .entry)) s k x ⌝ }
 {
     let mut children = store::children(m, s);

@@ -5,13 +5,14 @@ use Prim.Native.Nat.{ℕ, _*_, _/_, _%_, _≤_, _<_}
 use lib.ListN.{length, getD}
 use lib.Ieee.{Float}
 use Rattle.rules.specs.Plain.{upTo}
+use Rattle.rules.specs.Refusal.{mostLinks}
 use Rattle.rules.specs.Link.{Ends, countEnds}
 use Rattle.rules.specs.Force.{endsOf}
 
--- link ends in pairs, at most 8,192 links, each end one of n particles
+-- link ends in pairs, few links, each end one of n particles
 pub record EndsLent (n : ℕ) (links : List ℕ) : Type 0 where
   pub whole : length links % 2 ≡ 0
-  pub few : length links ≤ 16384
+  pub few : length links ≤ 2 * mostLinks
   pub range : (j : ℕ) → j < length links → getD links j 0 < n
 
 -- a distance for each link, and a strength for each or none at all

@@ -6,6 +6,7 @@ use force::push_on;
 use force::shaken;
 use number::wide;
 use rules::Refusal;
+use slots::Quadtree;
 use square_root::root;
 use tally::bias;
 use tally::count_link;
@@ -16,6 +17,7 @@ ghost use Prim.Native.Nat.{_+_, _*_, _/_, _%_, _≤_, _<_};
 ghost use lib.ListN.{length, getD, drop};
 ghost use lib.Ieee.{nan};
 ghost use Rattle.rules.specs.Number.{_⊕_, _⊖_, _⊗_, _⊘_, 1·};
+ghost use Rattle.rules.specs.Refusal.{mostParticles};
 ghost use Rattle.rules.specs.Root as Root;
 ghost use Rattle.rules.specs.Flow.{flow, gap, length², pushed};
 ghost use Rattle.rules.specs.Link as Link;
@@ -247,11 +249,11 @@ pub fn link(
     used: usize,
     visits: u64,
 ) -> Ran
-    requires { ⌜ EndsLent (length (now vs) / 2) (now links) × ListsLent (now links) (now strengths) (now distances) × (length (now at) ≡ length (now vs)) × (length (now vs) % 2 ≡ 0) × (length (now vs) ≤ 8192) × (used ≤ length (now draws)) ⌝ }
+    requires { ⌜ EndsLent (length (now vs) / 2) (now links) × ListsLent (now links) (now strengths) (now distances) × (length (now at) ≡ length (now vs)) × (length (now vs) % 2 ≡ 0) × (length (now vs) ≤ 2 * mostParticles) × (used ≤ length (now draws)) ⌝ }
     ensures { λ r. ⌜ Runs (now (vs .exit)) (now (draws .entry)) used r (visited visits (Link.runLink (now (at .entry)) (endsOf (now (links .entry))) (now (strengths .entry)) (now (distances .entry)) iterations alpha (flow (now (vs .entry)) (drop used (now (draws .entry)))))) ⌝ }
 {
     let n = vs.len() / 2;
-    let mut counts = [0u32; 4096];
+    let mut counts = [0u32; Quadtree::MOST_PARTICLES];
     iterate(
         at,
         vs,

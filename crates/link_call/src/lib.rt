@@ -3,6 +3,8 @@ use force_call::input_lengths;
 use force_call::refused;
 use force_call::settle;
 use link::link::link;
+use lists::MOST_ITERATIONS;
+use lists::MOST_LINKS;
 use lists::count_check;
 use lists::distances_check;
 use lists::draws_check;
@@ -14,6 +16,7 @@ use lists::setting_check;
 use lists::strengths_check;
 use rules::Counts;
 use rules::Refusal;
+use slots::Quadtree;
 ghost use mathlib.Core.Path.{_≡_};
 ghost use mathlib.Core.Bool.{_&&_};
 ghost use mathlib.Core.List.{[], _∷_};
@@ -66,10 +69,10 @@ fn lent_check(
     ensures { λ r. ⌜ r ≡ refusalOf (lentCheck (lent (now (places .entry)) (now (buffer .entry)) start [] []) (Force.link (endsOf (now (links .entry))) (now (strengths .entry)) (now (distances .entry)) iterations) (eqb (length (now (links .entry)) % 2) 0)) ⌝ }
 {
     let n = places.len() / 2;
-    let particles = count_check(4096, n);
+    let particles = count_check(Quadtree::MOST_PARTICLES, n);
     let counts = first(
-        count_check(8192, links.len() / 2),
-        count_check(64, iterations),
+        count_check(MOST_LINKS, links.len() / 2),
+        count_check(MOST_ITERATIONS, iterations),
     );
     let lengths = lengths_check(lengths_agree(places, buffer, start, links, strengths, distances));
     first(
@@ -151,7 +154,7 @@ fn with_speeds(
     ensures { λ r. ⌜ Answered (lent (now (places .entry)) (now (part .entry)) 0 (now (draws .entry)) (now (work .entry))) (linkResult (lent (now (places .entry)) (now (part .entry)) 0 (now (draws .entry)) (now (work .entry))) (now (links .entry)) (now (strengths .entry)) (now (distances .entry)) iterations alpha) r (now (part .exit)) (now (work .exit)) ⌝ }
 {
     let n = places.len();
-    let mut speeds = [0.0f64; 8192];
+    let mut speeds = [0.0f64; 2 * Quadtree::MOST_PARTICLES];
     on_part(
         places,
         part,

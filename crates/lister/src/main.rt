@@ -2,6 +2,8 @@
 ghost use mathlib.Core.Path.{_≡_};
 ghost use Prim.Native.Nat.{_^_, _≤_, min};
 ghost use lib.ListN.{length};
+ghost use Rattle.listing.specs.Input.{keptBytes};
+use listing::KEPT_BYTES;
 
 // Reads on, and answers how many bytes came: 0 at the end.
 fn read_on() -> usize
@@ -29,19 +31,19 @@ fn count_rest() -> usize
 }
 
 // The input's length, where the first read brought n bytes. A bad length is told before too many records, so the length must be known though
-// no more than 512 records are kept.
+// no more bytes are kept than those of the records that are listed.
 fn total_of(n: usize) -> usize
-    requires { ⌜ n ≤ 20480 ⌝ }
-    ensures { λ r. ⌜ n ≡ min r 20480 ⌝ }
+    requires { ⌜ n ≤ keptBytes ⌝ }
+    ensures { λ r. ⌜ n ≡ min r keptBytes ⌝ }
 {
-    if n < 20480 {
+    if n < KEPT_BYTES {
         return n;
     }
     n + count_rest()
 }
 
 fn list_input(kept: &mut [u8], out: &mut [u8])
-    requires { ⌜ (length (now kept) ≡ 20480) × (length (now out) ≡ 16384) ⌝ }
+    requires { ⌜ (length (now kept) ≡ keptBytes) × (length (now out) ≡ 16384) ⌝ }
 {
     let n = io::read_full(0, kept);
     let total = total_of(n);
@@ -50,7 +52,7 @@ fn list_input(kept: &mut [u8], out: &mut [u8])
 }
 
 fn main() {
-    let mut kept = [0u8; 20480];
+    let mut kept = [0u8; KEPT_BYTES];
     let mut out = [0u8; 16384];
     list_input(&mut kept, &mut out);
 }

@@ -1,6 +1,7 @@
 -- How much of its input the lister keeps. Definitions only.
-use Prim.Native.Nat.{ℕ}
+use Prim.Native.Nat.{ℕ, _*_}
+use Rattle.rules.specs.Listing.{mostListed}
 
--- 512 records
+-- the records that are listed, 40 bytes each
 abbrev pub keptBytes : ℕ
-keptBytes = 20480
+keptBytes = 40 * mostListed

@@ -4,6 +4,7 @@ mod lines;
 mod list;
 mod text;
 
+pub use input::KEPT_BYTES;
 pub use input::list_sheet;
 pub use lines::put_refused;
 pub use list::write_listing;

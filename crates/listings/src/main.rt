@@ -2,11 +2,10 @@
 ghost use mathlib.Core.Path.{_≡_};
 ghost use Prim.Native.Nat.{_+_, _≤_, min};
 ghost use lib.ListN.{length};
+ghost use Rattle.listing.specs.Input.{keptBytes};
+use listing::KEPT_BYTES;
 use number::bits_of;
 use words::put_word;
-
-// The room for a sheet: 512 records.
-const ROOM: usize = 20480;
 
 // Where pairs of words of the second record stand: its place, its velocity, and its vy and flags.
 const PLACE: usize = 40;
@@ -31,7 +30,7 @@ const INFINITE: u64 = 0x7ff0_0000_0000_0000;
 const NAN: u64 = 0x7ff8_0000_0000_0000;
 
 fn show(name: &[u8], kept: &[u8], total: usize)
-    requires { ⌜ length (now kept) ≡ min total 20480 ⌝ }
+    requires { ⌜ length (now kept) ≡ min total keptBytes ⌝ }
 {
     let mut out = [0u8; 16384];
     io::write_all(1, name);
@@ -41,7 +40,7 @@ fn show(name: &[u8], kept: &[u8], total: usize)
 
 // The sheet's first bytes.
 fn show_first(name: &[u8], sheet: &[u8], total: usize)
-    requires { ⌜ (total ≤ 20480) × (length (now sheet) ≡ 20480) ⌝ }
+    requires { ⌜ (total ≤ keptBytes) × (length (now sheet) ≡ keptBytes) ⌝ }
 {
     show(name, &sheet[..total], total);
 }
@@ -55,16 +54,16 @@ fn put_two(sheet: &mut [u8], at: usize, first: u64, second: u64)
 
 // A sheet of so many bytes, all zeros but for two words from a byte on.
 fn show_two(name: &[u8], total: usize, at: usize, first: u64, second: u64)
-    requires { ⌜ (total ≤ 20480) × (at + 16 ≤ 20480) ⌝ }
+    requires { ⌜ (total ≤ keptBytes) × (at + 16 ≤ keptBytes) ⌝ }
 {
-    let mut sheet = [0u8; ROOM];
+    let mut sheet = [0u8; KEPT_BYTES];
     put_two(&mut sheet, at, first, second);
     show_first(name, &sheet, total);
 }
 
 // (4i, 0) and (4i, 2^-50) for i below 22: each pair takes some fifty nodes of its own.
 fn put_pairs(sheet: &mut [u8])
-    requires { ⌜ length (now sheet) ≡ 20480 ⌝ }
+    requires { ⌜ length (now sheet) ≡ keptBytes ⌝ }
 {
     let mut x = 0.0;
     let mut i: usize = 0;
@@ -78,7 +77,7 @@ fn put_pairs(sheet: &mut [u8])
 }
 
 fn show_limits() {
-    let mut sheet = [0u8; ROOM];
+    let mut sheet = [0u8; KEPT_BYTES];
     show(b"513 records\n", &sheet, 20520);
     put_pairs(&mut sheet);
     show_first(b"too many nodes\n", &sheet, 1760);

@@ -1,4 +1,4 @@
-// The checks of the lists that a force is lent, and of what it leaves. Number 0 at place 0 where nothing is refused.
+// The checks of the lists that a force is lent and of what it leaves, and the limits behind refusal 1. Number 0 at place 0 where nothing is refused.
 use number::distance_range;
 use number::draw_range;
 use number::is_finite;
@@ -17,6 +17,13 @@ ghost use Rattle.rules.specs.Refusal.{strengthsCheck, distancesCheck, drawsChec
 ghost use Rattle.rules.specs.Link.{ends};
 ghost use Rattle.rules.specs.Force.{endsOf, endsRange};
 ghost use Rattle.lists.specs.Checks.{inRange, pairCheck, pairsCheck, coordinatesCheck, velocitiesCheck, firstOf};
+
+// What refusal 1 allows beside `Quadtree::MOST_PARTICLES`: links of one Link force, ticks of one step, iterations of one force.
+pub const MOST_LINKS: usize = 8192;
+
+pub const MOST_TICKS: usize = 4096;
+
+pub const MOST_ITERATIONS: usize = 64;
 
 // What a number of a list is to be.
 enum Range {

@@ -13,6 +13,7 @@ use many_body::many_body::many_body;
 use many_body::standard;
 use rules::Counts;
 use rules::Refusal;
+use slots::Quadtree;
 ghost use mathlib.Core.Path.{_≡_};
 ghost use mathlib.Core.Bool.{true, _&&_};
 ghost use mathlib.Core.List.{[], _∷_};
@@ -38,7 +39,7 @@ fn lent_check(places: &[f64], buffer: &[u8], start: usize, strengths: &[f64]) ->
     ensures { λ r. ⌜ r ≡ refusalOf (lentCheck (lent (now (places .entry)) (now (buffer .entry)) start [] []) (manyBody (now (strengths .entry))) true) ⌝ }
 {
     first(
-        count_check(4096, places.len() / 2),
+        count_check(Quadtree::MOST_PARTICLES, places.len() / 2),
         lengths_check(lengths_agree(places, buffer, start, strengths)),
     )
 }
@@ -113,9 +114,9 @@ fn with_lists(
 {
     let pairs = places.len();
     let n = places.len() / 2;
-    let mut speeds = [0.0f64; 8192];
-    let mut next = [0u32; 4096];
-    let mut tail = [0u32; 4096];
+    let mut speeds = [0.0f64; 2 * Quadtree::MOST_PARTICLES];
+    let mut next = [0u32; Quadtree::MOST_PARTICLES];
+    let mut tail = [0u32; Quadtree::MOST_PARTICLES];
     on_part(
         places,
         part,

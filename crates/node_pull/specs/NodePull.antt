@@ -6,15 +6,16 @@ use Prim.Native.Nat.{ℕ, _*_, _≤_}
 use lib.ListN.{length, drop}
 use lib.Ieee.{Float}
 use Rattle.rules.specs.Outcome.{Outcome, done, refused, refusal}
+use Rattle.rules.specs.Refusal.{mostParticles}
 use Rattle.rules.specs.Walk.{After, after}
 use Rattle.rules.specs.Flow.{Flow, flow}
 use Rattle.node_pull.specs.declared.Met.{Met}
 
 -- ---- what is lent
 
--- places, velocities and links for at most 4,096 particles
+-- places, velocities and links for not too many particles
 pub record Bodies (at vs strengths : List Float) (next : List ℕ) : Type 0 where
-  pub few : length strengths ≤ 4096
+  pub few : length strengths ≤ mostParticles
   pub places : length at ≡ length strengths * 2
   pub speeds : length vs ≡ length strengths * 2
   pub links : length next ≡ length strengths

@@ -14,6 +14,7 @@ ghost use mathlib.Core.Path.{_≡_};
 ghost use mathlib.Core.List.{[]};
 ghost use Prim.Native.Nat.{ℕ, _+_, _*_, _-_, _≤_, _<_};
 ghost use lib.ListN.{length, drop};
+ghost use Rattle.rules.specs.Refusal.{mostParticles};
 ghost use Rattle.rules.specs.Flow.{gap, flow};
 ghost use Rattle.rules.specs.ManyBody as Rule;
 ghost use Rattle.rules.specs.Walk.{internal, tip};
@@ -106,7 +107,7 @@ fn act_near(
     draws: &[f64],
     used: usize,
 ) -> Spent
-    requires { ⌜ (i * 2 + 1 < length (now vs)) × Chain (now next) (length (now strengths)) f × (length (now next) ≡ length (now strengths)) × (length (now strengths) ≤ 4096) × (used ≤ length (now draws)) ⌝ }
+    requires { ⌜ (i * 2 + 1 < length (now vs)) × Chain (now next) (length (now strengths)) f × (length (now next) ≡ length (now strengths)) × (length (now strengths) ≤ mostParticles) × (used ≤ length (now draws)) ⌝ }
     ensures is { λ r. ⌜ ((h : Chain (now (next .entry)) (length (now (strengths .entry))) f) → spentOf (now (vs .exit)) (now (draws .entry)) r ≡ Rule.actNear t (now (strengths .entry)) alpha i (h .members) (gap x y) l (flow (now (vs .entry)) (drop used (now (draws .entry))))) ⌝ }
     ensures from { λ r. ⌜ From (now (draws .entry)) used (r .used) ⌝ }
 {

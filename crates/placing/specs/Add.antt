@@ -10,6 +10,7 @@ use Rattle.rules.specs.Plain.{upTo}
 use Rattle.rules.specs.Number.{within, xAt, yAt}
 use Rattle.rules.specs.Floor.{floor}
 use Rattle.rules.specs.Outcome.{Outcome, done, refused, refusal, Check, DoneOr, DoneUnless}
+use Rattle.rules.specs.Refusal.{mostParticles}
 use Rattle.rules.specs.Cell.{quarter}
 use Rattle.rules.specs.Tree.{Tree, none, leaf, node, nodes, depth, treeIn, greatestLevel, fitsCheck}
 use Rattle.rules.proofs.CellInside.{Inside}
@@ -81,7 +82,7 @@ Ranged at n = (i : ℕ) → i < n → (within (xAt at i) ≡ true) × (within (y
 pub record Seeks (at : List Float) (m : List ℕ) (q : Quadtree) (p : ℕ) : Type 0 where
   pub holds : Holds at (upTo p) m q
   pub ranged : Ranged at (p + 1)
-  pub few : p < 4096
+  pub few : p < mostParticles
   pub read : p * 2 + 2 ≤ length at
 
 -- and the chains of those particles, with room for p

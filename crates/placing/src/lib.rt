@@ -1,8 +1,9 @@
 // A particle goes into a tree whose extent holds it, after src/quadtree/add.rs of fjadra. Where it ends is found by reading alone.
 ghost use mathlib.Core.Path.{_≡_};
 ghost use mathlib.Core.Bool.{false};
-ghost use Prim.Native.Nat.{_≤_, _<_, max};
-ghost use Rattle.rules.specs.Tree.{same};
+ghost use Prim.Native.Nat.{_+_, _*_, _≤_, _<_, max};
+ghost use Rattle.rules.specs.Refusal.{mostParticles};
+ghost use Rattle.rules.specs.Tree.{same, greatestLevel};
 ghost use Rattle.placing.specs.Add.{withMore, Seeks, Alone, Found, Puts, FoundLeaf, Grown, Placed};
 use cells::indexer::Indexer;
 use leaves::chain;
@@ -66,7 +67,7 @@ fn find(m: &[u64], at: &[f64], q: Quadtree, p: usize) -> Stop
 
 // The tree with as many nodes more, one of them of that level.
 fn more(q: Quadtree, nodes: usize, level: usize) -> Quadtree
-    requires { ⌜ (q .nodes ≤ 262144) × (nodes ≤ 66) ⌝ }
+    requires { ⌜ (q .nodes ≤ greatestLevel * mostParticles) × (nodes ≤ greatestLevel + 2) ⌝ }
     ensures { λ r. ⌜ r ≡ withMore q nodes level ⌝ }
 {
     let extent = q.extent;

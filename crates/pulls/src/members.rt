@@ -6,6 +6,7 @@ ghost use mathlib.Core.Path.{_≡_};
 ghost use mathlib.Core.List.{[], _∷_};
 ghost use Prim.Native.Nat.{_+_, _*_, _≤_, _<_};
 ghost use lib.ListN.{length};
+ghost use Rattle.rules.specs.Refusal.{mostParticles};
 ghost use Rattle.rules.specs.Flow.{gap};
 ghost use Rattle.rules.specs.ManyBody as Rule;
 ghost use Rattle.rules.specs.declared.Tuning as T;
@@ -44,7 +45,7 @@ pub fn pull_members(
     next: &[u32],
     f: usize,
 )
-    requires { ⌜ (i * 2 + 1 < length (now vs)) × Chain (now next) (length (now strengths)) f × (length (now next) ≡ length (now strengths)) × (length (now strengths) ≤ 4096) ⌝ }
+    requires { ⌜ (i * 2 + 1 < length (now vs)) × Chain (now next) (length (now strengths)) f × (length (now next) ≡ length (now strengths)) × (length (now strengths) ≤ mostParticles) ⌝ }
     ensures { λ _. ⌜ ((t : T.Tuning) (h : Chain (now (next .entry)) (length (now (strengths .entry))) f) → now (vs .exit) ≡ Rule.pullMembers t (now (strengths .entry)) alpha i (h .members) (gap x y) l (now (vs .entry))) ⌝ }
 {
     let mut link = (f + 1) as u32;

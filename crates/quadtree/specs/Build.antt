@@ -6,6 +6,7 @@ use lib.ListN.{length}
 use lib.Ieee.{Float}
 use Rattle.rules.specs.Cover.{coverFirst, extentOf}
 use Rattle.rules.specs.Outcome.{Outcome, done, refused, DoneUnless}
+use Rattle.rules.specs.Refusal.{mostParticles}
 use Rattle.rules.specs.Tree.{treeCheck}
 use Rattle.slots.specs.declared.Quadtree.{Quadtree}
 use Rattle.cells.specs.declared.cover.Covered.{Covered}
@@ -18,10 +19,10 @@ use Rattle.placing.specs.Add.{Ranged, Covers}
 abbrev pub particles : List Float → ℕ
 particles at = length at / 2
 
--- at most 4,096 particles within 2 ^ 40 of zero, and a link and a tail for each
+-- not too many particles, within 2 ^ 40 of zero, and a link and a tail for each
 pub record Lent (at : List Float) (next tail : List ℕ) : Type 0 where
   pub ranged : Ranged at (particles at)
-  pub few : particles at ≤ 4096
+  pub few : particles at ≤ mostParticles
   pub links : length next ≡ particles at
   pub tails : length tail ≡ particles at
 

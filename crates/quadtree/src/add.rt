@@ -1,5 +1,6 @@
 // add.rs: a particle goes into the tree, which first grows until its extent holds it.
 ghost use Prim.Native.Nat.{_<_};
+ghost use Rattle.rules.specs.Refusal.{mostParticles};
 ghost use Rattle.placing.specs.Add.{Seeks, Placed, Covers, Wraps, Wrapped, Enlarged, Planted, Inserts};
 use cells::cover;
 use cells::cover::Covered;
@@ -64,7 +65,7 @@ fn enlarge(m: &mut [u64], at: &[f64], q: Quadtree, covered: Covered, p: usize) -
 
 // A leaf of p as the root of a tree that has none.
 fn plant(m: &mut [u64], extent: Extent, p: usize) -> Inserted
-    requires { ⌜ p < 4096 ⌝ }
+    requires { ⌜ p < mostParticles ⌝ }
     ensures { λ r. ⌜ Planted (now (m .entry)) (now (m .exit)) extent p r ⌝ }
 {
     if store::slots(m) == 0 {

@@ -14,6 +14,9 @@ use sample::word_of;
 mod numbers;
 mod sheets;
 
+// A case of the sample has fewer.
+const CASE_BYTES: usize = 4096;
+
 // By the kind's number.
 fn is_right(kind: u64, case: &[u8]) -> bool {
     match kind {
@@ -49,9 +52,8 @@ fn replay(space: &mut [u8], right: &mut [u64; KINDS], all: &mut [u64; KINDS]) {
     }
 }
 
-// A case in the sample has fewer than 4,096 bytes.
 fn main() {
-    let mut space = [0u8; 4096];
+    let mut space = [0u8; CASE_BYTES];
     let mut right = [0u64; KINDS];
     let mut all = [0u64; KINDS];
     replay(&mut space, &mut right, &mut all);

@@ -1,5 +1,7 @@
 // Cases of a tick and of a step. Parts: 1 the answer; 2 alpha, target, alpha_decay, velocity_decay, alpha_min, budget, alpha after; 3 the sheet and 4 the sheet after; 5 the words of
 // the force slots; 6 their numbers; 7 their link ends; 8 the draws; 9 and 10 the work slots. A tick has 0 where only a step has a number.
+use answers::DRAWS;
+use answers::SLOTS;
 use answers::force_words;
 use answers::settings;
 use answers::step_ended_right;
@@ -10,6 +12,7 @@ use sample::read_bytes;
 use sample::read_halves;
 use sample::read_numbers;
 use sample::read_words;
+use slots::Quadtree;
 
 fn step_is_right(
     case: &[u8],
@@ -54,13 +57,13 @@ fn run(
     tick_is_right(case, sheet, numbers, links, draws, work)
 }
 
-// Room for 4,097 particles, one too many, and for 81 slots.
+// Room for one particle too many.
 pub fn sheet_is_right(case: &[u8], step: bool) -> bool {
-    let mut sheet_room = [0u8; 163880];
+    let mut sheet_room = [0u8; 40 * (Quadtree::MOST_PARTICLES + 1)];
     let mut numbers_room = [0.0f64; 256];
     let mut links_room = [0u32; 256];
-    let mut draws_room = [0.0f64; 64];
-    let mut work_room = [0u64; 648];
+    let mut draws_room = [0.0f64; DRAWS];
+    let mut work_room = [0u64; 8 * SLOTS];
     let sheet = read_bytes(case, 3, &mut sheet_room);
     let numbers = read_numbers(case, 6, &mut numbers_room);
     let links = read_halves(case, 7, &mut links_room);

@@ -3,6 +3,7 @@
 ghost use mathlib.Core.Path.{_≡_};
 ghost use Prim.Native.Nat.{_+_, _*_, _/_, _%_, _^_, _≤_, _<_};
 ghost use lib.ListN.{length, set, replicate};
+ghost use Rattle.rules.specs.Refusal.{mostParticles};
 ghost use Rattle.slots.specs.Slots.{word, put, childless, kids, value, putInternal, putLeaf, putValue};
 
 const WORDS: usize = 8;
@@ -95,7 +96,7 @@ pub fn put_internal(m: &mut [u64], s: usize, children: [u32; 4])
 
 // A leaf whose first particle is `first`.
 pub fn put_leaf(m: &mut [u64], s: usize, first: usize)
-    requires { ⌜ (s * 8 + 8 ≤ length (now m)) × (first < 4096) ⌝ }
+    requires { ⌜ (s * 8 + 8 ≤ length (now m)) × (first < mostParticles) ⌝ }
     ensures { λ _. ⌜ now (m .exit) ≡ putLeaf (now (m .entry)) s first ⌝ }
 {
     put_word(m, s, 0, (first + 1) as u64);

@@ -14,6 +14,7 @@ ghost use mathlib.Core.List.{List};
 ghost use Prim.Native.Nat.{ℕ, _+_, _*_, _/_, _%_, _<_, _≤_, _^_};
 ghost use lib.ListN.{length};
 ghost use lib.Ieee.{Float};
+ghost use Rattle.rules.specs.Refusal.{mostParticles, mostIterations};
 ghost use Rattle.rules.specs.Force as Force;
 ghost use Rattle.rules.specs.Force.{endsOf};
 ghost use Rattle.rules.specs.Tick as Rule;
@@ -68,7 +69,7 @@ fn collide_stage(
     tail: &mut [u32],
     work: &mut [u64],
 ) -> Ran
-    requires { ⌜ Columns (now places) (now speeds) (now draws) (length (now radii)) used × Chains (length (now radii)) (now next) (now tail) × (iterations ≤ 64) × (visits < 2 ^ 63) ⌝ }
+    requires { ⌜ Columns (now places) (now speeds) (now draws) (length (now radii)) used × Chains (length (now radii)) (now next) (now tail) × (iterations ≤ mostIterations) × (visits < 2 ^ 63) ⌝ }
     ensures { λ r. ⌜ ((flags : List ℕ) (alpha : Float) → length (now (places .entry)) ≡ length flags * 2 → Stages (now (places .entry)) (now (speeds .exit)) flags alpha (now (draws .entry)) used (visits + 2 ^ 37) r (pushStage (length (now (work .entry)) / 8) (Force.collide (now (radii .entry)) strength iterations) (stateOf (now (places .entry)) (now (speeds .entry)) flags alpha (now (draws .entry)) used visits))) ⌝ }
 {
     let ran = collide(
@@ -162,7 +163,7 @@ fn center_stage(
     used: usize,
     visits: u64,
 ) -> Ran
-    requires { ⌜ (length (now places) % 2 ≡ 0) × (length (now places) ≤ 8192) × (length (now speeds) ≡ length (now places)) ⌝ }
+    requires { ⌜ (length (now places) % 2 ≡ 0) × (length (now places) ≤ 2 * mostParticles) × (length (now speeds) ≡ length (now places)) ⌝ }
     ensures { λ r. ⌜ ((flags : List ℕ) (alpha : Float) (ds : List Float) → used ≤ length ds → length (now (places .entry)) ≡ length flags * 2 → Stages (now (places .exit)) (now (speeds .entry)) flags alpha ds used (visits + 2 ^ 37) r (forceStage 0 (stateOf (now (places .entry)) (now (speeds .entry)) flags alpha ds used visits) (Rule.center x y strength))) ⌝ }
 {
     center_all(x, y, strength, places);

@@ -4,6 +4,7 @@ use columns::read_columns;
 use number::float_of;
 use rules::Settings;
 use rules::StepAnswer;
+use slots::Quadtree;
 use steps::step_on;
 use tick_ends::settle::refused_step;
 use tick_ends::settle::settle_step;
@@ -84,13 +85,13 @@ fn with_lists(
 {
     let n = sheet.len() / 40;
     let pairs = n * 2;
-    let mut places = [0.0f64; 8192];
-    let mut speeds = [0.0f64; 8192];
-    let mut home = [0.0f64; 8192];
-    let mut was = [0.0f64; 8192];
-    let mut flags = [0u64; 4096];
-    let mut next = [0u32; 4096];
-    let mut tail = [0u32; 4096];
+    let mut places = [0.0f64; 2 * Quadtree::MOST_PARTICLES];
+    let mut speeds = [0.0f64; 2 * Quadtree::MOST_PARTICLES];
+    let mut home = [0.0f64; 2 * Quadtree::MOST_PARTICLES];
+    let mut was = [0.0f64; 2 * Quadtree::MOST_PARTICLES];
+    let mut flags = [0u64; Quadtree::MOST_PARTICLES];
+    let mut next = [0u32; Quadtree::MOST_PARTICLES];
+    let mut tail = [0u32; Quadtree::MOST_PARTICLES];
     on_columns(
         sheet,
         alpha,

@@ -6,6 +6,7 @@ use ticks::tick_on;
 ghost use mathlib.Core.Path.{_≡_};
 ghost use Prim.Native.Nat.{_*_, _/_, _≤_};
 ghost use lib.ListN.{length};
+ghost use Rattle.rules.specs.Refusal.{mostTicks};
 ghost use Rattle.rules.specs.Tick.{entriesOf, forcesFrom, ticksFrom};
 ghost use Rattle.checks.specs.Fits.{Fits};
 ghost use Rattle.columns.specs.Stage.{Columns, Chains, stateOf};
@@ -31,7 +32,7 @@ pub fn step_on(
     work: &mut [u64],
 ) -> Stepped
     requires { ⌜ Fits (length (now flags)) (entriesOf (now forces)) (now numbers) (now links) ⌝ }
-    requires { ⌜ Columns (now places) (now speeds) (now draws) (length (now flags)) 0 × Chains (length (now flags)) (now next) (now tail) × (budget ≤ 4096) × (length (now home) ≡ length (now flags) * 2) × (length (now was) ≡ length (now flags) * 2) ⌝ }
+    requires { ⌜ Columns (now places) (now speeds) (now draws) (length (now flags)) 0 × Chains (length (now flags)) (now next) (now tail) × (budget ≤ mostTicks) × (length (now home) ≡ length (now flags) * 2) × (length (now was) ≡ length (now flags) * 2) ⌝ }
     ensures { λ r. ⌜ Steps (now (places .exit)) (now (speeds .exit)) (now (flags .entry)) (now (draws .entry)) budget r (ticksFrom s least (forcesFrom (length (now (flags .entry))) (entriesOf (now (forces .entry))) (now (numbers .entry)) (now (links .entry))) (length (now (work .entry)) / 8) budget 0 (stateOf (now (places .entry)) (now (speeds .entry)) (now (flags .entry)) alpha (now (draws .entry)) 0 0)) ⌝ }
 {
     let mut heat = alpha;

@@ -6,6 +6,7 @@ use lists::setting_check;
 use rules::Particle;
 use rules::Refusal;
 use sheet::record_check;
+use slots::Quadtree;
 ghost use Rattle.rules.specs.Calls.{closingResult};
 ghost use Rattle.talemiku.specs.Answered.{Answered};
 
@@ -15,7 +16,7 @@ pub extern "C" fn talemiku_apply_velocities(particles: &mut [Particle], decay: f
     ensures { λ r. ⌜ Answered (closingResult decay (now (particles .entry))) (now (particles .entry)) r (now (particles .exit)) ⌝ }
 {
     let n = particles.len();
-    let mut refusal = count_check(4096, n);
+    let mut refusal = count_check(Quadtree::MOST_PARTICLES, n);
     if refusal.number != 0 {
         return refusal;
     }

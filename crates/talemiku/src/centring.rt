@@ -6,8 +6,10 @@ use lists::count_check;
 use rules::Particle;
 use rules::Refusal;
 use sheet::record_check;
+use slots::Quadtree;
 ghost use mathlib.Core.Path.{_≡_};
 ghost use Prim.Native.Nat.{_≤_};
+ghost use Rattle.rules.specs.Refusal.{mostParticles};
 ghost use Rattle.rules.specs.Calls.{centerResult};
 ghost use Rattle.talemiku.specs.Answered.{Answered};
 ghost use Rattle.talemiku.specs.Pass.{addedTo, offsetsOf};
@@ -30,7 +32,7 @@ pub fn added(sums: Pair, p: Particle) -> Pair
 
 // How far the mean of n particles lies from x, y, times the strength.
 pub fn offsets(sums: Pair, n: usize, x: f64, y: f64, strength: f64) -> Pair
-    requires { ⌜ n ≤ 4096 ⌝ }
+    requires { ⌜ n ≤ mostParticles ⌝ }
     ensures { λ r. ⌜ r ≡ offsetsOf sums n x y strength ⌝ }
 {
     let count = n as f64;
@@ -51,7 +53,7 @@ pub extern "C" fn talemiku_center(
     ensures { λ r. ⌜ Answered (centerResult x y strength (now (particles .entry))) (now (particles .entry)) r (now (particles .exit)) ⌝ }
 {
     let n = particles.len();
-    let mut refusal = count_check(4096, n);
+    let mut refusal = count_check(Quadtree::MOST_PARTICLES, n);
     if refusal.number != 0 {
         return refusal;
     }

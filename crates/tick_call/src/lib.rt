@@ -5,6 +5,7 @@ use force_call::refused;
 use number::float_of;
 use rules::Counts;
 use rules::Settings;
+use slots::Quadtree;
 use tick_ends::settle::settle_tick;
 use ticks::tick_on;
 ghost use mathlib.Core.Path.{_≡_};
@@ -79,13 +80,13 @@ fn with_lists(
 {
     let n = sheet.len() / 40;
     let pairs = n * 2;
-    let mut places = [0.0f64; 8192];
-    let mut speeds = [0.0f64; 8192];
-    let mut home = [0.0f64; 8192];
-    let mut was = [0.0f64; 8192];
-    let mut flags = [0u64; 4096];
-    let mut next = [0u32; 4096];
-    let mut tail = [0u32; 4096];
+    let mut places = [0.0f64; 2 * Quadtree::MOST_PARTICLES];
+    let mut speeds = [0.0f64; 2 * Quadtree::MOST_PARTICLES];
+    let mut home = [0.0f64; 2 * Quadtree::MOST_PARTICLES];
+    let mut was = [0.0f64; 2 * Quadtree::MOST_PARTICLES];
+    let mut flags = [0u64; Quadtree::MOST_PARTICLES];
+    let mut next = [0u32; Quadtree::MOST_PARTICLES];
+    let mut tail = [0u32; Quadtree::MOST_PARTICLES];
     on_columns(
         sheet,
         alpha,

@@ -118,9 +118,9 @@ fn tree_passed(records: &[u8], rows: &mut [u32], chains: &mut [u32], work: &mut 
 {
     let n = records.len() / 40;
     let pairs = n * 2;
-    let mut places = [0.0f64; 8192];
-    let mut next = [0u32; 4096];
-    let mut tail = [0u32; 4096];
+    let mut places = [0.0f64; 2 * Quadtree::MOST_PARTICLES];
+    let mut next = [0u32; Quadtree::MOST_PARTICLES];
+    let mut tail = [0u32; Quadtree::MOST_PARTICLES];
     tree_with(
         records,
         &mut places[..pairs],
