@@ -12,6 +12,7 @@
 //! Nothing is allocated by the archive: a tree's nodes live in lent work slots ([`SLOT_WORDS`]), jiggles come from a lent list of draws, and a call's own lists stand on the
 //! stack (some 400 KB for a tick). [`raw`] has the same calls with their answers as they come.
 #![deny(missing_docs, unsafe_code)]
+#![warn(clippy::missing_errors_doc, clippy::must_use_candidate, clippy::undocumented_unsafe_blocks)]
 
 mod force;
 mod forces;

@@ -33,7 +33,7 @@ fn main() {
     let words: Vec<OsString> = env::args_os().skip(1).collect();
     let ended = match thread::Builder::new().stack_size(STACK).spawn(move || run(&words)) {
         Ok(running) => running.join().unwrap_or_else(|_| Err("the run broke off".to_string())),
-        Err(why) => Err(format!("a stack of {} MB can't be had: {why}", STACK >> 20)),
+        Err(why) => Err(format!("a thread with a stack of {} MB can't be had: {why}", STACK >> 20)),
     };
     if let Err(sentence) = ended {
         say(&sentence);
