@@ -62,8 +62,7 @@ fn open(path: &Path) -> io::Result<File> {
 /// the first's place comes back.
 pub fn write_both(first: (&Path, &[u8]), second: (&Path, &[u8])) -> Result<(), String> {
     let unwritten = |path: &Path, why: io::Error| format!("{} can't be written: {why}", path.display());
-    let drafts = [first, second].map(|(path, bytes)| Draft::of(path, bytes).map_err(|why| unwritten(path, why)));
-    let [draft, other] = drafts;
+    let [draft, other] = [first, second].map(|(path, bytes)| Draft::of(path, bytes).map_err(|why| unwritten(path, why)));
     let (draft, other) = (draft?, other?);
     let before = Draft::kept(first.0);
     draft.place(first.0).map_err(|why| unwritten(first.0, why))?;
