@@ -5,6 +5,7 @@ use lib.ListN.{length, drop}
 use lib.Ieee.{Float}
 use Rattle.rules.specs.Plain.{upTo}
 use Rattle.rules.specs.Outcome.{Outcome, refusal, foldStages}
+use Rattle.rules.specs.Refusal.{mostParticles, mostIterations}
 use Rattle.rules.specs.Walk.{Counted, counted, walk}
 use Rattle.rules.specs.Flow.{Flow, flow}
 use Rattle.rules.specs.Collide.{radiusTree, collideStep}
@@ -12,10 +13,10 @@ use Rattle.force.specs.declared.Ran.{Ran}
 use Rattle.slots.specs.declared.Quadtree.{Quadtree}
 use Rattle.slots.specs.Trees.{Stands}
 
--- at most 4,096 particles and 64 iterations, and few nodes handed out so far
+-- particles and iterations within their limits, and few nodes handed out so far
 pub record Bounded (n iterations visits : ℕ) : Type 0 where
-  pub few : n ≤ 4096
-  pub times : iterations ≤ 64
+  pub few : n ≤ mostParticles
+  pub times : iterations ≤ mostIterations
   pub room : visits < 2 ^ 63
 
 -- the slots hold the tree of the n points

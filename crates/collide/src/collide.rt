@@ -14,6 +14,7 @@ use walk::visit::Walk;
 ghost use mathlib.Core.Path.{_≡_};
 ghost use Prim.Native.Nat.{_+_, _*_, _/_, _≤_, _<_, _^_};
 ghost use lib.ListN.{length};
+ghost use Rattle.rules.specs.Refusal.{mostIterations};
 ghost use Rattle.rules.specs.Tree.{nodes};
 ghost use Rattle.rules.specs.Collide as Collide;
 ghost use Rattle.quadtree.specs.Build.{Lent};
@@ -166,7 +167,7 @@ pub fn collide(
     tail: &mut [u32],
     m: &mut [u64],
 ) -> Ran
-    requires { ⌜ Lent (now at) (now next) (now tail) × Spread (now at) (now vs) (now radii) (now draws) used × (iterations ≤ 64) × (visits < 2 ^ 63) ⌝ }
+    requires { ⌜ Lent (now at) (now next) (now tail) × Spread (now at) (now vs) (now radii) (now draws) used × (iterations ≤ mostIterations) × (visits < 2 ^ 63) ⌝ }
     ensures is { λ r. ⌜ Runs (now (vs .exit)) (now (draws .entry)) used r (Collide.runCollide (now (at .entry)) (now (radii .entry)) strength iterations (length (now (m .entry)) / 8) (begun (now (vs .entry)) (now (draws .entry)) used visits)) ⌝ }
     ensures few { λ r. ⌜ r .visits ≤ visits + 2 ^ 37 ⌝ }
 {
