@@ -18,7 +18,7 @@ def code(path):
 
 
 class Crate:
-    """`called` are functions and types, alone and after their file or type; `laws`, by file, definitions and theorems; `all` is every name, `words` whatever stands in the code."""
+    """`called` are functions, types and constants, alone and after their file or type; `laws`, by file, definitions and theorems; `all` is every name, `words` whatever stands in the code."""
 
     def __init__(self, name):
         self.called, self.laws, self.all, self.words = set(), {}, {name}, set()
@@ -34,7 +34,7 @@ class Crate:
         for line in text:
             if re.match('impl |}', line):
                 owner = ''.join(re.findall(r'^impl (\w+)', line))
-            for name in re.findall(r'\b(?:fn|struct|enum) (\w+)', line):
+            for name in re.findall(r'\b(?:fn|struct|enum|const) (\w+)', line):
                 self.called |= {owner + '::' + name} if owner else {name, file + '::' + name}
             self.all |= set(DECLARED.findall(line))
             self.words |= set(re.findall(WORD, line))
