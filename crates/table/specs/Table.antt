@@ -1,4 +1,4 @@
--- T1 to T13 of document 01: one computed table, and that every case of it holds. Behind it the lister's sample, lent lengths, and what T1 to T13 leave open.
+-- T1 to T13 of document 01: one computed table, and that every case of it holds. Behind it the lister's sample, lent lengths, what T1 to T13 leave open, and the limits.
 use mathlib.Core.Path.{_≡_, refl}
 use mathlib.Core.Bool.{Bool, true, false, _&&_, _||_, not, cond}
 use mathlib.Core.List.{List, [], _∷_, _++_, map}
@@ -365,3 +365,61 @@ slips =
 pub every-slip-shows : all (λ b. b) slips ≡ true
 unfolding opened slips moving entry pushing centring sheet halving ticksTo refusesTick stepsTo nine one closes quarters plus minus half equals isRefusal still force gives before behind two nan·
 every-slip-shows = refl
+
+-- ---- the limits: one over is refused by 1; what is just at them is accepted there, so that a later refusal shows, as a sheet that is right in all else would be large to compute
+
+-- these bytes under these slots, with these numbers
+lent : List ℕ → List ℕ → List Float → SheetInput
+lent bytes slots numbers =
+    record { sheet = bytes; alpha = bitsOf 1·; words = padded 56 0 slots; numbers = numbers; links = []; draws = []; work = replicate 8 7 }
+
+-- a force on so many particles, with no velocities
+crowd : ℕ → ForceInput
+crowd n = record { places = replicate (n * 2) 0·; buffer = []; start = 0; draws = []; work = replicate 8 7 }
+
+-- so many particles with an unknown flag, moved alone
+flagged : ℕ → Refusal
+flagged n = refusalOf (closingResult 1· (replicate n (particle 0· 0· 0· 0· 4)))
+
+-- one point, and a byte more
+oddly : TreeInput
+oddly = record { sheet = sheetOf (still (0· ∷ 0· ∷ [])) ++ (0 ∷ []); rows = replicate 4 9; chains = 9 ∷ []; work = replicate 8 7 }
+
+-- a sheet of so many records, each with flags that there are not
+records : ℕ → List ℕ
+records n = replicate (n * 40) 9
+
+treeRefusal : ℕ → TreeInput → Refusal
+treeRefusal most l = treeAnswer l (treeResult most l) .refusal
+
+pub limits : List Bool
+limits =
+    -- particles: of a force, of a list, of a tick, of the lister
+    (let l = crowd 4096 in refusesForce l (manyBodyResult l [] 1·) 2 0 7)
+    ∷ (let l = crowd 4097 in refusesForce l (manyBodyResult l [] 1·) 1 0 7)
+    ∷ isRefusal 10 0 (flagged 4096)
+    ∷ isRefusal 1 0 (flagged 4097)
+    ∷ isRefusal 10 0 (tickAnswer (lent (records 4096) [] []) halving .refusal)
+    ∷ isRefusal 1 0 (tickAnswer (lent (records 4097) [] []) halving .refusal)
+    ∷ equals (lister (records 512)) (ascii "refused 10\n")
+    ∷ equals (lister (records 513)) (ascii "refused 1\n")
+    -- links: of Link, and of a slot
+    ∷ (let l = force two [] in refusesForce l (linkResult l (replicate 16384 0) [] [] 1 1·) 2 0 7)
+    ∷ (let l = force two [] in refusesForce l (linkResult l (replicate 16386 0) [] [] 1 1·) 1 0 7)
+    ∷ refusesTick (lent [] (entry 3 0 8192 0 1· 0· 0·) []) 2 0 7
+    ∷ refusesTick (lent [] (entry 3 0 8193 0 1· 0· 0·) []) 1 0 7
+    -- iterations: those of Collide and Link alone are looked at
+    ∷ refusesTick (lent [] (entry 2 65 0 0 1· 0· 0·) []) 1 0 7
+    ∷ isRefusal 0 0 (tickAnswer (lent [] (entry 1 65 0 0 1· 0· 0· ++ entry 4 65 0 0 0· 0· 0·) []) halving .refusal)
+    -- 10 for a length comes before 1, and 1 before 2
+    ∷ isRefusal 10 0 (treeRefusal 0 oddly)
+    ∷ isRefusal 1 0 (treeRefusal 0 (lengths 0 1 8 0·))
+    ∷ isRefusal 10 0 (stepAnswer (lent (1 ∷ []) [] []) halving 0· 4097 .refusal)
+    ∷ refusesTick (lent (1 ∷ []) [] []) 10 0 7
+    -- a link that the list of ends lacks
+    ∷ refusesTick (lent [] (entry 3 1 1 0 1· 0· 0·) (0· ∷ [])) 2 0 7
+    ∷ []
+
+pub every-limit-holds : all (λ b. b) limits ≡ true
+unfolding opened limits lent crowd flagged oddly records treeRefusal lengths entry halving half refusesTick equals isRefusal still force before behind refusesForce two
+every-limit-holds = refl
