@@ -260,11 +260,11 @@ FORCE = [
 ]
 CALLS = [
     ('seven words a slot', 'Calls', 'slotWords = 8', 'slotWords = 7', TABLE),
-    ("a tree's 1 before 10", 'Calls', 'wholeRecords sheet then countCheck most n then', 'countCheck most n then wholeRecords sheet then', TABLE),
-    ("a tree's 2 before 1", 'Calls', 'countCheck most n then lengths then', 'lengths then countCheck most n then', TABLE),
-    ("a tree's records before 2", 'Calls', 'lengths then recordsCheck ps', 'recordsCheck ps then lengths', TABLE),
+    ("a tree's 1 before 10", 'Calls', 'wholeRecords sheet then countCheck most (countOf sheet) then', 'countCheck most (countOf sheet) then wholeRecords sheet then', TABLE),
+    ("a tree's 2 before 1", 'Calls', 'countCheck most (countOf sheet) then lengths then', 'lengths then countCheck most (countOf sheet) then', TABLE),
+    ("a tree's records before 2", 'Calls', 'lengths then recordsCheck (particlesOf sheet)', 'recordsCheck (particlesOf sheet) then lengths', TABLE),
     ("a tree's bad length accepted", 'Calls', 'wholeRecords sheet then countCheck', 'countCheck', TABLE),
-    ("a tree's count not tested", 'Calls', 'countCheck most n then lengths', 'lengths', TABLE),
+    ("a tree's count not tested", 'Calls', 'countCheck most (countOf sheet) then lengths', 'lengths', TABLE),
     ("the rows' length not tested", 'Calls', 'eqb (length (l .rows)) (slotsOf (l .work) * 4) && eqb', 'eqb', TABLE),
     ("the chains' length not tested", 'Calls', '* 4) && eqb (length (l .chains)) (countOf (l .sheet))', '* 4)', TABLE),
     ('unused rows not zero', 'Calls', 'padded (length (l .rows)) 0', 'padded (length (l .rows)) 9', 'every quarter is split once more'),

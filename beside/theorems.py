@@ -259,7 +259,7 @@ def statement(name, made):
 def judged(lines):
     """Each case with its first word (of a force its letter too), the oracle's answer, and its term and numbers; those that make no theorem are left out."""
     asked = ['tree 1024' + line[4:] if line.startswith('list ') else line for line in lines]
-    for line, answer in zip(lines, ask(['rust'], '\n'.join(asked) + '\n')):
+    for line, answer in zip(lines, ask(['rust'], ''.join(line + '\n' for line in asked))):
         t = Words(line)
         kind = t.word()
         made = CASES[kind](t, answer)
