@@ -1,32 +1,42 @@
--- The cell rule's tree of n particles in range, if it passes no level past 64: where its points lie, and how large its extent is. Assumes nothing.
-use mathlib.Core.Path.{_≡_, refl}
-use mathlib.Core.Logic.{inl, inr}
+-- The cell rule's tree of n particles: where its points lie, how large its extent is, and that building it refuses exactly where the rule's tree is too large. Assumes nothing.
+use mathlib.Core.Path.{_≡_, refl, ap, subst}
+use mathlib.Core.Logic.{_⊎_, inl, inr, ⊎-elim, _↔_}
 use mathlib.Core.Bool.{true}
-use mathlib.Core.List.{List, [], _∷_, List·Memᴰ}
-use Prim.Native.Nat.{ℕ, zero, suc, _^_, _≤_, _<_}
+use mathlib.Core.List.{List, [], _∷_, List·Memᴰ, List·Memᴰ·head, List·Memᴰ·tail}
+use Prim.Native.Nat.{ℕ, zero, suc, _+_, _^_, _≤_, _<_}
+use native.Mathlib.Decide.{decLt}
 use native.Mathlib.Omega.{arith}
 use lib.Dec.{T}
-use lib.Pow.{pow-mono}
+use lib.Pow.{pow-mono, pow-pos}
 use lib.Ieee.{Float}
 use Rattle.rules.specs.declared.Extent.{Extent}
+use Rattle.rules.specs.declared.Refusal.{Refusal}
 use Rattle.rules.specs.Plain.{all, countFrom, upTo}
+use Rattle.rules.specs.Outcome.{Check, done, refused, fine}
 use Rattle.rules.specs.Number.{within, xAt, yAt}
-use Rattle.rules.specs.Cover.{Square, holds, coverFirst, extentOf}
-use Rattle.rules.specs.Tree.{depth, treeOf}
-use Rattle.rules.specs.Terms.{EachLeaf, inCell, IsTree, Sided}
+use Rattle.rules.specs.Floor.{floor}
+use Rattle.rules.specs.Cover.{Square, inside, holds, coverFirst, extentOf}
+use Rattle.rules.specs.Tree.{Tree, depth, nodes, treeOf, treeCheck}
+use Rattle.rules.specs.Terms.{EachLeaf, Oversized, Earliest, NotOfTree, inCell, IsTree, Sided}
 use Rattle.rules.proofs.CellList.{In}
 use Rattle.rules.proofs.CellChain.{each-map}
 use Rattle.rules.proofs.CellInside.{Inside}
-use Rattle.rules.proofs.CellRule.{tree-whole, leaves-inside}
-use Rattle.rules.proofs.Cover.{held-sided, held-most}
+use Rattle.rules.proofs.CellRule.{tree-whole, tree-grown, leaves-inside}
+use Rattle.rules.proofs.Cover.{held-sided, held-most, cover-inside}
 use Rattle.cells.specs.Cover.{squareOf, Reachable}
 use Rattle.cells.proofs.CoverLaws.{in-range, list-reachable, list-lies, reachable-finite}
-use Rattle.cells.proofs.Prefix.{InRange, in-T, in-member, member-less, no-tree}
+use Rattle.cells.proofs.Prefix.{InRange, in-T, in-member, member-less, no-tree, check-fits, check-exact, check-earliest}
 
 module _ (at : List Float) where
+  -- ---- the extent of the first particles, of which there are some
+
   all-inside : (c : Extent) (is : List ℕ) → ((i : ℕ) → In i is → Inside at c i) → all (λ i. inCell c (xAt at i) (yAt at i)) is ≡ true
   all-inside c [] h = refl
   all-inside c (i ∷ is) h = let w = h i (inl refl) in rw (w .x .low, w .x .high, w .y .low, w .y .high) (all-inside c is (λ j m. h j (inr m)))
+
+  all-floors : (s : Square) (is : List ℕ) → ((i : ℕ) → List·Memᴰ i is → inside s (floor (xAt at i)) (floor (yAt at i)) ≡ true) → all (λ i. inside s (floor (xAt at i)) (floor (yAt at i))) is ≡ true
+  all-floors s [] h = refl
+  all-floors s (i ∷ is) h = rw (h i (List·Memᴰ·head refl)) (all-floors s is (λ j m. h j (List·Memᴰ·tail m)))
 
   module _ (k : ℕ) (r : InRange at (suc k)) where
     members : (i : ℕ) → List·Memᴰ i (upTo (suc k)) → T (within (xAt at i)) × T (within (yAt at i))
@@ -34,6 +44,26 @@ module _ (at : List Float) where
 
     stands : Reachable (extentOf (coverFirst at (suc k))) × (coverFirst at (suc k) ≡ holds (squareOf (extentOf (coverFirst at (suc k)))))
     stands = list-reachable at 0 (countFrom 1 k) (extentOf (coverFirst at (suc k))) (in-range at (upTo (suc k)) members) refl
+
+    lie : (i : ℕ) → In i (upTo (suc k)) → Inside at (extentOf (coverFirst at (suc k))) i
+    lie i m = list-lies at 0 (countFrom 1 k) members i (in-member i (upTo (suc k)) m)
+
+  -- Where there is a point, covering ends at a square of whole numbers whose side is at most 2 ^ 43, and which holds the floors of all points.
+  pub extent-sided : (n : ℕ) → InRange at n → 0 < n
+      → (s : Square) × (side : ℕ) × (coverFirst at n ≡ holds s) × Sided side s × (0 < side) × (side ≤ 2 ^ 43) × (all (λ i. inside s (floor (xAt at i)) (floor (yAt at i))) (upTo n) ≡ true)
+  extent-sided zero r l = absurd (omega arith)
+  extent-sided (suc k) r l =
+      let (e, u) = stands k r in
+      let h = e .held in
+      let s = squareOf (extentOf (coverFirst at (suc k))) in
+      (s, 2 ^ (h .log), u, held-sided h, pow-pos (h .log), pow-mono (held-most h), all-floors s (upTo (suc k)) (cover-inside at (upTo (suc k)) s (in-range at (upTo (suc k)) (members k r)) u))
+
+  -- The extent holds every point.
+  pub extent-holds : (n : ℕ) → InRange at n → all (λ i. inCell (extentOf (coverFirst at n)) (xAt at i) (yAt at i)) (upTo n) ≡ true
+  extent-holds zero r = refl
+  extent-holds (suc k) r = all-inside (extentOf (coverFirst at (suc k))) (upTo (suc k)) (lie k r)
+
+  -- ---- a tree that passes no level past 64
 
   -- It is the tree that the cell rule names, of the extent reached by covering the points in order.
   pub whole-tree : (n : ℕ) → depth (treeOf at n) ≤ 65 → IsTree at (extentOf (coverFirst at n)) (treeOf at n) (upTo n)
@@ -46,9 +76,78 @@ module _ (at : List Float) where
   leaves-hold (suc k) r d =
       let c = extentOf (coverFirst at (suc k)) in
       each-map (λ c is. (i : ℕ) → In i is → Inside at c i) (λ c is. all (λ i. inCell c (xAt at i) (yAt at i)) is ≡ true) all-inside (treeOf at (suc k))
-      (leaves-inside at (treeOf at (suc k)) c (upTo (suc k)) (reachable-finite (stands k r .0)) (λ i m. list-lies at 0 (countFrom 1 k) (members k r) i (in-member i (upTo (suc k)) m)) (whole-tree (suc k) d))
+      (leaves-inside at (treeOf at (suc k)) c (upTo (suc k)) (reachable-finite (stands k r .0)) (lie k r) (whole-tree (suc k) d))
 
-  -- Where there is a point, the extent is a square whose side is at most 2 ^ 43.
-  pub extent-sided : (n : ℕ) → InRange at n → 0 < n → (s : Square) × (z : ℕ) × (coverFirst at n ≡ holds s) × Sided z s × (z ≤ 2 ^ 43)
-  extent-sided zero r l = absurd (omega arith)
-  extent-sided (suc k) r l = let (e, u) = stands k r in let h = e .held in (squareOf (extentOf (coverFirst at (suc k))), 2 ^ (h .log), u, held-sided h, pow-mono (held-most h))
+  -- ---- the tree that the rules compute, cut off below level 65, and the tree that the cell rule names, which is not
+
+  module _ (n : ℕ) (t : Tree Extent) (h : IsTree at (extentOf (coverFirst at n)) t (upTo n)) where
+    computed : depth t ≤ 65 → t ≡ treeOf at n
+    unfolding treeOf
+    computed d = tree-grown at t (extentOf (coverFirst at n)) (upTo n) h d
+
+    -- Where the one goes below level 64, so does the other.
+    pub deep-ruled : 65 < depth (treeOf at n) → 65 < depth t
+    deep-ruled d = elim (decLt 65 (depth t)) [ yes l ↦ l | no m ↦ absurd (let e = ap depth (computed (omega arith)) in omega arith) ]
+
+    -- Where the one is too large, so is the other.
+    pub large-ruled : (slots : ℕ) → Oversized slots (treeOf at n) → Oversized slots t
+    large-ruled slots (inl d) = inl (deep-ruled d)
+    large-ruled slots (inr m) = elim (decLt 65 (depth t)) [ yes l ↦ inl l | no k ↦ inr (let e = ap nodes (computed (omega arith)) in omega arith) ]
+
+    -- Where the other is not, building refuses nothing.
+    pub ruled-fine : InRange at n → (slots : ℕ) → (Oversized slots t → ⊥) → treeCheck at n slots ≡ fine
+    ruled-fine r slots small =
+        elim (decLt 65 (depth t)) [
+          | yes l ↦ absurd (small (inl l))
+          | no k ↦
+              elim (decLt slots (nodes t)) [
+                | yes l ↦ absurd (small (inr l))
+                | no m ↦ check-exact at n r slots .1 (subst (λ (u : Tree Extent). (depth u ≤ 65) × (nodes u ≤ slots)) (computed (omega arith)) (omega arith, omega arith))
+              ]
+        ]
+
+  -- What is said of the earliest prefix holds of every tree of it by the cell rule.
+  pub earliest-ruled : (n slots : ℕ) (r : Refusal) → Earliest at n slots r → (t : Tree Extent) → IsTree at (extentOf (coverFirst at (r .place + 1))) t (upTo (r .place + 1))
+      → Oversized slots t × (r .number ≡ 6 → 65 < depth t)
+  earliest-ruled n slots r e t h =
+      ⊎-elim (λ k. (inl (deep-ruled (r .place + 1) t h (k .1)), λ _. deep-ruled (r .place + 1) t h (k .1))) (λ k. (large-ruled (r .place + 1) t h slots (inr (k .2)), λ z. absurd (omega arith))) (e .number)
+
+-- ---- what a call refuses that builds the tree of n particles in range
+
+module _ (at : List Float) (n slots : ℕ) where
+  -- the tree fits, and it refuses by neither 6 nor 7; or the tree is too large, and it refuses by the earliest prefix
+  pub data Building (r : Refusal) : Type 0 where
+    fits : (depth (treeOf at n) ≤ 65) × (nodes (treeOf at n) ≤ slots) → NotOfTree r → Building r
+    large : Oversized slots (treeOf at n) → Earliest at n slots r → Building r
+
+  too-large : ((depth (treeOf at n) ≤ 65) × (nodes (treeOf at n) ≤ slots) → ⊥) → Oversized slots (treeOf at n)
+  too-large small =
+      elim (decLt 65 (depth (treeOf at n))) [ yes d ↦ inl d | no e ↦ elim (decLt slots (nodes (treeOf at n))) [ yes m ↦ inr m | no f ↦ absurd (small (omega arith, omega arith)) ] ]
+
+  -- It refuses as building does, and where that is fine by neither 6 nor 7.
+  pub building : InRange at n → (r : Refusal) → ((q : Refusal) → treeCheck at n slots ≡ refused q → r ≡ q) → (treeCheck at n slots ≡ fine → NotOfTree r) → Building r
+  building k r refuses other = go (treeCheck at n slots) refl
+    where
+      go : (c : Check) → treeCheck at n slots ≡ c → Building r
+      go (done t) e = fits (check-fits at n slots e) (other e)
+      go (refused q) e =
+          large (too-large (λ f. let g = check-exact at n k slots .1 f in let z : _≡_ {A = ℕ} 0 1 = cc in omega arith)) (rw (refuses q e) (check-earliest at n slots q e))
+
+  module _ {r : Refusal} where
+    -- 6 or 7, exactly where the tree that the rules compute is too large,
+    pub computed-exactly : Building r → ((r .number ≡ 6) ⊎ (r .number ≡ 7)) ↔ Oversized slots (treeOf at n)
+    computed-exactly (fits f other) = (λ k. ⊎-elim (λ e. absurd (other .0 e)) (λ e. absurd (other .1 e)) k, λ o. ⊎-elim (λ e. absurd (omega arith)) (λ e. absurd (omega arith)) o)
+    computed-exactly (large o e) = (λ _. o, λ _. ⊎-elim (λ k. inl (k .0)) (λ k. inr (k .0)) (e .number))
+
+    -- which is: where every tree by the cell rule is.
+    pub ruled-exactly : Building r → ((r .number ≡ 6) ⊎ (r .number ≡ 7)) ↔ ((t : Tree Extent) → IsTree at (extentOf (coverFirst at n)) t (upTo n) → Oversized slots t)
+    ruled-exactly b = (λ k t h. large-ruled at n t h slots (computed-exactly b .0 k), λ every. back b every)
+      where
+        back : Building r → ((t : Tree Extent) → IsTree at (extentOf (coverFirst at n)) t (upTo n) → Oversized slots t) → (r .number ≡ 6) ⊎ (r .number ≡ 7)
+        back (fits f other) every = ⊎-elim (λ e. absurd (omega arith)) (λ e. absurd (omega arith)) (every (treeOf at n) (whole-tree at n (f .0)))
+        back (large o e) every = ⊎-elim (λ k. inl (k .0)) (λ k. inr (k .0)) (e .number)
+
+    -- Then it is the earliest prefix that can't be built.
+    pub earliest : Building r → (r .number ≡ 6) ⊎ (r .number ≡ 7) → Earliest at n slots r
+    earliest (fits f other) k = ⊎-elim (λ e. absurd (other .0 e)) (λ e. absurd (other .1 e)) k
+    earliest (large o e) k = e

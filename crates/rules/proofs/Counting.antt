@@ -269,6 +269,30 @@ module _ (s : Settings) (least : Float) (fs : List Force) (slots : ℕ) where
   counts-later zero v m = refl
   counts-later (suc k) v m = refl
 
+  -- there are at most k of them
+  pub tick-counts-length : (k : ℕ) (m : State) → length (tickCounts s least fs slots k m) ≤ k
+  unfolding tickCounts
+  tick-counts-length zero m = omega arith
+  tick-counts-length (suc k) m = go (lt least (m .alpha)) (tick s fs slots (uncounted m)) (tick-counts-length k)
+    where
+      go : (b : Bool) (o : Outcome State) → ((n : State) → length (tickCounts s least fs slots k n) ≤ k)
+          → length (branch b (λ _. ifDone o (λ n. n .visits ∷ tickCounts s least fs slots k n) []) (λ _. [])) ≤ suc k
+      go true (done n) rest = omega (arith, rest n)
+      go true (refused r) rest = omega arith
+      go false o rest = omega arith
+
+  -- where no tick counts more than this, none of the counts is greater
+  pub tick-counts-few : (most : ℕ) → ((m n : State) → tick s fs slots (uncounted m) ≡ done n → n .visits ≤ most) → (k : ℕ) (m : State) → all (λ c. leb c most) (tickCounts s least fs slots k m) ≡ true
+  unfolding tickCounts
+  tick-counts-few most b zero m = refl
+  tick-counts-few most b (suc k) m = go (lt least (m .alpha)) (tick s fs slots (uncounted m)) refl (tick-counts-few most b k)
+    where
+      go : (a : Bool) (o : Outcome State) → tick s fs slots (uncounted m) ≡ o → ((n : State) → all (λ c. leb c most) (tickCounts s least fs slots k n) ≡ true)
+          → all (λ c. leb c most) (branch a (λ _. ifDone o (λ n. n .visits ∷ tickCounts s least fs slots k n) []) (λ _. [])) ≡ true
+      go true (done n) p rest = rw (le-leb (n .visits) most (b m n p)) (rest n)
+      go true (refused r) p rest = refl
+      go false o p rest = refl
+
   -- The counts of each tick make up what all of them count, and there are as many as ticks.
   pub ticks-sum : (k t : ℕ) (m : State)
       → (ticksFrom s least fs slots k t m .last .visits ≡ m .visits + sum (tickCounts s least fs slots k m)) × (ticksFrom s least fs slots k t m .ticks ≡ t + length (tickCounts s least fs slots k m))

@@ -11,12 +11,16 @@ use lib.Ieee.{Float, lt, le}
 use Rattle.rules.specs.declared.Extent.{Extent}
 use Rattle.rules.specs.declared.Refusal.{Refusal}
 use Rattle.rules.specs.declared.Settings.{Settings}
-use Rattle.rules.specs.Plain.{branch, all, sum}
+use Rattle.rules.specs.Plain.{branch, all, sum, upTo}
 use Rattle.rules.specs.Outcome.{Outcome, done, _>>=_, ifDone}
+use Rattle.rules.specs.Sheet.{placesOf, speedsOf}
 use Rattle.rules.specs.Cell.{quarter}
 use Rattle.rules.specs.Cover.{Square}
 use Rattle.rules.specs.Tree.{Tree, none, leaf, node, depth, nodes, greatestLevel, same, alike, pointsIn, treeOf}
 use Rattle.rules.specs.Walk.{Entry, counted, After, walk}
+use Rattle.rules.specs.Flow.{flow}
+use Rattle.rules.specs.ManyBody.{standard, chargedTree, manyBodyStep}
+use Rattle.rules.specs.Collide.{radiusTree, collideStep}
 use Rattle.rules.specs.Force.{manyBody, collide, link}
 use Rattle.rules.specs.Tick.{Force, empty, push, center, unknown, State, state, forceStage, tick}
 
@@ -34,7 +38,7 @@ EachLeaf P none = Unit {0}
 EachLeaf P (leaf a is) = P a is
 EachLeaf P (node a t0 t1 t2 t3) = EachLeaf P t0 × EachLeaf P t1 × EachLeaf P t2 × EachLeaf P t3
 
--- it goes below level 64, or has more nodes than there are slots
+-- it goes below level 64 (`depth` counts levels, and levels 0 to 64 are 65), or has more nodes than there are slots
 abbrev pub Oversized : {A : Type 0} → ℕ → Tree A → Type 0
 Oversized slots t = (greatestLevel + 1 < depth t) ⊎ (slots < nodes t)
 
@@ -44,9 +48,9 @@ pub record Earliest (at : List Float) (n slots : ℕ) (r : Refusal) : Type 0 whe
   pub before : (i : ℕ) → i < r .place → (depth (treeOf at (i + 1)) ≤ greatestLevel + 1) × (nodes (treeOf at (i + 1)) ≤ slots)
   pub number : let t = treeOf at (r .place + 1) in ((r .number ≡ 6) × (greatestLevel + 1 < depth t)) ⊎ ((r .number ≡ 7) × (depth t ≤ greatestLevel + 1) × (slots < nodes t))
 
--- neither 6 nor 7
-abbrev pub Treeless : Refusal → Type 0
-Treeless r = (r .number ≢ 6) × (r .number ≢ 7)
+-- neither 6 nor 7, by which a tree is refused
+abbrev pub NotOfTree : Refusal → Type 0
+NotOfTree r = (r .number ≢ 6) × (r .number ≢ 7)
 
 -- how often i stands in a list
 abbrev pub times : ℕ → List ℕ → ℕ
@@ -87,9 +91,9 @@ countEach count afresh f x (a ∷ l) = f (afresh x) a >>= λ y. countEach count 
 abbrev pub walkCounts : {A S : Type 0} → (ℕ → Entry A → S → Outcome (After S)) → Tree A → S → List ℕ → Outcome (List ℕ)
 walkCounts step t σ is = countEach (λ m. m .visits) (λ m. counted (m .state) 0) (λ m i. walk (step i) t m) (counted σ 0) is
 
--- the most nodes that one walk hands out over a tree of d distinct points
-abbrev pub mostWalked : ℕ → ℕ
-mostWalked d = 1 + greatestLevel * d
+-- the most nodes of a tree of d distinct points that keeps to level 64, so the most that one walk over it hands out
+abbrev pub mostNodes : ℕ → ℕ
+mostNodes d = 1 + greatestLevel * d
 
 -- `visits` is the sum of what these walks hand out, and each of them hands out at most `most`
 pub record Walked {A S : Type 0} (step : ℕ → Entry A → S → Outcome (After S)) (t : Tree A) (σ : S) (is : List ℕ) (visits most : ℕ) : Type 0 where
@@ -106,11 +110,24 @@ repeated (suc k) l = l ++ repeated k l
 -- the most that a force hands out: ManyBody walks once for each particle, Collide as often in each iteration, the others not at all
 abbrev pub mostVisited : Force → ℕ
 mostVisited empty = 0
-mostVisited (push (manyBody strengths)) = length strengths * mostWalked (length strengths)
-mostVisited (push (collide radii strength iterations)) = iterations * (length radii * mostWalked (length radii))
+mostVisited (push (manyBody strengths)) = length strengths * mostNodes (length strengths)
+mostVisited (push (collide radii strength iterations)) = iterations * (length radii * mostNodes (length radii))
 mostVisited (push (link links strengths distances iterations)) = 0
 mostVisited (center x y strength) = 0
 mostVisited unknown = 0
+
+-- k is what a force of a tick hands out in the state m: the sum of its single walks over the tree of the places there, or nothing
+abbrev pub ForceWalked : State → Force → ℕ → Type 0
+ForceWalked m empty k = k ≡ 0
+ForceWalked m (push (manyBody strengths)) k =
+    let at = placesOf (m .particles) in
+    Walked (manyBodyStep standard at strengths (m .alpha)) (chargedTree at strengths) (flow (speedsOf (m .particles)) (m .draws)) (upTo (length strengths)) k (mostNodes (distinct at (upTo (length strengths))))
+ForceWalked m (push (collide radii strength iterations)) k =
+    let at = placesOf (m .particles) in
+    Walked (collideStep at radii strength) (radiusTree at radii) (flow (speedsOf (m .particles)) (m .draws)) (repeated iterations (upTo (length radii))) k (mostNodes (distinct at (upTo (length radii))))
+ForceWalked m (push (link links strengths distances iterations)) k = k ≡ 0
+ForceWalked m (center x y strength) k = k ≡ 0
+ForceWalked m unknown k = k ≡ 0
 
 -- a tick's state with no node counted yet
 abbrev pub uncounted : State → State

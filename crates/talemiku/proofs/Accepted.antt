@@ -8,7 +8,9 @@ use lib.Ieee.{Float}
 use Rattle.rules.specs.declared.Settings.{Settings}
 use Rattle.rules.specs.declared.Counts.{Counts}
 use Rattle.rules.specs.Outcome.{Outcome, done, refused, Check, fine, _then_, _>>=_, checkEach}
-use Rattle.rules.specs.Refusal.{mostParticles, mostTicks, countCheck, lengthsCheck, drawsCheck, settingsCheck, resultCheck}
+use Rattle.rules.specs.Plain.{upTo}
+use Rattle.rules.specs.Number.{placeRange, xAt, yAt}
+use Rattle.rules.specs.Refusal.{mostParticles, mostTicks, countCheck, lengthsCheck, coordinateCheck, velocityCheck, drawsCheck, settingsCheck, resultCheck}
 use Rattle.rules.specs.Sheet.{wholeRecords, particlesOf, recordsCheck}
 use Rattle.rules.specs.Walk.{Counted, counted}
 use Rattle.rules.specs.Flow.{Flow, flow}
@@ -18,33 +20,44 @@ use Rattle.rules.specs.Calls.{slotsOf, ForceInput, speeds, inputLengths, points
 use Rattle.rules.specs.Tick.{SheetInput, count, entries, forces, entryCounts, forceEnds, forceRanges, listLengths, sheetCheck, State, tick, begun, tickSettings, tickResult, tickAnswer}
 use Rattle.rules.proofs.RefusalLaws.{done-of}
 use Rattle.rules.proofs.Places.{force-refuses, tick-refuses, early-numbered, late-numbered}
+use Rattle.cells.proofs.Prefix.{InRange, fine-each}
 use Rattle.lists.proofs.Checks.{then-both, require-true}
 use Rattle.force_call.specs.Calls.{Answered}
 use Rattle.tick_call.specs.Tick.{AfterTick}
 
 -- ---- a force's call
 
--- it ran on lists of the right lengths, and its counts are those of the run
-pub record Ran (l : ForceInput) (f : Push) (alpha : Float) (r : Counts) : Type 0 where
+-- what its checks let pass: lists of the right lengths, and places in range
+pub record Checked (l : ForceInput) (f : Push) : Type 0 where
   pub lengths : pushLengths (Calls.count l) f ≡ true
+  pub ranged : InRange (l .places) (Calls.count l)
+
+-- it ran on these, and its counts are those of the run
+pub record Ran (l : ForceInput) (f : Push) (alpha : Float) (r : Counts) : Type 0 where
+  pub checked : Checked l f
   pub last : Counted Flow
   pub run : run f (l .places) alpha (slotsOf (l .work)) (counted (flow (speeds l) (l .draws)) 0) ≡ done last
   pub visits : r .visits ≡ last .visits
 
 module _ (l : ForceInput) (f : Push) (wholeEnds : Bool) (alpha : Float) (settings : List Float) where
-  lengths-agree : forceCheck l f wholeEnds settings ≡ fine → pushLengths (Calls.count l) f ≡ true
+  pub checked : forceCheck l f wholeEnds settings ≡ fine → Checked l f
   unfolding forceCheck
-  lengths-agree h =
+  checked h =
       let n = Calls.count l in
       let agree = inputLengths l && wholeEnds && pushLengths n f in
       let counts = countCheck mostParticles n then pushCounts f in
+      let places = checkEach (λ i _. coordinateCheck i (xAt (l .places) i) (yAt (l .places) i)) (upTo n) in
       let a = then-both (counts then lengthsCheck agree then pushEnds n f then pointsCheck l then pushRanges f then drawsCheck (l .draws)) (settingsCheck settings) h in
       let b = then-both (counts then lengthsCheck agree then pushEnds n f then pointsCheck l then pushRanges f) (drawsCheck (l .draws)) (a .0) in
       let c = then-both (counts then lengthsCheck agree then pushEnds n f then pointsCheck l) (pushRanges f) (b .0) in
       let d = then-both (counts then lengthsCheck agree then pushEnds n f) (pointsCheck l) (c .0) in
       let e = then-both (counts then lengthsCheck agree) (pushEnds n f) (d .0) in
       let g = then-both counts (lengthsCheck agree) (e .0) in
-      and-eq-true-iff (inputLengths l && wholeEnds) (pushLengths n f) .0 (require-true agree 2 0 (g .1)) .1
+      let p = then-both places (checkEach (λ i _. velocityCheck i (xAt (speeds l) i) (yAt (speeds l) i)) (upTo n)) (d .1) in
+      record {
+        lengths = and-eq-true-iff (inputLengths l && wholeEnds) (pushLengths n f) .0 (require-true agree 2 0 (g .1)) .1;
+        ranged = λ i k. require-true (placeRange (xAt (l .places) i) (yAt (l .places) i)) 4 i (fine-each (λ j. coordinateCheck j (xAt (l .places) j) (yAt (l .places) j)) 0 n (p .0) i (omega arith) (omega arith));
+      }
 
   force-done : (r : Counts) (m : Counted Flow) → forceResult l f wholeEnds alpha settings ≡ done m → r ≡ forceAnswer l (forceResult l f wholeEnds alpha settings) → Ran l f alpha r
   unfolding forceResult forceAnswer
@@ -52,7 +65,7 @@ module _ (l : ForceInput) (f : Push) (wholeEnds : Bool) (alpha : Float) (setting
     where
       go : (c : Check) (o : Outcome (Counted Flow)) → forceCheck l f wholeEnds settings ≡ c → run f (l .places) alpha (slotsOf (l .work)) (counted (flow (speeds l) (l .draws)) 0) ≡ o
           → (c >>= λ _. o >>= λ m. resultCheck (l .places) (m .state .speeds) >>= λ _. done m) ≡ done m → r .visits ≡ m .visits → Ran l f alpha r
-      go (done u) (done k) p q e v = record { lengths = lengths-agree p; last = k; run = q; visits = v ∙ ap (λ (m : Counted Flow). m .visits) (sym (settle (resultCheck (l .places) (k .state .speeds)) e)) }
+      go (done u) (done k) p q e v = record { checked = checked p; last = k; run = q; visits = v ∙ ap (λ (m : Counted Flow). m .visits) (sym (settle (resultCheck (l .places) (k .state .speeds)) e)) }
         where
           settle : (c : Check) → (c >>= λ _. done k) ≡ done m → k ≡ m
           settle (done u) e = cc

@@ -3,60 +3,39 @@
 --     closing-agrees, center-agrees        the particles of the columns that one form leaves are those that the other leaves
 use mathlib.Core.Path.{_≡_, refl, sym, ap, _∙_}
 use mathlib.Core.List.{List, [], _∷_}
-use Prim.Native.Nat.{ℕ, _+_}
+use Prim.Native.Nat.{ℕ}
 use native.Mathlib.Omega.{arith}
 use lib.ListN.{length}
 use lib.Ieee.{Float}
 use Rattle.rules.specs.declared.Particle.{Particle}
 use Rattle.rules.specs.declared.Refusal.{Refusal}
-use Rattle.rules.specs.Outcome.{Outcome, done, refused, Check, fine, _then_, _>>=_, refusalOf, checkFrom}
+use Rattle.rules.specs.Outcome.{done, refused, Check, _then_, _>>=_}
 use Rattle.rules.specs.Refusal.{mostParticles, countCheck, settingsCheck, resultCheck}
-use Rattle.rules.specs.Sheet.{recordCheck, recordsCheck, placesOf, speedsOf}
+use Rattle.rules.specs.Sheet.{recordsCheck, placesOf, speedsOf}
 use Rattle.rules.specs.Particle.{centered, closing}
 use Rattle.rules.specs.Calls.{listResult, listAnswer, centerResult, closingResult}
+use Rattle.rules.proofs.RefusalLaws.{done-of}
+use Rattle.rules.proofs.Places.{list-refuses, early-numbered, late-numbered}
 use Rattle.sheet.specs.Columns.{flagsOf}
-use Rattle.sheet.proofs.Checked.{record-fine}
 use Rattle.closing.specs.Columns.{particlesFrom}
-use Rattle.lists.proofs.Checks.{result-fine}
 use Rattle.closing.proofs.Closing.{particles-back}
 use Rattle.center.proofs.Centring.{center-speeds}
 use Rattle.talemiku.specs.Answered.{Answered}
-use Rattle.talemiku.proofs.Passes.{count-fine, settings-fine}
 use Rattle.columns.proofs.Flags.{centered-flags, closing-flags}
 
 -- ---- number 0 is an outcome that is done
 
--- a check that answers number 0 only where it is fine
-abbrev Sure : Check → Type 0
-Sure c = refusalOf c .number ≡ 0 → c ≡ fine
-
-past : {B : Type 0} (c : Check) (k : Unit {0} → Outcome B) → Sure c → refusalOf (c >>= k) .number ≡ 0 → (c ≡ fine) × (refusalOf (k tt) .number ≡ 0)
-past (done u) k sure z = (refl, z)
-past (refused r) k sure z = absurd (let e = sure z in let no : _≡_ {A = ℕ} 0 1 = cc in omega arith)
-
-sure-then : (c d : Check) → Sure c → Sure d → Sure (c then d)
-sure-then (done u) d sc sd z = sd z
-sure-then (refused r) d sc sd z = sc z
-
-sure-records : (i : ℕ) (ps : List Particle) → Sure (checkFrom recordCheck i ps)
-sure-records i [] z = refl
-sure-records i (p ∷ ps) z =
-    let g = past (recordCheck i p) (λ _. checkFrom recordCheck (i + 1) ps) (record-fine i p) z in
-    rw (g .0) (sure-records (i + 1) ps (g .1))
-
 module _ (settings : List Float) (f : List Particle → List Particle) (ps : List Particle) where
-  sure-before : Sure (countCheck mostParticles (length ps) then recordsCheck ps then settingsCheck settings)
-  unfolding recordsCheck
-  sure-before =
-      sure-then (countCheck mostParticles (length ps) then checkFrom recordCheck 0 ps) (settingsCheck settings)
-      (sure-then (countCheck mostParticles (length ps)) (checkFrom recordCheck 0 ps) (count-fine mostParticles (length ps)) (sure-records 0 ps)) (settings-fine settings)
-
   pub accepted : listAnswer (listResult settings f ps) .number ≡ 0 → listResult settings f ps ≡ done (f ps)
   unfolding listResult
   accepted z =
-      let g = past (countCheck mostParticles (length ps) then recordsCheck ps then settingsCheck settings) _ sure-before z in
-      let h = past (resultCheck (placesOf (f ps)) (speedsOf (f ps))) _ (result-fine (placesOf (f ps)) (speedsOf (f ps))) (g .1) in
-      rw (g .0, h .0)
+      let (qs, e) = done-of (listResult settings f ps) (list-refuses early-numbered late-numbered settings f ps) z in
+      go (countCheck mostParticles (length ps) then recordsCheck ps then settingsCheck settings) (resultCheck (placesOf (f ps)) (speedsOf (f ps))) qs e
+    where
+      go : (a b : Check) (qs : List Particle) → (a >>= λ _. b >>= λ _. done (f ps)) ≡ done qs → (a >>= λ _. b >>= λ _. done (f ps)) ≡ done (f ps)
+      go (done u) (done v) qs e = refl
+      go (done u) (refused r) qs e = absurd (let z : _≡_ {A = ℕ} 0 1 = cc in omega arith)
+      go (refused r) b qs e = absurd (let z : _≡_ {A = ℕ} 0 1 = cc in omega arith)
 
   -- what such a call leaves
   left : (r : Refusal) (after : List Particle) → Answered (listResult settings f ps) ps r after → r .number ≡ 0 → after ≡ f ps

@@ -1,52 +1,77 @@
--- What the public calls are shown to do, for any bytes, from what the entries promise alone: `AfterTree`, `Answered`, `AfterTick`, `AfterStep` are these promises. The words are those of rules/specs/Terms and specs/Told.
+-- What the public calls are shown to do, for any bytes, from what the entries promise alone: these promises are the equations of floor and root, `AfterTree`, `Answered` of a force, `Lists.Answered` of Center and the closing move, `AfterTick` and `AfterStep`. The words are those of rules/specs/Terms and specs/Told.
 use mathlib.Core.Path.{_≡_, refl, sym, ap, _∙_, subst}
-use mathlib.Core.Logic.{_⊎_, inl, inr, ⊎-elim, _↔_}
-use mathlib.Core.Bool.{true}
+use mathlib.Core.Logic.{_⊎_, _↔_}
+use mathlib.Core.Bool.{Bool, true, false}
 use mathlib.Core.List.{List, [], _∷_, _++_, map}
-use Prim.Native.Nat.{ℕ, _*_, _^_, _≤_, _<_}
+use Prim.Native.Nat.{ℕ, suc, _+_, _*_, _^_, _≤_, _<_}
 use native.Mathlib.Nat.{mul-le-mul-left}
 use native.Mathlib.Omega.{arith}
 use borrow.Author.Tests.{eqb-true}
+use lib.Dec.{T, leb}
+use lib.IntN.{pos}
 use lib.ListN.{length}
 use lib.Ieee.{Float}
 use Rattle.rules.specs.declared.Extent.{Extent}
+use Rattle.rules.specs.declared.FloorAnswer.{FloorAnswer}
 use Rattle.rules.specs.declared.Particle.{Particle}
 use Rattle.rules.specs.declared.Refusal.{Refusal}
 use Rattle.rules.specs.declared.Settings.{Settings}
 use Rattle.rules.specs.declared.TreeAnswer.{TreeAnswer}
 use Rattle.rules.specs.declared.Counts.{Counts}
 use Rattle.rules.specs.declared.StepAnswer.{StepAnswer}
-use Rattle.rules.specs.Plain.{padded, all, sum, upTo}
-use Rattle.rules.specs.Outcome.{refusal, fine}
-use Rattle.rules.specs.Number.{floatOf, xAt, yAt}
+use Rattle.rules.specs.Plain.{keep, padded, all, sum, upTo}
+use Rattle.rules.specs.Outcome.{Outcome, done, refused, refusal, fine, require, _>>=_, refusalOf, ifDone}
+use Rattle.rules.specs.Number.{0·, floatOf, bitsOf, within, xAt, yAt}
+use Rattle.rules.specs.Floor.{floor, floorResult, floorAnswer, IsFloor}
+use Rattle.rules.specs.Root.{root, rootBits, IsRoot}
 use Rattle.rules.specs.Refusal.{mostParticles}
 use Rattle.rules.specs.Sheet.{particlesOf}
-use Rattle.rules.specs.Cover.{Square, holds, coverFirst, extentOf}
-use Rattle.rules.specs.Tree.{Tree, rowsOf, flat, chainsOf}
-use Rattle.rules.specs.Flow.{flow}
+use Rattle.rules.specs.Cover.{Square, inside, holds, coverFirst, extentOf}
+use Rattle.rules.specs.Tree.{Tree, depth, greatestLevel, same, treeCheck, rowsOf, flat, chainsOf}
+use Rattle.rules.specs.Walk.{Counted}
+use Rattle.rules.specs.Flow.{Flow, flow}
 use Rattle.rules.specs.ManyBody.{standard, chargedTree, manyBodyStep}
 use Rattle.rules.specs.Collide.{radiusTree, collideStep}
 use Rattle.rules.specs.Force.{manyBody, collide, run}
-use Rattle.rules.specs.Number.{0·}
 use Rattle.rules.specs.Calls as Calls
-use Rattle.rules.specs.Calls.{slotsOf, TreeInput, treeResult, ForceInput, speeds, manyBodyResult, collideResult, linkResult, forceAnswer, centerResult, closingResult}
-use Rattle.rules.specs.Tick.{SheetInput, count, entries, forces, state, nextAlpha, sheetCheck, begun, tickSettings, ticksFrom, stepResult, stepAnswer}
-use Rattle.rules.specs.Terms.{leaves, EachLeaf, Oversized, Earliest, Treeless, times, inCell, IsTree, Sided, distinct, mostWalked, Walked, repeated, mostVisited, Forced, tickCounts}
+use Rattle.rules.specs.Calls.{slotsOf, TreeInput, treeLengths, inputCheck, treeResult, ForceInput, speeds, forceCheck, manyBodyResult, collideResult, linkResult, forceAnswer, centerResult, closingResult}
+use Rattle.rules.specs.Tick.{Force, SheetInput, count, entries, forces, State, state, nextAlpha, forceStage, tick, sheetCheck, begun, tickSettings, tickResult, tickAnswer, ticksFrom, stepResult, stepAnswer}
+use Rattle.rules.specs.Terms.{leaves, EachLeaf, Oversized, Earliest, NotOfTree, times, inCell, IsTree, Sided, distinct, mostNodes, Walked, repeated, mostVisited, ForceWalked, uncounted, Forced, tickCounts}
+use Rattle.rules.proofs.Theorems.{floor-is, root-is}
 use Rattle.rules.proofs.RefusalLaws.{of-answer}
 use Rattle.rules.proofs.Places as Places
-use Rattle.rules.proofs.CellRule.{unique, leaves-distinct, nodes-distinct, each-once}
-use Rattle.rules.proofs.Counting.{ticks-sum}
-use Rattle.cells.proofs.WholeTree.{whole-tree, leaves-hold, extent-sided}
+use Rattle.rules.proofs.CellCount.{in-count, times-in, length-upTo}
+use Rattle.rules.proofs.CellChain.{each-map, Chain}
+use Rattle.rules.proofs.CellRule.{unique, points, leaves-distinct, nodes-distinct, chains-length, each-once, chains as chains-of}
+use Rattle.rules.proofs.Counting.{sum-few, tick-counts-length, ticks-sum}
+use Rattle.number.proofs.Flooring.{within-finite}
+use Rattle.cells.proofs.WholeTree.{extent-sided, extent-holds, whole-tree, leaves-hold, ruled-fine, earliest-ruled, building, computed-exactly, ruled-exactly, earliest}
 use Rattle.rows.proofs.ListRows.{rows-count}
 use Rattle.tree.specs.Tree.{AfterTree}
 use Rattle.force_call.specs.Calls.{Answered}
 use Rattle.tick_call.specs.Tick.{AfterTick}
 use Rattle.step_call.specs.Step.{AfterStep}
 use Rattle.talemiku.specs.Answered as Lists
-use Rattle.talemiku.specs.Told.{placesLent, particlesLent, pointsLent, ruleTree, InputFine, mostOfTick}
-use Rattle.talemiku.proofs.Trees.{Accepted, input-fine, Builds, built, unbuilt, builds, refusal-is, accepts, answer-is, rows-are, chains-are}
-use Rattle.talemiku.proofs.Accepted.{force-ran, tick-ran, entries-fine}
-use Rattle.talemiku.proofs.Visits.{many-body-walked, collide-walked, tick-forced, ticks-few, all-few}
+use Rattle.talemiku.specs.Told.{placesLent, particlesLent, pointsLent, extentLent, ruleTree, InputFine, mostOfTick}
+use Rattle.talemiku.proofs.Trees.{Accepted, input-fine, input-refused, built-fine, builds, refusal-is, accepts, answer-is, rows-are, chains-are}
+use Rattle.talemiku.proofs.Accepted.{checked, force-ran, tick-ran, entries-fine}
+use Rattle.talemiku.proofs.Visits.{many-body-walked, collide-walked, force-walked, tick-forced, ticks-each, all-few}
+
+-- ==== floor and root
+
+-- An accepted floor is the greatest whole number at most x.
+pub floor-whole : (x : Float) (r : FloorAnswer) → r ≡ floorAnswer x → r .refusal .number ≡ 0 → IsFloor x (r .value)
+unfolding floorAnswer floorResult
+floor-whole x r e z = go (within x) refl (sym (ap (λ (r : FloorAnswer). r .refusal .number) e) ∙ z) (ap (λ (r : FloorAnswer). r .value) e)
+  where
+    go : (b : Bool) → within x ≡ b → refusalOf (require b 4 0 >>= λ _. done (floor x)) .number ≡ 0 → r .value ≡ ifDone (require b 4 0 >>= λ _. done (floor x)) (λ z. z) (pos 0) → IsFloor x (r .value)
+    go true w n v = rw v (floor-is x (within-finite x (subst T (sym w) tt)))
+    go false w n v = absurd (omega arith)
+
+-- What the root answers are the bits of the root that IEEE 754 names.
+pub root-nearest : (bits r : ℕ) → r ≡ rootBits bits → (y : Float) × (r ≡ bitsOf y) × IsRoot (floatOf bits) y
+unfolding rootBits
+root-nearest bits r e = (root (floatOf bits), e, root-is (floatOf bits))
 
 -- ==== the tree call
 
@@ -58,14 +83,14 @@ module _ (l : TreeInput) (r : TreeAnswer) (rows chains work : List ℕ) (a : Aft
     ok = accepts a z
 
     -- The extent is the one that is reached by covering the points in order.
-    pub tree-extent : r .extent ≡ extentOf (coverFirst (placesLent l) (particlesLent l))
+    pub tree-extent : r .extent ≡ extentLent l
     tree-extent = ap (λ (r : TreeAnswer). r .extent) (answer-is a ok)
 
     -- The rows are those of the cell rule's tree of that extent and the points, with zeros after them, and the chains are that tree's.
     pub tree-listed : (rows ≡ padded (length (l .rows)) 0 (flat (rowsOf (ruleTree l)))) × (chains ≡ chainsOf (ruleTree l))
     tree-listed = (rows-are a ok, chains-are a ok)
 
-    -- It is the tree that the cell rule names, however deep: no other tree is one of these points in that extent.
+    -- This tree keeps the cell rule (`IsTree`, which sets no greatest level), and it is the only one that does.
     pub tree-ruled : IsTree (placesLent l) (r .extent) (ruleTree l) (upTo (particlesLent l))
         × ((t : Tree Extent) → IsTree (placesLent l) (r .extent) t (upTo (particlesLent l)) → t ≡ ruleTree l)
     tree-ruled =
@@ -76,137 +101,215 @@ module _ (l : TreeInput) (r : TreeAnswer) (rows chains work : List ℕ) (a : Aft
     pub tree-leaves : leaves (ruleTree l) ≡ pointsLent l
     tree-leaves = leaves-distinct (placesLent l) (ruleTree l) (r .extent) (upTo (particlesLent l)) (tree-ruled .0)
 
-    -- Every particle stands in exactly one chain, once.
-    pub tree-once : (i : ℕ) → i < particlesLent l → times i chains ≡ 1
-    tree-once i k = rw (chains-are a ok) (each-once (placesLent l) (particlesLent l) i (ok .fits .0) k)
+    -- Each leaf's chain is all particles that are numerically equal to any of its own, in order.
+    pub tree-chains : EachLeaf (λ c is. (i : ℕ) → 0 < times i is → is ≡ keep (same (placesLent l) i) (upTo (particlesLent l))) (ruleTree l)
+    tree-chains =
+        each-map (λ _. Chain (placesLent l) (upTo (particlesLent l))) (λ c is. (i : ℕ) → 0 < times i is → is ≡ keep (same (placesLent l) i) (upTo (particlesLent l))) (λ c is h i m. h .whole i (times-in i is m)) (ruleTree l)
+        (chains-of (placesLent l) (ruleTree l) (r .extent) (upTo (particlesLent l)) (points (placesLent l) (upTo (particlesLent l)) (λ i m. input-fine l (ok .input) .ranged i (omega (arith, in-count 0 (particlesLent l) i m)))) (tree-ruled .0))
+
+    -- Every particle stands in exactly one chain, once, and nothing else does.
+    pub tree-once : ((i : ℕ) → i < particlesLent l → times i chains ≡ 1) × (length chains ≡ particlesLent l)
+    tree-once = (
+      λ i k. rw (chains-are a ok) (each-once (placesLent l) (particlesLent l) i (ok .fits .0) k),
+      rw (chains-are a ok) (chains-length (placesLent l) (ruleTree l) (r .extent) (upTo (particlesLent l)) (tree-ruled .0) ∙ length-upTo (particlesLent l)),
+    )
 
     -- Each leaf's points lie in its half-open cell.
     pub tree-inside : EachLeaf (λ c is. all (λ i. inCell c (xAt (placesLent l) i) (yAt (placesLent l) i)) is ≡ true) (ruleTree l)
     tree-inside = leaves-hold (placesLent l) (particlesLent l) (input-fine l (ok .input) .ranged) (ok .fits .0)
 
     -- The answer's node count is how many rows there are, at most 1 + 64 m for m distinct points.
-    pub tree-nodes : (r .nodes ≡ length (rowsOf (ruleTree l))) × (r .nodes ≤ mostWalked (pointsLent l))
+    pub tree-nodes : (r .nodes ≡ length (rowsOf (ruleTree l))) × (r .nodes ≤ mostNodes (pointsLent l))
     tree-nodes =
         let n = ap (λ (r : TreeAnswer). r .nodes) (answer-is a ok) in
         (n ∙ sym (rows-count 0 0 (ruleTree l)), omega (arith, n, nodes-distinct (placesLent l) (ruleTree l) (r .extent) (upTo (particlesLent l)) (tree-ruled .0) (ok .fits .0)))
 
-    -- Where there is a point, the extent is a square of whole numbers whose side is at most 2 ^ 43.
-    pub tree-side : 0 < particlesLent l → (s : Square) × (side : ℕ) × (r .extent ≡ extentOf (holds s)) × Sided side s × (side ≤ 2 ^ 43)
-    tree-side some =
-        let (s, side, e, d, m) = extent-sided (placesLent l) (particlesLent l) (input-fine l (ok .input) .ranged) some in
-        (s, side, tree-extent ∙ ap extentOf e, d, m)
+  -- ---- the checks of the input: 10, 1, 2, 4 and 5
 
-  -- ---- past the checks of the input: none of 10, 1, 2, 4 and 5
+  -- Where one of them refuses, that is the answer.
+  pub tree-input : (q : Refusal) → inputCheck mostParticles (treeLengths l) (l .sheet) ≡ refused q → r .refusal ≡ q
+  tree-input q e = refusal-is a ∙ ap refusalOf (input-refused l q e)
 
+  -- Past them:
   module _ (h : InputFine l) where
-    says : Builds l (r .refusal)
-    says = rw (refusal-is a) (builds l h)
+    -- Where there is a point, covering the first points reaches a square of whole numbers whose side is at most 2 ^ 43, and which holds the floors of all of them.
+    pub tree-side : (k : ℕ) → 0 < k → k ≤ particlesLent l
+        → (s : Square) × (side : ℕ) × (coverFirst (placesLent l) k ≡ holds s) × Sided side s × (0 < side) × (side ≤ 2 ^ 43) × (all (λ i. inside s (floor (xAt (placesLent l) i)) (floor (yAt (placesLent l) i))) (upTo k) ≡ true)
+    tree-side k some few = extent-sided (placesLent l) k (λ i m. input-fine l h .ranged i (omega arith)) some
+
+    -- The extent holds every point.
+    pub tree-holds : all (λ i. inCell (extentLent l) (xAt (placesLent l) i) (yAt (placesLent l) i)) (upTo (particlesLent l)) ≡ true
+    tree-holds = extent-holds (placesLent l) (particlesLent l) (input-fine l h .ranged)
 
     -- 6 or 7 is answered exactly where the cell rule's tree of all points goes below level 64 or needs more slots than were lent.
-    pub tree-refuses : ((r .refusal .number ≡ 6) ⊎ (r .refusal .number ≡ 7)) ↔ Oversized (slotsOf (l .work)) (ruleTree l)
-    tree-refuses = go (r .refusal) says
-      where
-        go : (q : Refusal) → Builds l q → ((q .number ≡ 6) ⊎ (q .number ≡ 7)) ↔ Oversized (slotsOf (l .work)) (ruleTree l)
-        go q (built f) = (λ n. ⊎-elim (λ e. absurd (omega arith)) (λ e. absurd (omega arith)) n, λ o. ⊎-elim (λ e. absurd (omega arith)) (λ e. absurd (omega arith)) o)
-        go q (unbuilt o e) = (λ _. o, λ _. ⊎-elim (λ k. inl (k .0)) (λ k. inr (k .0)) (e .number))
+    pub tree-refuses : ((r .refusal .number ≡ 6) ⊎ (r .refusal .number ≡ 7)) ↔ ((t : Tree Extent) → IsTree (placesLent l) (extentLent l) t (upTo (particlesLent l)) → Oversized (slotsOf (l .work)) t)
+    tree-refuses = ruled-exactly (placesLent l) (particlesLent l) (slotsOf (l .work)) (builds a h)
 
-    -- Otherwise nothing is refused.
-    pub tree-accepts : (Oversized (slotsOf (l .work)) (ruleTree l) → ⊥) → r .refusal ≡ refusal 0 0
-    tree-accepts fits = go (r .refusal) says
-      where
-        go : (q : Refusal) → Builds l q → q ≡ refusal 0 0
-        go q (built f) = refl
-        go q (unbuilt o e) = absurd (fits o)
+    -- That is: where the tree which the rules compute does.
+    pub tree-computes : ((r .refusal .number ≡ 6) ⊎ (r .refusal .number ≡ 7)) ↔ Oversized (slotsOf (l .work)) (ruleTree l)
+    tree-computes = computed-exactly (placesLent l) (particlesLent l) (slotsOf (l .work)) (builds a h)
 
-    -- Which of the two and where is the earliest prefix's.
-    pub tree-earliest : Oversized (slotsOf (l .work)) (ruleTree l) → Earliest (placesLent l) (particlesLent l) (slotsOf (l .work)) (r .refusal)
-    tree-earliest o = go (r .refusal) says o
-      where
-        go : (q : Refusal) → Builds l q → Oversized (slotsOf (l .work)) (ruleTree l) → Earliest (placesLent l) (particlesLent l) (slotsOf (l .work)) q
-        go q (built f) (inl e) = absurd (omega arith)
-        go q (built f) (inr e) = absurd (omega arith)
-        go q (unbuilt o e) _ = e
+    -- Otherwise, where there is such a tree that does not, nothing is refused.
+    pub tree-accepts : (t : Tree Extent) → IsTree (placesLent l) (extentLent l) t (upTo (particlesLent l)) → (Oversized (slotsOf (l .work)) t → ⊥) → r .refusal ≡ refusal 0 0
+    tree-accepts t g small =
+        refusal-is a ∙ ap refusalOf (built-fine l h (ruled-fine (placesLent l) (particlesLent l) t g (input-fine l h .ranged) (slotsOf (l .work)) small))
+
+    -- Which of the two and where is the earliest prefix's,
+    pub tree-earliest : (r .refusal .number ≡ 6) ⊎ (r .refusal .number ≡ 7) → Earliest (placesLent l) (particlesLent l) (slotsOf (l .work)) (r .refusal)
+    tree-earliest = earliest (placesLent l) (particlesLent l) (slotsOf (l .work)) (builds a h)
+
+    -- of which every tree by the cell rule is too large, and for 6 goes below level 64.
+    pub tree-prefix : (r .refusal .number ≡ 6) ⊎ (r .refusal .number ≡ 7) → (t : Tree Extent)
+        → IsTree (placesLent l) (extentOf (coverFirst (placesLent l) (r .refusal .place + 1))) t (upTo (r .refusal .place + 1)) → Oversized (slotsOf (l .work)) t × (r .refusal .number ≡ 6 → greatestLevel + 1 < depth t)
+    tree-prefix k t g = earliest-ruled (placesLent l) (particlesLent l) (slotsOf (l .work)) (r .refusal) (tree-earliest k) t g
 
 -- ==== ManyBody, Collide, Link
 
 module _ (l : ForceInput) (r : Counts) (buffer work : List ℕ) where
+  -- how many particles, and how many distinct points
+  abbrev n : ℕ
+  n = Calls.count l
+
   abbrev m : ℕ
-  m = distinct (l .places) (upTo (Calls.count l))
+  m = distinct (l .places) (upTo n)
 
-  -- ManyBody walks once for each particle: each walk's count is that of the rule's walk, at most 1 + 64 m for m distinct points (65 where all points coincide), and the visits answered are their sum.
-  pub many-body-visits : (strengths : List Float) (alpha : Float) → Answered l (manyBodyResult l strengths alpha) r buffer work → r .refusal .number ≡ 0
-      → Walked (manyBodyStep standard (l .places) strengths alpha) (chargedTree (l .places) strengths) (flow (speeds l) (l .draws)) (upTo (Calls.count l)) (r .visits) (mostWalked m)
-  unfolding run
-  many-body-visits strengths alpha a z =
-      let h = force-ran l (manyBody strengths) true alpha (alpha ∷ []) a z in
-      let n : length strengths ≡ Calls.count l = eqb-true (length strengths) (Calls.count l) (h .lengths) in
-      rw (h .visits)
-      (subst (λ (k : ℕ). Walked (manyBodyStep standard (l .places) strengths alpha) (chargedTree (l .places) strengths) (flow (speeds l) (l .draws)) (upTo k) (h .last .visits) (mostWalked (distinct (l .places) (upTo k)))) n
-      (many-body-walked standard (l .places) strengths alpha (slotsOf (l .work)) (flow (speeds l) (l .draws)) (h .last) (h .run)))
+  -- the extent reached by covering the points in order
+  abbrev extent : Extent
+  extent = extentOf (coverFirst (l .places) n)
 
-  -- So does Collide, in each iteration.
-  pub collide-visits : (radii : List Float) (strength : Float) (iterations : ℕ) → Answered l (collideResult l radii strength iterations) r buffer work → r .refusal .number ≡ 0
-      → Walked (collideStep (l .places) radii strength) (radiusTree (l .places) radii) (flow (speeds l) (l .draws)) (repeated iterations (upTo (Calls.count l))) (r .visits) (mostWalked m)
-  unfolding run
-  collide-visits radii strength iterations a z =
-      let h = force-ran l (collide radii strength iterations) true 0· [] a z in
-      let n : length radii ≡ Calls.count l = eqb-true (length radii) (Calls.count l) (h .lengths) in
-      rw (h .visits)
-      (subst (λ (k : ℕ). Walked (collideStep (l .places) radii strength) (radiusTree (l .places) radii) (flow (speeds l) (l .draws)) (repeated iterations (upTo k)) (h .last .visits) (mostWalked (distinct (l .places) (upTo k)))) n
-      (collide-walked (l .places) radii strength (slotsOf (l .work)) iterations (flow (speeds l) (l .draws)) (h .last) (h .run)))
+  -- A refusal counts nothing.
+  pub force-refused : (o : Outcome (Counted Flow)) → Answered l o r buffer work → (q : Refusal) → o ≡ refused q → (r .refusal ≡ q) × (r .visits ≡ 0) × (r .draws ≡ 0)
+  unfolding forceAnswer
+  force-refused o a q e = rw (a .answer, e) (refl, refl, refl)
+
+  module _ (strengths : List Float) (alpha : Float) (a : Answered l (manyBodyResult l strengths alpha) r buffer work) where
+    -- ManyBody walks once for each particle: each walk's count is that of the rule's walk, at most 1 + 64 m, and the visits answered are their sum.
+    pub many-body-visits : r .refusal .number ≡ 0
+        → Walked (manyBodyStep standard (l .places) strengths alpha) (chargedTree (l .places) strengths) (flow (speeds l) (l .draws)) (upTo n) (r .visits) (mostNodes m)
+    unfolding run
+    many-body-visits z =
+        let h = force-ran l (manyBody strengths) true alpha (alpha ∷ []) a z in
+        let e : length strengths ≡ n = eqb-true (length strengths) n (h .checked .lengths) in
+        rw (h .visits)
+        (subst (λ (k : ℕ). Walked (manyBodyStep standard (l .places) strengths alpha) (chargedTree (l .places) strengths) (flow (speeds l) (l .draws)) (upTo k) (h .last .visits) (mostNodes (distinct (l .places) (upTo k)))) e
+        (many-body-walked standard (l .places) strengths alpha (slotsOf (l .work)) (flow (speeds l) (l .draws)) (h .last) (h .run)))
+
+    -- Past its checks 6 or 7 is answered exactly where the cell rule's tree of all points is too large, for the earliest prefix of which that is so.
+    pub many-body-refuses : forceCheck l (manyBody strengths) true (alpha ∷ []) ≡ fine
+        → (((r .refusal .number ≡ 6) ⊎ (r .refusal .number ≡ 7)) ↔ ((t : Tree Extent) → IsTree (l .places) extent t (upTo n) → Oversized (slotsOf (l .work)) t))
+        × ((r .refusal .number ≡ 6) ⊎ (r .refusal .number ≡ 7) → Earliest (l .places) n (slotsOf (l .work)) (r .refusal))
+    unfolding forceAnswer
+    many-body-refuses h =
+        let c = checked l (manyBody strengths) true alpha (alpha ∷ []) h in
+        let e : length strengths ≡ n = eqb-true (length strengths) n (c .lengths) in
+        let is : r .refusal ≡ refusalOf (manyBodyResult l strengths alpha) = ap (λ (r : Counts). r .refusal) (a .answer) in
+        let b = Places.many-body-built l strengths alpha h in
+        let w = building (l .places) n (slotsOf (l .work)) (c .ranged) (r .refusal)
+        (λ q g. is ∙ ap refusalOf (b .0 q (ap (λ (k : ℕ). treeCheck (l .places) k (slotsOf (l .work))) e ∙ g)))
+        (λ g. rw is (of-answer (omega arith) (b .1 (ap (λ (k : ℕ). treeCheck (l .places) k (slotsOf (l .work))) e ∙ g)))) in
+        (ruled-exactly (l .places) n (slotsOf (l .work)) w, earliest (l .places) n (slotsOf (l .work)) w)
+
+  module _ (radii : List Float) (strength : Float) (iterations : ℕ) (a : Answered l (collideResult l radii strength iterations) r buffer work) where
+    -- Collide walks so in each iteration. Places don't change within a force, so the trees that are built anew are all the same one.
+    pub collide-visits : r .refusal .number ≡ 0
+        → Walked (collideStep (l .places) radii strength) (radiusTree (l .places) radii) (flow (speeds l) (l .draws)) (repeated iterations (upTo n)) (r .visits) (mostNodes m)
+    unfolding run
+    collide-visits z =
+        let h = force-ran l (collide radii strength iterations) true 0· [] a z in
+        let e : length radii ≡ n = eqb-true (length radii) n (h .checked .lengths) in
+        rw (h .visits)
+        (subst (λ (k : ℕ). Walked (collideStep (l .places) radii strength) (radiusTree (l .places) radii) (flow (speeds l) (l .draws)) (repeated iterations (upTo k)) (h .last .visits) (mostNodes (distinct (l .places) (upTo k)))) e
+        (collide-walked (l .places) radii strength (slotsOf (l .work)) iterations (flow (speeds l) (l .draws)) (h .last) (h .run)))
+
+  -- With an iteration Collide gives 6 or 7 as ManyBody does.
+  pub collide-refuses : (radii : List Float) (strength : Float) (k : ℕ) → Answered l (collideResult l radii strength (suc k)) r buffer work → forceCheck l (collide radii strength (suc k)) true [] ≡ fine
+      → (((r .refusal .number ≡ 6) ⊎ (r .refusal .number ≡ 7)) ↔ ((t : Tree Extent) → IsTree (l .places) extent t (upTo n) → Oversized (slotsOf (l .work)) t))
+      × ((r .refusal .number ≡ 6) ⊎ (r .refusal .number ≡ 7) → Earliest (l .places) n (slotsOf (l .work)) (r .refusal))
+  unfolding forceAnswer
+  collide-refuses radii strength k a h =
+      let c = checked l (collide radii strength (suc k)) true 0· [] h in
+      let e : length radii ≡ n = eqb-true (length radii) n (c .lengths) in
+      let is : r .refusal ≡ refusalOf (collideResult l radii strength (suc k)) = ap (λ (r : Counts). r .refusal) (a .answer) in
+      let b = Places.collide-built l radii strength k h in
+      let w = building (l .places) n (slotsOf (l .work)) (c .ranged) (r .refusal)
+      (λ q g. is ∙ ap refusalOf (b .0 q (ap (λ (k : ℕ). treeCheck (l .places) k (slotsOf (l .work))) e ∙ g)))
+      (λ g. rw is (of-answer (omega arith) (b .1 (ap (λ (k : ℕ). treeCheck (l .places) k (slotsOf (l .work))) e ∙ g)))) in
+      (ruled-exactly (l .places) n (slotsOf (l .work)) w, earliest (l .places) n (slotsOf (l .work)) w)
+
+  -- With 0 iterations it gives neither.
+  pub collide-neither : (radii : List Float) (strength : Float) → Answered l (collideResult l radii strength 0) r buffer work → NotOfTree (r .refusal)
+  unfolding forceAnswer
+  collide-neither radii strength a = rw (a .answer) (of-answer (omega arith) (Places.collide-other l radii strength))
 
   -- Link gives neither 6 nor 7.
-  pub link-treeless : (links : List ℕ) (strengths distances : List Float) (iterations : ℕ) (alpha : Float) → Answered l (linkResult l links strengths distances iterations alpha) r buffer work → Treeless (r .refusal)
+  pub link-neither : (links : List ℕ) (strengths distances : List Float) (iterations : ℕ) (alpha : Float) → Answered l (linkResult l links strengths distances iterations alpha) r buffer work → NotOfTree (r .refusal)
   unfolding forceAnswer
-  link-treeless links strengths distances iterations alpha a =
-      rw (a .answer) (of-answer (omega arith) (Places.link-treeless l links strengths distances iterations alpha))
-
-  -- With 0 iterations Collide gives neither.
-  pub collide-treeless : (radii : List Float) (strength : Float) → Answered l (collideResult l radii strength 0) r buffer work → Treeless (r .refusal)
-  unfolding forceAnswer
-  collide-treeless radii strength a = rw (a .answer) (of-answer (omega arith) (Places.collide-treeless l radii strength))
+  link-neither links strengths distances iterations alpha a = rw (a .answer) (of-answer (omega arith) (Places.link-other l links strengths distances iterations alpha))
 
 -- ==== Center and the closing move
 
 module _ (ps : List Particle) (r : Refusal) (after : List Particle) where
   -- Center gives neither 6 nor 7.
-  pub center-treeless : (x y strength : Float) → Lists.Answered (centerResult x y strength ps) ps r after → Treeless r
-  center-treeless x y strength a = rw (a .answer) (of-answer (omega arith) (Places.list-treeless _ _ ps))
+  pub center-neither : (x y strength : Float) → Lists.Answered (centerResult x y strength ps) ps r after → NotOfTree r
+  center-neither x y strength a = rw (a .answer) (of-answer (omega arith) (Places.list-other _ _ ps))
 
   -- Nor does the closing move.
-  pub closing-treeless : (decay : Float) → Lists.Answered (closingResult decay ps) ps r after → Treeless r
-  closing-treeless decay a = rw (a .answer) (of-answer (omega arith) (Places.list-treeless _ _ ps))
+  pub closing-neither : (decay : Float) → Lists.Answered (closingResult decay ps) ps r after → NotOfTree r
+  closing-neither decay a = rw (a .answer) (of-answer (omega arith) (Places.list-other _ _ ps))
 
 -- ==== a tick
+
+-- What a force of a tick hands out is the sum of its single walks over the tree of the places that it finds, each bounded as for the force alone.
+pub force-visits : (slots : ℕ) (m k : State) (f : Force) → forceStage slots (uncounted m) f ≡ done k → ForceWalked m f (k .visits)
+force-visits = force-walked
 
 module _ (l : SheetInput) (s : Settings) (r : Counts) (sheet : List ℕ) (alpha : ℕ) (work : List ℕ) (a : AfterTick l s r sheet alpha work) where
   -- The visits of an accepted tick are the sum over its forces, each counted by itself from the state that the one before left, and at most what all of them may hand out.
   pub tick-visits : r .refusal .number ≡ 0 → Forced (slotsOf (l .work)) (state (particlesOf (l .sheet)) (nextAlpha s (floatOf (l .alpha))) (l .draws) 0) (forces l) (r .visits)
   tick-visits z = let h = tick-ran l a z in rw (h .visits) (tick-forced s (forces l) (slotsOf (l .work)) (begun l s) (h .last) (h .run))
 
-  -- That is at most 8 times what Collide in 64 iterations of walks for each particle hands out, each of at most 1 + 64 n nodes for n particles.
+  -- So at most 8 * 64 * n * (1 + 64 n) for n particles, as if Collide with 64 iterations stood in every slot.
   pub tick-most : r .refusal .number ≡ 0 → r .visits ≤ mostOfTick (count l)
   tick-most z = let h = tick-ran l a z in omega (arith, tick-visits z .few, all-few (count l) 0 (entries l) (l .numbers) (l .links) (entries-fine l 0 (tickSettings l s) (h .input)))
 
+  -- A refused tick counts nothing.
+  pub tick-refused : (q : Refusal) → tickResult l s ≡ refused q → (r .refusal ≡ q) × (r .visits ≡ 0) × (r .draws ≡ 0)
+  unfolding tickAnswer
+  tick-refused q e = rw (a .answer, e) (refl, refl, refl)
+
 -- ==== a step
 
-module _ (l : SheetInput) (s : Settings) (least : Float) (budget : ℕ) (r : StepAnswer) (sheet : List ℕ) (alpha : ℕ) (work : List ℕ) (a : AfterStep l s least budget r sheet alpha work)
-    (h : sheetCheck l budget (tickSettings l s ++ (least ∷ [])) ≡ fine) where
-  abbrev counts : List ℕ
-  counts = tickCounts s least (forces l) (slotsOf (l .work)) budget (begun l s)
+-- What a tick of a step hands out is the sum over its forces, as for a tick alone.
+pub step-forces : (s : Settings) (fs : List Force) (slots : ℕ) (m k : State) → tick s fs slots (uncounted m) ≡ done k → Forced slots (state (m .particles) (nextAlpha s (m .alpha)) (m .draws) 0) fs (k .visits)
+step-forces = tick-forced
 
-  ran : (r .visits ≡ ticksFrom s least (forces l) (slotsOf (l .work)) budget 0 (begun l s) .last .visits) × (r .ticks ≡ ticksFrom s least (forces l) (slotsOf (l .work)) budget 0 (begun l s) .ticks)
+module _ (l : SheetInput) (s : Settings) (least : Float) (budget : ℕ) (r : StepAnswer) (sheet : List ℕ) (alpha : ℕ) (work : List ℕ) (a : AfterStep l s least budget r sheet alpha work) where
+  -- A step that itself refuses has done nothing and counts nothing.
+  pub step-refused : (q : Refusal) → sheetCheck l budget (tickSettings l s ++ (least ∷ [])) ≡ refused q → (r .refusal ≡ q) × (r .ticks ≡ 0) × (r .visits ≡ 0) × (r .draws ≡ 0)
   unfolding stepAnswer stepResult
-  ran = (ap (λ (r : StepAnswer). r .visits) (a .answer) ∙ rw h, ap (λ (r : StepAnswer). r .ticks) (a .answer) ∙ rw h)
+  step-refused q e = rw (a .answer, e) (refl, refl, refl, refl)
 
-  -- Past its checks the visits of a step are the sum over the ticks done, each counted by itself from the state that the one before left, and there is a count for each.
-  pub step-visits : (r .visits ≡ sum counts) × (r .ticks ≡ length counts)
-  step-visits = let t = ticks-sum s least (forces l) (slotsOf (l .work)) budget 0 (begun l s) in (omega (arith, ran .0, t .0), omega (arith, ran .1, t .1))
+  -- Where it refuses nothing itself (a tick may still end it by 6 to 9):
+  module _ (h : sheetCheck l budget (tickSettings l s ++ (least ∷ [])) ≡ fine) where
+    abbrev counts : List ℕ
+    counts = tickCounts s least (forces l) (slotsOf (l .work)) budget (begun l s)
 
-  -- Each hands out at most what the forces may.
-  pub step-few : r .visits ≤ r .ticks * sum (map mostVisited (forces l))
-  step-few = rw (step-visits .0, step-visits .1) (ticks-few s (forces l) (slotsOf (l .work)) least budget (begun l s))
+    ran : (r .visits ≡ ticksFrom s least (forces l) (slotsOf (l .work)) budget 0 (begun l s) .last .visits) × (r .ticks ≡ ticksFrom s least (forces l) (slotsOf (l .work)) budget 0 (begun l s) .ticks)
+    unfolding stepAnswer stepResult
+    ran = (ap (λ (r : StepAnswer). r .visits) (a .answer) ∙ rw h, ap (λ (r : StepAnswer). r .ticks) (a .answer) ∙ rw h)
 
-  -- So at most as much for each tick as a tick may.
-  pub step-most : r .visits ≤ r .ticks * mostOfTick (count l)
-  step-most = omega (arith, step-few, mul-le-mul-left (r .ticks) (all-few (count l) 0 (entries l) (l .numbers) (l .links) (entries-fine l budget (tickSettings l s ++ (least ∷ [])) h)))
+    -- Its visits are the sum over the ticks done, each counted by itself from the state that the one before left; there is a count for each, and at most `budget` of them.
+    pub step-visits : (r .visits ≡ sum counts) × (r .ticks ≡ length counts) × (r .ticks ≤ budget)
+    step-visits =
+        let t = ticks-sum s least (forces l) (slotsOf (l .work)) budget 0 (begun l s) in
+        (omega (arith, ran .0, t .0), omega (arith, ran .1, t .1), omega (arith, ran .1, t .1, tick-counts-length s least (forces l) (slotsOf (l .work)) budget (begun l s)))
+
+    -- Each tick hands out at most what the forces may.
+    pub step-few : all (λ k. leb k (sum (map mostVisited (forces l)))) counts ≡ true
+    step-few = ticks-each s (forces l) (slotsOf (l .work)) least budget (begun l s)
+
+    -- So all of them at most as much for each as a tick may.
+    pub step-most : r .visits ≤ r .ticks * mostOfTick (count l)
+    step-most =
+        let few = all-few (count l) 0 (entries l) (l .numbers) (l .links) (entries-fine l budget (tickSettings l s ++ (least ∷ [])) h) in
+        omega (arith, step-visits .0, rw (← step-visits .1) at (sum-few (sum (map mostVisited (forces l))) counts step-few), mul-le-mul-left (r .ticks) few)

@@ -1,10 +1,8 @@
--- The tree call's outcome, taken apart: what it is that it accepts, and that it refuses the rest by 6 and 7 once the input is fine. Assumes nothing.
+-- The tree call's outcome, taken apart: what it is that it accepts, and what it refuses. Assumes nothing.
 use mathlib.Core.Path.{_≡_, refl, sym, ap, _∙_}
-use mathlib.Core.Logic.{inl, inr}
 use mathlib.Core.Bool.{and-eq-true-iff}
 use mathlib.Core.List.{List, append-nil}
 use Prim.Native.Nat.{ℕ, _+_, _-_, _*_, _≤_}
-use native.Mathlib.Decide.{decLt}
 use native.Mathlib.Omega.{arith}
 use borrow.Author.Tests.{eqb-true}
 use lib.Dec.{eqb}
@@ -13,13 +11,12 @@ use Rattle.rules.specs.declared.Extent.{Extent}
 use Rattle.rules.specs.declared.Refusal.{Refusal}
 use Rattle.rules.specs.declared.TreeAnswer.{TreeAnswer}
 use Rattle.rules.specs.Plain.{padded, upTo}
-use Rattle.rules.specs.Outcome.{done, refused, refusal, Check, _then_, _>>=_, refusalOf}
+use Rattle.rules.specs.Outcome.{done, refused, refusal, Check, _then_, _>>=_, refusalOf, fine}
 use Rattle.rules.specs.Refusal.{mostParticles, countCheck}
 use Rattle.rules.specs.Sheet.{wholeRecords, countOf, particlesOf, recordsCheck}
 use Rattle.rules.specs.Cover.{coverFirst, extentOf}
 use Rattle.rules.specs.Tree.{Tree, greatestLevel, depth, nodes, treeCheck, rowsOf, flat, chainsOf}
 use Rattle.rules.specs.Calls.{slotsOf, treeOfSheet, TreeInput, treeLengths, inputCheck, treeResult, treeAnswer, rowsAfter, chainsAfter}
-use Rattle.rules.specs.Terms.{Oversized, Earliest}
 use Rattle.rules.proofs.RefusalLaws.{done-of}
 use Rattle.rules.proofs.Places.{tree-refuses, early-numbered, late-numbered}
 use Rattle.rules.proofs.CellCount.{length-upTo}
@@ -27,8 +24,8 @@ use Rattle.rules.proofs.CellRule.{chains-length}
 use Rattle.lists.proofs.Checks.{then-both, require-true}
 use Rattle.sheet.proofs.Checked.{places-ranged}
 use Rattle.sheet.proofs.Sheets.{particles-count}
-use Rattle.cells.proofs.Prefix.{InRange, check-fits, check-exact, check-earliest}
-use Rattle.cells.proofs.WholeTree.{whole-tree}
+use Rattle.cells.proofs.Prefix.{InRange, check-fits}
+use Rattle.cells.proofs.WholeTree.{whole-tree, Building, building}
 use Rattle.tree.specs.Tree.{AfterTree}
 use Rattle.talemiku.specs.Told.{placesLent, particlesLent, ruleTree, InputFine}
 
@@ -74,29 +71,21 @@ module _ (l : TreeInput) where
       let z : length (l .chains) - length (chainsOf (ruleTree l)) ≡ 0 = omega (arith, input-fine (a .input) .chains) in
       rw z (append-nil (chainsOf (ruleTree l)))
 
-  -- ---- what is refused once the input is fine
+  -- ---- what is refused
 
-  too-large : (slots : ℕ) → ((depth (ruleTree l) ≤ greatestLevel + 1) × (nodes (ruleTree l) ≤ slots) → ⊥) → Oversized slots (ruleTree l)
-  too-large slots fit = elim (decLt (greatestLevel + 1) (depth (ruleTree l))) [
-    | yes d ↦ inl d
-    | no e ↦ elim (decLt slots (nodes (ruleTree l))) [ yes m ↦ inr m | no f ↦ absurd (fit (omega arith, omega arith)) ]
-  ]
-
-  -- by what building the tree says
-  pub data Builds : Refusal → Type 0 where
-    built : (depth (ruleTree l) ≤ greatestLevel + 1) × (nodes (ruleTree l) ≤ slotsOf (l .work)) → Builds (refusal 0 0)
-    unbuilt : {r : Refusal} → Oversized (slotsOf (l .work)) (ruleTree l) → Earliest (placesLent l) (particlesLent l) (slotsOf (l .work)) r → Builds r
-
-  pub builds : InputFine l → Builds (refusalOf (treeResult mostParticles l))
+  -- a check of the input, and that alone
+  pub input-refused : (q : Refusal) → inputCheck mostParticles (treeLengths l) (l .sheet) ≡ refused q → treeResult mostParticles l ≡ refused q
   unfolding treeResult treeOfSheet
-  builds h = rw h (go (treeCheck (placesLent l) (particlesLent l) (slotsOf (l .work))) refl)
-    where
-      go : (c : Check) → treeCheck (placesLent l) (particlesLent l) (slotsOf (l .work)) ≡ c → Builds (refusalOf (c >>= λ _. done (ruleTree l)))
-      go (done t) e = built (check-fits (placesLent l) (particlesLent l) (slotsOf (l .work)) e)
-      go (refused r) e =
-          unbuilt
-          (too-large (slotsOf (l .work)) (λ fits. let k = check-exact (placesLent l) (particlesLent l) (input-fine h .ranged) (slotsOf (l .work)) .1 fits in let z : _≡_ {A = ℕ} 0 1 = cc in omega arith))
-          (check-earliest (placesLent l) (particlesLent l) (slotsOf (l .work)) r e)
+  input-refused q e = rw e
+
+  -- once the input is fine, what building refuses
+  pub built-refused : InputFine l → (q : Refusal) → treeCheck (placesLent l) (particlesLent l) (slotsOf (l .work)) ≡ refused q → treeResult mostParticles l ≡ refused q
+  unfolding treeResult treeOfSheet
+  built-refused h q e = rw (h, e)
+
+  pub built-fine : InputFine l → treeCheck (placesLent l) (particlesLent l) (slotsOf (l .work)) ≡ fine → treeResult mostParticles l ≡ done (ruleTree l)
+  unfolding treeResult treeOfSheet
+  built-fine h e = rw (h, e)
 
 -- ---- the call
 
@@ -104,6 +93,12 @@ module _ {l : TreeInput} {r : TreeAnswer} {rows chains work : List ℕ} (a : Aft
   pub refusal-is : r .refusal ≡ refusalOf (treeResult mostParticles l)
   unfolding treeAnswer
   refusal-is = ap (λ (r : TreeAnswer). r .refusal) (a .answer)
+
+  -- past the checks of its input: as building says
+  pub builds : InputFine l → Building (placesLent l) (particlesLent l) (slotsOf (l .work)) (r .refusal)
+  builds h =
+      building (placesLent l) (particlesLent l) (slotsOf (l .work)) (input-fine l h .ranged) (r .refusal) (λ q e. refusal-is ∙ ap refusalOf (built-refused l h q e))
+      (λ e. rw (refusal-is, built-fine l h e) (omega arith))
 
   -- answered 0
   pub accepts : r .refusal .number ≡ 0 → Accepted l

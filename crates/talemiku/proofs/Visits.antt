@@ -1,6 +1,6 @@
 -- How many nodes are handed out: by the single walks of ManyBody and Collide, by the forces of a tick, by the ticks of a step. What is counted is the sum of what each counts by itself, and each is bounded. Over the rules alone. Assumes nothing.
 use mathlib.Core.Path.{_≡_, refl, sym, ap, _∙_}
-use mathlib.Core.Bool.{Bool, true, false}
+use mathlib.Core.Bool.{true}
 use mathlib.Core.List.{List, [], _∷_, _++_, map}
 use Prim.Native.Nat.{ℕ, zero, suc, _+_, _*_, _≤_}
 use native.Mathlib.Nat.{mul-le-mul, mul-le-mul-left}
@@ -8,13 +8,13 @@ use native.Mathlib.Omega.{arith}
 use borrow.Author.Tests.{leb-true}
 use lib.Dec.{leb}
 use lib.ListN.{length, take, drop, length-append, length-take}
-use lib.Ieee.{Float, lt}
+use lib.Ieee.{Float}
 use Rattle.rules.specs.declared.ForceEntry.{ForceEntry}
 use Rattle.rules.specs.declared.Particle.{Particle}
 use Rattle.rules.specs.declared.Settings.{Settings}
 use Rattle.rules.specs.declared.Tuning.{Tuning}
-use Rattle.rules.specs.Plain.{branch, sum, upTo, countFrom}
-use Rattle.rules.specs.Outcome.{Outcome, done, refused, Check, fine, _then_, _>>=_, checkFrom, foldStages, ifDone}
+use Rattle.rules.specs.Plain.{all, sum, upTo, countFrom}
+use Rattle.rules.specs.Outcome.{Outcome, done, refused, Check, fine, _then_, _>>=_, checkFrom, foldStages}
 use Rattle.rules.specs.Refusal.{mostIterations, mostLinks, countCheck, alphaCheck, resultCheck}
 use Rattle.rules.specs.Sheet.{placesOf, speedsOf}
 use Rattle.rules.specs.Tree.{Tree, nodes, treeOf, treeCheck}
@@ -22,14 +22,14 @@ use Rattle.rules.specs.Walk.{Entry, Counted, counted, After, walk}
 use Rattle.rules.specs.Flow.{Flow, flow}
 use Rattle.rules.specs.ManyBody.{standard, chargedTree, leafCharge, nodeCharge, manyBodyStep, runManyBody}
 use Rattle.rules.specs.Collide.{radiusTree, leafRadius, nodeRadius, collideStep, collideOnce, runCollide}
-use Rattle.rules.specs.Link.{runLink}
+use Rattle.rules.specs.Link.{Ends, runLink}
 use Rattle.rules.specs.Force.{Push, manyBody, collide, link, endsFrom, run}
 use Rattle.rules.specs.Particle.{centered, closing}
 use Rattle.rules.specs.Tick.{Force, empty, push, center, unknown, byKind, entryCounts, numbersNeeded, linksNeeded, forceOf, forcesFrom, State, state, nextAlpha, alphaStage, settled, withSpeeds, pushStage, forceStage, tick}
-use Rattle.rules.specs.Terms.{distinct, mostWalked, Walked, repeated, mostVisited, uncounted, Forced, tickCounts}
+use Rattle.rules.specs.Terms.{distinct, mostNodes, Walked, repeated, mostVisited, ForceWalked, uncounted, Forced, tickCounts}
 use Rattle.rules.proofs.CellCount.{length-upTo, distinct-le}
 use Rattle.rules.proofs.CellRule.{tree-nodes}
-use Rattle.rules.proofs.Counting.{nodes-valued, stages-append, each-length, each-few, each-most, sum-few, walks-sum, forces-sum}
+use Rattle.rules.proofs.Counting.{nodes-valued, stages-append, each-length, each-few, each-most, sum-few, walks-sum, forces-sum, tick-counts-few}
 use Rattle.cells.proofs.Prefix.{check-fits}
 use Rattle.walk.proofs.WalkTheorems.{counts-few}
 use Rattle.lists.proofs.Checks.{bind-both, require-true}
@@ -59,19 +59,19 @@ module _ {A S : Type 0} (step : ℕ → Entry A → S → Outcome (After S)) (t 
       rw (← k) (omega (arith, w .total, sum-few most (w .counts) (w .few)))
 
 -- what a tree that can be built has: at most 1 + 64 d nodes for d distinct points
-few-nodes : (at : List Float) (n slots : ℕ) → treeCheck at n slots ≡ fine → nodes (treeOf at n) ≤ mostWalked (distinct at (upTo n))
+few-nodes : (at : List Float) (n slots : ℕ) → treeCheck at n slots ≡ fine → nodes (treeOf at n) ≤ mostNodes (distinct at (upTo n))
 few-nodes at n slots e = tree-nodes at n (check-fits at n slots e .0) .0
 
 -- ManyBody: one walk for each particle.
 pub many-body-walked : (t : Tuning) (at strengths : List Float) (alpha : Float) (slots : ℕ) (σ : Flow) (n : Counted Flow) → runManyBody t at strengths alpha slots (counted σ 0) ≡ done n
-    → Walked (manyBodyStep t at strengths alpha) (chargedTree at strengths) σ (upTo (length strengths)) (n .visits) (mostWalked (distinct at (upTo (length strengths))))
+    → Walked (manyBodyStep t at strengths alpha) (chargedTree at strengths) σ (upTo (length strengths)) (n .visits) (mostNodes (distinct at (upTo (length strengths))))
 unfolding runManyBody chargedTree
 many-body-walked t at strengths alpha slots σ n e = go (treeCheck at (length strengths) slots) refl e
   where
     go : (c : Check) → treeCheck at (length strengths) slots ≡ c → (c >>= λ _. foldStages (λ m i. walk (manyBodyStep t at strengths alpha i) (chargedTree at strengths) m) (counted σ 0) (upTo (length strengths))) ≡ done n
-        → Walked (manyBodyStep t at strengths alpha) (chargedTree at strengths) σ (upTo (length strengths)) (n .visits) (mostWalked (distinct at (upTo (length strengths))))
+        → Walked (manyBodyStep t at strengths alpha) (chargedTree at strengths) σ (upTo (length strengths)) (n .visits) (mostNodes (distinct at (upTo (length strengths))))
     go (done u) p e =
-        walked (manyBodyStep t at strengths alpha) (chargedTree at strengths) (upTo (length strengths)) σ n (mostWalked (distinct at (upTo (length strengths))))
+        walked (manyBodyStep t at strengths alpha) (chargedTree at strengths) (upTo (length strengths)) σ n (mostNodes (distinct at (upTo (length strengths))))
         (omega (arith, nodes-valued (λ c is. leafCharge at strengths is) (λ c qs. nodeCharge qs) (treeOf at (length strengths)), few-nodes at (length strengths) slots p)) e
     go (refused r) p e = never r e
 
@@ -102,14 +102,14 @@ module _ (at radii : List Float) (strength : Float) (slots : ℕ) where
       go (refused r) p e = never r e
 
   pub collide-walked : (iterations : ℕ) (σ : Flow) (n : Counted Flow) → runCollide at radii strength iterations slots (counted σ 0) ≡ done n
-      → Walked (collideStep at radii strength) (radiusTree at radii) σ (repeated iterations (upTo (length radii))) (n .visits) (mostWalked (distinct at (upTo (length radii))))
+      → Walked (collideStep at radii strength) (radiusTree at radii) σ (repeated iterations (upTo (length radii))) (n .visits) (mostNodes (distinct at (upTo (length radii))))
   unfolding runCollide radiusTree
   collide-walked zero σ n e = walked-none (cc)
     where
-      walked-none : counted σ 0 ≡ n → Walked (collideStep at radii strength) (radiusTree at radii) σ [] (n .visits) (mostWalked (distinct at (upTo (length radii))))
+      walked-none : counted σ 0 ≡ n → Walked (collideStep at radii strength) (radiusTree at radii) σ [] (n .visits) (mostNodes (distinct at (upTo (length radii))))
       walked-none z = rw (← z) (record { counts = []; each = refl; total = refl; few = refl })
   collide-walked (suc k) σ n e =
-      walked (collideStep at radii strength) (radiusTree at radii) (repeated (suc k) (upTo (length radii))) σ n (mostWalked (distinct at (upTo (length radii))))
+      walked (collideStep at radii strength) (radiusTree at radii) (repeated (suc k) (upTo (length radii))) σ n (mostNodes (distinct at (upTo (length radii))))
       (omega (arith, nodes-valued (λ c is. leafRadius radii is) (λ c rs. nodeRadius rs) (treeOf at (length radii)), few-nodes at (length radii) slots (once-fine (counted σ 0) n (λ y. foldStages (λ m _. collideOnce at radii strength slots m) y (countFrom (0 + 1) k)) e)))
       (turns (suc k) 0 (counted σ 0) n e)
 
@@ -126,44 +126,66 @@ length-repeated : (k : ℕ) (l : List ℕ) → length (repeated k l) ≡ k * len
 length-repeated zero l = omega arith
 length-repeated (suc k) l = length-append l (repeated k l) ∙ omega (arith, length-repeated k l)
 
-most-more : (a b : ℕ) → a ≤ b → mostWalked a ≤ mostWalked b
+most-more : (a b : ℕ) → a ≤ b → mostNodes a ≤ mostNodes b
 most-more a b l = omega arith
 
--- A force hands out at most what its kind may.
-run-few : (f : Push) (at : List Float) (alpha : Float) (slots : ℕ) (σ : Flow) (n : Counted Flow) → run f at alpha slots (counted σ 0) ≡ done n → n .visits ≤ mostVisited (push f)
-unfolding run
-run-few (manyBody strengths) at alpha slots σ n e =
-    let k = length strengths in
-    let w = walked-most (manyBodyStep standard at strengths alpha) (chargedTree at strengths) (many-body-walked standard at strengths alpha slots σ n e) in
-    let d : distinct at (upTo k) ≤ k = omega (arith, distinct-le at (upTo k), length-upTo k) in
-    omega (arith, rw (length-upTo k) at w, mul-le-mul-left k (most-more (distinct at (upTo k)) k d))
-run-few (collide radii strength iterations) at alpha slots σ n e =
-    let k = length radii in
-    let w = walked-most (collideStep at radii strength) (radiusTree at radii) (collide-walked at radii strength slots iterations σ n e) in
-    let d : distinct at (upTo k) ≤ k = omega (arith, distinct-le at (upTo k), length-upTo k) in
-    let v : n .visits ≤ iterations * k * mostWalked (distinct at (upTo k)) = rw (length-repeated iterations (upTo k), length-upTo k) at w in
-    omega (arith, v, mul-le-mul-left (iterations * k) (most-more (distinct at (upTo k)) k d))
-run-few (link links strengths distances iterations) at alpha slots σ n e = go (runLink at links strengths distances iterations alpha σ) e
-  where
-    go : (o : Outcome Flow) → (o >>= λ τ. done (counted τ 0)) ≡ done n → n .visits ≤ 0
-    go (done τ) e = let z : counted τ 0 ≡ n = cc in rw (← z) (omega arith)
-    go (refused r) e = never r e
+-- such a count is at most what the force's kind may hand out
+walked-few : (m : State) (f : Force) (k : ℕ) → ForceWalked m f k → k ≤ mostVisited f
+walked-few m empty k w = omega arith
+walked-few m (push (manyBody strengths)) k w =
+    let at = placesOf (m .particles) in
+    let n = length strengths in
+    let v = walked-most (manyBodyStep standard at strengths (m .alpha)) (chargedTree at strengths) w in
+    let d : distinct at (upTo n) ≤ n = omega (arith, distinct-le at (upTo n), length-upTo n) in
+    omega (arith, rw (length-upTo n) at v, mul-le-mul-left n (most-more (distinct at (upTo n)) n d))
+walked-few m (push (collide radii strength iterations)) k w =
+    let at = placesOf (m .particles) in
+    let n = length radii in
+    let v = walked-most (collideStep at radii strength) (radiusTree at radii) w in
+    let d : distinct at (upTo n) ≤ n = omega (arith, distinct-le at (upTo n), length-upTo n) in
+    let u : k ≤ iterations * n * mostNodes (distinct at (upTo n)) = rw (length-repeated iterations (upTo n), length-upTo n) at v in
+    omega (arith, u, mul-le-mul-left (iterations * n) (most-more (distinct at (upTo n)) n d))
+walked-few m (push (link links strengths distances iterations)) k w = omega arith
+walked-few m (center x y strength) k w = omega arith
+walked-few m unknown k w = omega arith
 
-stage-few : (slots : ℕ) (m n : State) (f : Force) → forceStage slots (uncounted m) f ≡ done n → n .visits ≤ mostVisited f
+-- a stage hands out what its force's run does
+walked-by : (f : Push) (P : ℕ → Type 0) (slots : ℕ) (m n : State)
+    → ((r : Counted Flow) → run f (placesOf (m .particles)) (m .alpha) slots (counted (flow (speedsOf (m .particles)) (m .draws)) 0) ≡ done r → P (r .visits))
+    → pushStage slots f (uncounted m) ≡ done n → P (n .visits)
 unfolding pushStage
-stage-few slots m n empty e = let z : uncounted m ≡ n = cc in rw (← z) (omega arith)
-stage-few slots m n (push f) e = go (run f (placesOf ps) (m .alpha) slots (counted (flow (speedsOf ps) (m .draws)) 0)) refl e
+walked-by f P slots m n h e = go (run f (placesOf ps) (m .alpha) slots (counted (flow (speedsOf ps) (m .draws)) 0)) refl e
   where
     ps : List Particle
     ps = m .particles
 
     go : (o : Outcome (Counted Flow)) → run f (placesOf ps) (m .alpha) slots (counted (flow (speedsOf ps) (m .draws)) 0) ≡ o
-        → (o >>= λ r. settled (withSpeeds (r .state .speeds) ps) (state ps (m .alpha) (r .state .draws) (r .visits))) ≡ done n → n .visits ≤ mostVisited (push f)
-    go (done r) p e =
-        omega (arith, settled-visits (withSpeeds (r .state .speeds) ps) (state ps (m .alpha) (r .state .draws) (r .visits)) n e, run-few f (placesOf ps) (m .alpha) slots (flow (speedsOf ps) (m .draws)) r p)
+        → (o >>= λ r. settled (withSpeeds (r .state .speeds) ps) (state ps (m .alpha) (r .state .draws) (r .visits))) ≡ done n → P (n .visits)
+    go (done r) p e = rw (settled-visits (withSpeeds (r .state .speeds) ps) (state ps (m .alpha) (r .state .draws) (r .visits)) n e) (h r p)
     go (refused q) p e = never q e
-stage-few slots m n (center x y strength) e = omega (arith, settled-visits (centered x y strength (m .particles)) (uncounted m) n e)
-stage-few slots m n unknown e = let z : uncounted m ≡ n = cc in rw (← z) (omega arith)
+
+-- Link hands out none
+link-none : (links : List Ends) (strengths distances : List Float) (iterations : ℕ) (at : List Float) (alpha : Float) (σ : Flow) (n : Counted Flow)
+    → (runLink at links strengths distances iterations alpha σ >>= λ τ. done (counted τ 0)) ≡ done n → n .visits ≡ 0
+link-none links strengths distances iterations at alpha σ n e = go (runLink at links strengths distances iterations alpha σ) e
+  where
+    go : (o : Outcome Flow) → (o >>= λ τ. done (counted τ 0)) ≡ done n → n .visits ≡ 0
+    go (done τ) e = let z : counted τ 0 ≡ n = cc in rw (← z)
+    go (refused r) e = never r e
+
+-- What a force of a tick hands out is the sum of its single walks, each bounded.
+pub force-walked : (slots : ℕ) (m n : State) (f : Force) → forceStage slots (uncounted m) f ≡ done n → ForceWalked m f (n .visits)
+unfolding pushStage run
+force-walked slots m n empty e = let z : uncounted m ≡ n = cc in rw (← z)
+force-walked slots m n (push (manyBody strengths)) e = walked-by (manyBody strengths) (λ k. Walked (manyBodyStep standard (placesOf (m .particles)) strengths (m .alpha)) (chargedTree (placesOf (m .particles)) strengths) (flow (speedsOf (m .particles)) (m .draws)) (upTo (length strengths)) k (mostNodes (distinct (placesOf (m .particles)) (upTo (length strengths))))) slots m n (many-body-walked standard (placesOf (m .particles)) strengths (m .alpha) slots (flow (speedsOf (m .particles)) (m .draws))) e
+force-walked slots m n (push (collide radii strength iterations)) e = walked-by (collide radii strength iterations) (λ k. Walked (collideStep (placesOf (m .particles)) radii strength) (radiusTree (placesOf (m .particles)) radii) (flow (speedsOf (m .particles)) (m .draws)) (repeated iterations (upTo (length radii))) k (mostNodes (distinct (placesOf (m .particles)) (upTo (length radii))))) slots m n (collide-walked (placesOf (m .particles)) radii strength slots iterations (flow (speedsOf (m .particles)) (m .draws))) e
+force-walked slots m n (push (link links strengths distances iterations)) e = walked-by (link links strengths distances iterations) (λ k. k ≡ 0) slots m n (λ r. link-none links strengths distances iterations (placesOf (m .particles)) (m .alpha) (flow (speedsOf (m .particles)) (m .draws)) r) e
+force-walked slots m n (center x y strength) e = settled-visits (centered x y strength (m .particles)) (uncounted m) n e
+force-walked slots m n unknown e = let z : uncounted m ≡ n = cc in rw (← z)
+
+-- so at most what its kind may
+stage-few : (slots : ℕ) (m n : State) (f : Force) → forceStage slots (uncounted m) f ≡ done n → n .visits ≤ mostVisited f
+stage-few slots m n f e = walked-few m f (n .visits) (force-walked slots m n f e)
 
 -- ---- a tick, from a state with nothing counted
 
@@ -189,28 +211,20 @@ module _ (s : Settings) (fs : List Force) (slots : ℕ) where
       go (done u) (refused r) p e = never r (sym (ap (λ (o : Outcome State). o >>= λ m₂. settled (closing (s .«velocity_decay») (m .particles) (m₂ .particles)) m₂) p) ∙ e)
       go (refused r) o p e = never r e
 
-  -- The ticks of a step: each at most what the forces may.
-  pub ticks-few : (least : Float) (k : ℕ) (m : State) → sum (tickCounts s least fs slots k m) ≤ length (tickCounts s least fs slots k m) * sum (map mostVisited fs)
-  unfolding tickCounts
-  ticks-few least zero m = omega arith
-  ticks-few least (suc k) m = go (lt least (m .alpha)) (tick s fs slots (uncounted m)) refl (λ n. ticks-few least k n)
-    where
-      go : (b : Bool) (o : Outcome State) → tick s fs slots (uncounted m) ≡ o → ((n : State) → sum (tickCounts s least fs slots k n) ≤ length (tickCounts s least fs slots k n) * sum (map mostVisited fs))
-          → sum (branch b (λ _. ifDone o (λ n. n .visits ∷ tickCounts s least fs slots k n) []) (λ _. [])) ≤ length (branch b (λ _. ifDone o (λ n. n .visits ∷ tickCounts s least fs slots k n) []) (λ _. [])) * sum (map mostVisited fs)
-      go true (done n) p rest = omega (arith, tick-forced m n p .few, rest n)
-      go true (refused r) p rest = omega arith
-      go false o p rest = omega arith
+  -- The ticks of a step: each hands out at most what the forces may.
+  pub ticks-each : (least : Float) (k : ℕ) (m : State) → all (λ c. leb c (sum (map mostVisited fs))) (tickCounts s least fs slots k m) ≡ true
+  ticks-each least k m = tick-counts-few s least fs slots (sum (map mostVisited fs)) (λ m n e. tick-forced m n e .few) k m
 
 -- ---- all forces of a sheet
 
-shorter : (k n : ℕ) → k ≤ n → k * mostWalked k ≤ n * mostWalked n
+shorter : (k n : ℕ) → k ≤ n → k * mostNodes k ≤ n * mostNodes n
 shorter k n l = mul-le-mul l (most-more k n l)
 
 entry-few : (n : ℕ) (e : ForceEntry) (numbers : List Float) (links : List ℕ) → entryCounts e ≡ fine → mostVisited (forceOf n e numbers links) ≤ mostOfForce n
 unfolding forceOf
 entry-few n e numbers links h = go (e .kind) h
   where
-    most : length (take n numbers) * mostWalked (length (take n numbers)) ≤ n * mostWalked n
+    most : length (take n numbers) * mostNodes (length (take n numbers)) ≤ n * mostNodes n
     most = shorter (length (take n numbers)) n (rw length-take (omega arith))
 
     go : (k : ℕ)

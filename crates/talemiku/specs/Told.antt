@@ -1,4 +1,4 @@
--- What the theorems about the entries call a call's places, its particles and the rule's tree of them. Definitions only.
+-- Names for what is lent to the tree call, and bounds for a force and a tick, in the theorems about the entries. Definitions only.
 use mathlib.Core.Path.{_≡_}
 use mathlib.Core.List.{List}
 use Prim.Native.Nat.{ℕ, _*_}
@@ -8,10 +8,11 @@ use Rattle.rules.specs.Plain.{upTo}
 use Rattle.rules.specs.Outcome.{fine}
 use Rattle.rules.specs.Refusal.{mostParticles, mostIterations}
 use Rattle.rules.specs.Sheet.{countOf, particlesOf, placesOf}
+use Rattle.rules.specs.Cover.{coverFirst, extentOf}
 use Rattle.rules.specs.Tree.{Tree, treeOf}
 use Rattle.rules.specs.Calls.{TreeInput, treeLengths, inputCheck}
 use Rattle.rules.specs.Tick.{forceSlots}
-use Rattle.rules.specs.Terms.{distinct, mostWalked}
+use Rattle.rules.specs.Terms.{distinct, mostNodes}
 
 -- ---- the tree call
 
@@ -28,7 +29,11 @@ module _ (l : TreeInput) where
   abbrev pub pointsLent : ℕ
   pointsLent = distinct placesLent (upTo particlesLent)
 
-  -- the cell rule's tree of all of them, in the extent reached by covering them in order
+  -- the extent reached by covering them in order
+  abbrev pub extentLent : Extent
+  extentLent = extentOf (coverFirst placesLent particlesLent)
+
+  -- the cell rule's tree of all of them there, cut off below level 65: one level more than is allowed, so that it shows where it goes on
   abbrev pub ruleTree : Tree Extent
   ruleTree = treeOf placesLent particlesLent
 
@@ -38,10 +43,10 @@ module _ (l : TreeInput) where
 
 -- ---- a force, a tick, a step
 
--- the most nodes that one force of n particles hands out: Collide's walks for each particle, in 64 iterations
+-- 64 times n walks of at most 1 + 64 n nodes: Collide with the most iterations; ManyBody's are fewer
 abbrev pub mostOfForce : ℕ → ℕ
-mostOfForce n = mostIterations * (n * mostWalked n)
+mostOfForce n = mostIterations * (n * mostNodes n)
 
--- the most that a tick of n particles hands out, with such a force in each slot
+-- the most that a tick of n particles hands out, as if that stood in each slot
 abbrev pub mostOfTick : ℕ → ℕ
 mostOfTick n = forceSlots * mostOfForce n

@@ -1,4 +1,5 @@
 // The entries for a host: numbers and slices in, a struct out. Each only calls the function that does the work, and says the same of it; Center and the closing move do it themselves, on a lent list of particles.
+// What follows from these promises, for any bytes, is shown in proofs/Theorems.
 mod applying;
 mod centring;
 mod check;
@@ -38,7 +39,7 @@ pub extern "C" fn talemiku_root(bits: u64) -> u64
     square_root::root_bits(bits)
 }
 
-// The tree of a sheet: four numbers a node into `rows`, the numbers of the chains into `chains`.
+// The tree of a sheet: four numbers a node into `rows`, the numbers of the chains into `chains`. Eight words of `work` are a slot, `rows` has four numbers for each slot, `chains` one for each particle.
 #[no_mangle]
 pub extern "C" fn talemiku_tree(
     records: &[u8],
@@ -127,7 +128,8 @@ pub extern "C" fn talemiku_link(
     )
 }
 
-// One tick of a sheet. Alpha is lent as the word of its bits; `forces` are eight entries of seven words, whose numbers and link ends lie one after another.
+// One tick of a sheet. Alpha is lent as the word of its bits; `forces` are eight entries of seven words, whose numbers and link ends lie one after another. An entry: its kind (0 empty, 1 ManyBody, 2 Collide,
+// 3 Link, 4 Center), iterations, links, link strengths, and three settings as bits (Collide: its strength; Center: x, y, strength).
 #[no_mangle]
 pub extern "C" fn talemiku_tick(
     sheet: &mut [u8],

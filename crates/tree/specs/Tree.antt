@@ -34,7 +34,7 @@ refusedTree r = record { refusal = r; nodes = 0; extent = nowhere }
 abbrev pub refusedWork : Refusal → List ℕ → List ℕ
 refusedWork r work = cond (zeroesWork r) (zeros work) work
 
--- every check is passed but 6 and 7
+-- past its checks of the count, of the lengths and of the records
 pub record Passed (l : TreeInput) : Type 0 where
   pub few : countOf (l .sheet) ≤ mostParticles
   pub rows : length (l .rows) ≡ slotsOf (l .work) * 4
