@@ -1,7 +1,8 @@
 //! The entries of the archive with slices for pointers and lengths, and answers as they come. All unsafe code is here.
 //!
 //! These declarations have the names, the order and the types of crates/talemiku/src and crates/rules/src/lib.rt. A slice passes as a pointer and a length, in order; an array
-//! behind a reference as a pointer alone. The linker knows nothing of types, so what stands here is believed; how the structs lie in memory is tested as they are compiled.
+//! behind a reference as a pointer alone. The linker knows nothing of types, so what stands here is believed: host/declared holds it to these
+//! sources, as text, and how the structs lie in memory is tested as they are compiled.
 //!
 //! Why each call is safe: a pointer and a length come from one slice, borrowed for the call, and `&mut` where the entry may write. The entries are proved to stay within
 //! these lengths and to end, whatever the contents; they keep no pointer and don't unwind.
