@@ -5,25 +5,30 @@ use mathlib.Core.List.{List}
 use Prim.Native.Nat.{ℕ}
 use native.Mathlib.Omega.{arith}
 use lib.Ieee.{Float}
+use Rattle.rules.specs.declared.Refusal.{Refusal}
 use Rattle.rules.specs.declared.Settings.{Settings}
 use Rattle.rules.specs.declared.Counts.{Counts}
-use Rattle.rules.specs.Outcome.{Outcome, done, refused, Check, fine, _then_, _>>=_, checkEach}
+use Rattle.rules.specs.Outcome.{Outcome, done, refused, Check, fine, _then_, _>>=_, checkEach, refusalOf}
 use Rattle.rules.specs.Plain.{upTo}
 use Rattle.rules.specs.Number.{placeRange, xAt, yAt}
 use Rattle.rules.specs.Refusal.{mostParticles, mostTicks, countCheck, lengthsCheck, coordinateCheck, velocityCheck, drawsCheck, settingsCheck, resultCheck}
 use Rattle.rules.specs.Sheet.{wholeRecords, particlesOf, recordsCheck}
+use Rattle.rules.specs.Tree.{treeCheck}
 use Rattle.rules.specs.Walk.{Counted, counted}
 use Rattle.rules.specs.Flow.{Flow, flow}
 use Rattle.rules.specs.Force.{Push, pushCounts, pushLengths, pushEnds, pushRanges, run}
 use Rattle.rules.specs.Calls as Calls
 use Rattle.rules.specs.Calls.{slotsOf, ForceInput, speeds, inputLengths, pointsCheck, forceCheck, forceResult, forceAnswer}
 use Rattle.rules.specs.Tick.{SheetInput, count, entries, forces, entryCounts, forceEnds, forceRanges, listLengths, sheetCheck, State, tick, begun, tickSettings, tickResult, tickAnswer}
-use Rattle.rules.proofs.RefusalLaws.{done-of}
+use Rattle.rules.specs.Terms.{NotOfTree}
+use Rattle.rules.proofs.RefusalLaws.{Refuses, done-of, of-answer}
 use Rattle.rules.proofs.Places.{force-refuses, tick-refuses, early-numbered, late-numbered}
 use Rattle.cells.proofs.Prefix.{InRange, fine-each}
+use Rattle.cells.proofs.WholeTree.{building, ruled-exactly, earliest}
 use Rattle.lists.proofs.Checks.{then-both, require-true}
 use Rattle.force_call.specs.Calls.{Answered}
 use Rattle.tick_call.specs.Tick.{AfterTick}
+use Rattle.talemiku.specs.Told.{TreeRefused}
 
 -- ---- a force's call
 
@@ -79,6 +84,17 @@ module _ (l : ForceInput) (f : Push) (wholeEnds : Bool) (alpha : Float) (setting
   force-ran {r} a z =
       let (m, e) = done-of (forceResult l f wholeEnds alpha settings) (force-refuses early-numbered late-numbered l f wholeEnds alpha settings) (sym (ap (λ (r : Counts). r .refusal .number) (a .answer)) ∙ z) in
       force-done r m e (a .answer)
+
+-- a force of k = n particles that refuses as building its tree does, and where that is fine by neither 6 nor 7
+pub force-refuses-tree : (l : ForceInput) {r : Counts} {buffer work : List ℕ} (o : Outcome (Counted Flow)) (k : ℕ) → Answered l o r buffer work → InRange (l .places) (Calls.count l) → k ≡ Calls.count l
+    → ((q : Refusal) → treeCheck (l .places) k (slotsOf (l .work)) ≡ refused q → o ≡ refused q) × (treeCheck (l .places) k (slotsOf (l .work)) ≡ fine → Refuses NotOfTree o)
+    → TreeRefused (l .places) (Calls.count l) (slotsOf (l .work)) (r .refusal)
+unfolding forceAnswer
+force-refuses-tree l {r} o k a ranged e b =
+    let is : r .refusal ≡ refusalOf o = ap (λ (r : Counts). r .refusal) (a .answer) in
+    let same = ap (λ (k : ℕ). treeCheck (l .places) k (slotsOf (l .work))) e in
+    let w = building (l .places) (Calls.count l) (slotsOf (l .work)) ranged (r .refusal) (λ q g. is ∙ ap refusalOf (b .0 q (same ∙ g))) (λ g. rw is (of-answer (omega arith) (b .1 (same ∙ g)))) in
+    record { exactly = ruled-exactly (l .places) (Calls.count l) (slotsOf (l .work)) w; earliest = earliest (l .places) (Calls.count l) (slotsOf (l .work)) w }
 
 -- ---- a tick and a step
 

@@ -27,7 +27,7 @@ use Rattle.rules.specs.Root.{root, rootBits, IsRoot}
 use Rattle.rules.specs.Refusal.{mostParticles}
 use Rattle.rules.specs.Sheet.{particlesOf}
 use Rattle.rules.specs.Cover.{Square, inside, holds, coverFirst, extentOf}
-use Rattle.rules.specs.Tree.{Tree, depth, greatestLevel, same, treeCheck, rowsOf, flat, chainsOf}
+use Rattle.rules.specs.Tree.{Tree, depth, greatestLevel, same, rowsOf, flat, chainsOf}
 use Rattle.rules.specs.Walk.{Counted}
 use Rattle.rules.specs.Flow.{Flow, flow}
 use Rattle.rules.specs.ManyBody.{standard, chargedTree, manyBodyStep}
@@ -45,16 +45,16 @@ use Rattle.rules.proofs.CellChain.{each-map, Chain}
 use Rattle.rules.proofs.CellRule.{unique, points, leaves-distinct, nodes-distinct, chains-length, each-once, chains as chains-of}
 use Rattle.rules.proofs.Counting.{sum-few, tick-counts-length, ticks-sum}
 use Rattle.number.proofs.Flooring.{within-finite}
-use Rattle.cells.proofs.WholeTree.{extent-sided, extent-holds, whole-tree, leaves-hold, ruled-fine, earliest-ruled, building, computed-exactly, ruled-exactly, earliest}
+use Rattle.cells.proofs.WholeTree.{extent-sided, extent-holds, whole-tree, leaves-hold, ruled-fine, earliest-ruled, computed-exactly, ruled-exactly, earliest}
 use Rattle.rows.proofs.ListRows.{rows-count}
 use Rattle.tree.specs.Tree.{AfterTree}
 use Rattle.force_call.specs.Calls.{Answered}
 use Rattle.tick_call.specs.Tick.{AfterTick}
 use Rattle.step_call.specs.Step.{AfterStep}
 use Rattle.talemiku.specs.Answered as Lists
-use Rattle.talemiku.specs.Told.{placesLent, particlesLent, pointsLent, extentLent, ruleTree, InputFine, mostOfTick}
+use Rattle.talemiku.specs.Told.{placesLent, particlesLent, pointsLent, extentLent, ruleTree, InputFine, mostOfTick, TreeRefused}
 use Rattle.talemiku.proofs.Trees.{Accepted, input-fine, input-refused, built-fine, builds, refusal-is, accepts, answer-is, rows-are, chains-are}
-use Rattle.talemiku.proofs.Accepted.{checked, force-ran, tick-ran, entries-fine}
+use Rattle.talemiku.proofs.Accepted.{checked, force-ran, force-refuses-tree, tick-ran, entries-fine}
 use Rattle.talemiku.proofs.Visits.{many-body-walked, collide-walked, force-walked, tick-forced, ticks-each, all-few}
 
 -- ==== floor and root
@@ -173,10 +173,6 @@ module _ (l : ForceInput) (r : Counts) (buffer work : List ℕ) where
   abbrev m : ℕ
   m = distinct (l .places) (upTo n)
 
-  -- the extent reached by covering the points in order
-  abbrev extent : Extent
-  extent = extentOf (coverFirst (l .places) n)
-
   -- A refusal counts nothing.
   pub force-refused : (o : Outcome (Counted Flow)) → Answered l o r buffer work → (q : Refusal) → o ≡ refused q → (r .refusal ≡ q) × (r .visits ≡ 0) × (r .draws ≡ 0)
   unfolding forceAnswer
@@ -194,20 +190,11 @@ module _ (l : ForceInput) (r : Counts) (buffer work : List ℕ) where
         (subst (λ (k : ℕ). Walked (manyBodyStep standard (l .places) strengths alpha) (chargedTree (l .places) strengths) (flow (speeds l) (l .draws)) (upTo k) (h .last .visits) (mostNodes (distinct (l .places) (upTo k)))) e
         (many-body-walked standard (l .places) strengths alpha (slotsOf (l .work)) (flow (speeds l) (l .draws)) (h .last) (h .run)))
 
-    -- Past its checks 6 or 7 is answered exactly where the cell rule's tree of all points is too large, for the earliest prefix of which that is so.
-    pub many-body-refuses : forceCheck l (manyBody strengths) true (alpha ∷ []) ≡ fine
-        → (((r .refusal .number ≡ 6) ⊎ (r .refusal .number ≡ 7)) ↔ ((t : Tree Extent) → IsTree (l .places) extent t (upTo n) → Oversized (slotsOf (l .work)) t))
-        × ((r .refusal .number ≡ 6) ⊎ (r .refusal .number ≡ 7) → Earliest (l .places) n (slotsOf (l .work)) (r .refusal))
-    unfolding forceAnswer
+    -- Past its checks it gives 6 or 7 as the tree call does.
+    pub many-body-refuses : forceCheck l (manyBody strengths) true (alpha ∷ []) ≡ fine → TreeRefused (l .places) n (slotsOf (l .work)) (r .refusal)
     many-body-refuses h =
         let c = checked l (manyBody strengths) true alpha (alpha ∷ []) h in
-        let e : length strengths ≡ n = eqb-true (length strengths) n (c .lengths) in
-        let is : r .refusal ≡ refusalOf (manyBodyResult l strengths alpha) = ap (λ (r : Counts). r .refusal) (a .answer) in
-        let b = Places.many-body-built l strengths alpha h in
-        let w = building (l .places) n (slotsOf (l .work)) (c .ranged) (r .refusal)
-        (λ q g. is ∙ ap refusalOf (b .0 q (ap (λ (k : ℕ). treeCheck (l .places) k (slotsOf (l .work))) e ∙ g)))
-        (λ g. rw is (of-answer (omega arith) (b .1 (ap (λ (k : ℕ). treeCheck (l .places) k (slotsOf (l .work))) e ∙ g)))) in
-        (ruled-exactly (l .places) n (slotsOf (l .work)) w, earliest (l .places) n (slotsOf (l .work)) w)
+        force-refuses-tree l (manyBodyResult l strengths alpha) (length strengths) a (c .ranged) (eqb-true (length strengths) n (c .lengths)) (Places.many-body-built l strengths alpha h)
 
   module _ (radii : List Float) (strength : Float) (iterations : ℕ) (a : Answered l (collideResult l radii strength iterations) r buffer work) where
     -- Collide walks so in each iteration. Places don't change within a force, so the trees that are built anew are all the same one.
@@ -223,18 +210,10 @@ module _ (l : ForceInput) (r : Counts) (buffer work : List ℕ) where
 
   -- With an iteration Collide gives 6 or 7 as ManyBody does.
   pub collide-refuses : (radii : List Float) (strength : Float) (k : ℕ) → Answered l (collideResult l radii strength (suc k)) r buffer work → forceCheck l (collide radii strength (suc k)) true [] ≡ fine
-      → (((r .refusal .number ≡ 6) ⊎ (r .refusal .number ≡ 7)) ↔ ((t : Tree Extent) → IsTree (l .places) extent t (upTo n) → Oversized (slotsOf (l .work)) t))
-      × ((r .refusal .number ≡ 6) ⊎ (r .refusal .number ≡ 7) → Earliest (l .places) n (slotsOf (l .work)) (r .refusal))
-  unfolding forceAnswer
+      → TreeRefused (l .places) n (slotsOf (l .work)) (r .refusal)
   collide-refuses radii strength k a h =
       let c = checked l (collide radii strength (suc k)) true 0· [] h in
-      let e : length radii ≡ n = eqb-true (length radii) n (c .lengths) in
-      let is : r .refusal ≡ refusalOf (collideResult l radii strength (suc k)) = ap (λ (r : Counts). r .refusal) (a .answer) in
-      let b = Places.collide-built l radii strength k h in
-      let w = building (l .places) n (slotsOf (l .work)) (c .ranged) (r .refusal)
-      (λ q g. is ∙ ap refusalOf (b .0 q (ap (λ (k : ℕ). treeCheck (l .places) k (slotsOf (l .work))) e ∙ g)))
-      (λ g. rw is (of-answer (omega arith) (b .1 (ap (λ (k : ℕ). treeCheck (l .places) k (slotsOf (l .work))) e ∙ g)))) in
-      (ruled-exactly (l .places) n (slotsOf (l .work)) w, earliest (l .places) n (slotsOf (l .work)) w)
+      force-refuses-tree l (collideResult l radii strength (suc k)) (length radii) a (c .ranged) (eqb-true (length radii) n (c .lengths)) (Places.collide-built l radii strength k h)
 
   -- With 0 iterations it gives neither.
   pub collide-neither : (radii : List Float) (strength : Float) → Answered l (collideResult l radii strength 0) r buffer work → NotOfTree (r .refusal)

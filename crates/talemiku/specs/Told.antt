@@ -1,9 +1,11 @@
--- Names for what is lent to the tree call, and bounds for a force and a tick, in the theorems about the entries. Definitions only.
+-- Names for what is lent to the tree call, bounds for a force and a tick, and how a force refuses a tree, in the theorems about the entries. Definitions only.
 use mathlib.Core.Path.{_≡_}
+use mathlib.Core.Logic.{_⊎_, _↔_}
 use mathlib.Core.List.{List}
 use Prim.Native.Nat.{ℕ, _*_}
 use lib.Ieee.{Float}
 use Rattle.rules.specs.declared.Extent.{Extent}
+use Rattle.rules.specs.declared.Refusal.{Refusal}
 use Rattle.rules.specs.Plain.{upTo}
 use Rattle.rules.specs.Outcome.{fine}
 use Rattle.rules.specs.Refusal.{mostParticles, mostIterations}
@@ -12,7 +14,7 @@ use Rattle.rules.specs.Cover.{coverFirst, extentOf}
 use Rattle.rules.specs.Tree.{Tree, treeOf}
 use Rattle.rules.specs.Calls.{TreeInput, treeLengths, inputCheck}
 use Rattle.rules.specs.Tick.{forceSlots}
-use Rattle.rules.specs.Terms.{distinct, mostNodes}
+use Rattle.rules.specs.Terms.{Oversized, Earliest, IsTree, distinct, mostNodes}
 
 -- ---- the tree call
 
@@ -50,3 +52,8 @@ mostOfForce n = mostIterations * (n * mostNodes n)
 -- the most that a tick of n particles hands out, as if that stood in each slot
 abbrev pub mostOfTick : ℕ → ℕ
 mostOfTick n = forceSlots * mostOfForce n
+
+-- A force that builds the tree of n particles, in this many slots, gives 6 or 7 exactly where the cell rule's tree of all of them goes below level 64 or needs more slots, and then for the earliest prefix of which that is so.
+pub record TreeRefused (at : List Float) (n slots : ℕ) (r : Refusal) : Type 0 where
+  pub exactly : ((r .number ≡ 6) ⊎ (r .number ≡ 7)) ↔ ((t : Tree Extent) → IsTree at (extentOf (coverFirst at n)) t (upTo n) → Oversized slots t)
+  pub earliest : (r .number ≡ 6) ⊎ (r .number ≡ 7) → Earliest at n slots r
