@@ -42,10 +42,6 @@ accepts-then : (a b : Check) → Accepts (a then b) → Accepts a × Accepts b
 accepts-then (done u) b h = (tt, h)
 accepts-then (refused r) b h = absurd h
 
-accepts-bind : {A B : Type 0} (o : Outcome A) (f : A → Outcome B) → Accepts (o >>= f) → Accepts o × ((a : A) × Accepts (f a))
-accepts-bind (done a) f h = (tt, (a, h))
-accepts-bind (refused r) f h = absurd h
-
 accepts-require : (ok : Bool) (n p : ℕ) → Accepts (require ok n p) → ok ≡ true
 accepts-require true n p h = refl
 accepts-require false n p h = absurd h
