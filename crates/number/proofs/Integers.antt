@@ -2,7 +2,7 @@
 use mathlib.Core.Path.{_≡_, refl, sym, ap, ap₂, _∙_, subst}
 use mathlib.Core.Bool.{Bool, true, false, not, cond, _&&_, Bool·beq, true≢false, false≢true}
 use Prim.Native.Nat.{ℕ, zero, suc, _+_, _-_, _*_, _^_, _≤_, _<_}
-use native.Mathlib.Nat.{le-refl, le-trans, le-of-eq, add-comm, mul-assoc, mul-comm, mul-one, mul-sub, add-mul, mul-pos, zero-lt-suc}
+use native.Mathlib.Nat.{le-trans, le-of-eq, mul-assoc, mul-comm, mul-one, mul-sub, add-mul, mul-pos, zero-lt-suc}
 use native.Mathlib.Omega.{arith}
 use lib.IntN.{ℤ, pos, negsuc, natAbs, subℕ, _+ℤ_, _-ℤ_, +ℤ-idr}
 use lib.Signed.{ltZ, leZ}
@@ -15,6 +15,7 @@ use lib.Ieee.Scale.{round-same}
 use lib.Ieee.Back.{round-whole}
 use Rattle.rules.specs.Number.{_⊕_, _⊖_, _⊘_, 1·, 2·, float}
 use Rattle.rules.proofs.CellFloat.{ltb-scale}
+use Rattle.rules.proofs.Signs.{size-add}
 use Rattle.number.proofs.Order.{signed, lt-at, le-at}
 
 -- ---- x is the integer z
@@ -54,30 +55,8 @@ pub one-is : 1· ≡ float 1
 unfolding ofBits ofInt round
 one-is = refl
 
-natAbs-sub : (a b : ℕ) → natAbs (subℕ a b) ≤ a + b
-natAbs-sub a b = go (ltb a b) (ltb→lt a b)
-  where
-    diff : (a b : ℕ) → a - b ≤ a + b
-    diff a b = omega arith
-
-    diff' : (a b : ℕ) → a < b → suc (b - suc a) ≤ a + b
-    diff' a b h = omega arith
-
-    go : (t : Bool) → (T t → a < b) → natAbs (cond t (negsuc (b - suc a)) (pos (a - b))) ≤ a + b
-    go true h = diff' a b (h tt)
-    go false h = diff a b
-
-natAbs-add : (a b : ℤ) → natAbs (a +ℤ b) ≤ natAbs a + natAbs b
-natAbs-add (pos a) (pos b) = le-refl (a + b)
-natAbs-add (pos a) (negsuc b) = natAbs-sub a (suc b)
-natAbs-add (negsuc a) (pos b) = le-trans (natAbs-sub b (suc a)) (le-of-eq (add-comm b (suc a)))
-natAbs-add (negsuc a) (negsuc b) = le-of-eq (go a b)
-  where
-    go : (a b : ℕ) → suc (suc (a + b)) ≡ suc a + suc b
-    go a b = omega arith
-
 pub within-add : (k : ℕ) (a b : ℤ) → Within k a → Within k b → Within (k + 1) (a +ℤ b)
-within-add k a b h l = record { within = le-trans (natAbs-add a b) (le-trans (go (natAbs a) (natAbs b) (2 ^ k) (h .within) (l .within)) (le-of-eq (sym (pow-add 2 k 1)))) }
+within-add k a b h l = record { within = le-trans (size-add a b) (le-trans (go (natAbs a) (natAbs b) (2 ^ k) (h .within) (l .within)) (le-of-eq (sym (pow-add 2 k 1)))) }
   where
     go : (a b p : ℕ) → a ≤ p → b ≤ p → a + b ≤ p * 2
     go a b p h l = omega arith

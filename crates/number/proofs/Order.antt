@@ -13,6 +13,7 @@ use lib.Ieee.Digits.{back}
 use lib.Ieee.Fits.{down-pos, eq→eqb, and-l, and-r}
 use lib.Ieee.Exact.{HasValue}
 use lib.Ieee.Bits.{is-true}
+use Rattle.rules.specs.Plain.{eqZ}
 use Rattle.rules.specs.Number.{finite}
 use Rattle.rules.proofs.CellFloat.{below-scale, level-scale}
 
@@ -27,12 +28,6 @@ same-test false false p q = refl
 abbrev pub signed : Bool → ℕ → ℤ
 signed false a = pos a
 signed true a = negℤ (pos a)
-
-abbrev pub eqZ : ℤ → ℤ → Bool
-eqZ (pos a) (pos b) = eqb a b
-eqZ (pos a) (negsuc b) = false
-eqZ (negsuc a) (pos b) = false
-eqZ (negsuc a) (negsuc b) = eqb a b
 
 below-z : (s : Bool) (a : ℕ) (t : Bool) (b : ℕ) → below s a t b ≡ ltZ (signed s a) (signed t b)
 below-z false a false b = refl

@@ -1,20 +1,13 @@
 -- A chain, written particle by particle.
 use mathlib.Core.Path.{_≡_, refl, sym, ap, subst, _∙_}
 use mathlib.Core.List.{List, [], _∷_}
-use Prim.Native.Nat.{ℕ, suc, _+_, _-_, _≤_, _<_}
-use native.Mathlib.Numerals.{add-one}
+use Prim.Native.Nat.{ℕ, _+_, _-_, _≤_, _<_}
 use native.Mathlib.Omega.{arith}
 use lib.ListN.{length, getD, set, length-set}
-use lib.Seq.{sets-eq}
 use Rattle.rules.specs.Plain.{overwritten}
-use Rattle.sheet.proofs.Lists.{overwritten-none}
+use Rattle.sheet.proofs.Lists.{overwritten-none, store-first}
 use Rattle.slots.specs.Trees.{Follows, first}
 use Rattle.rows.specs.List.{Linked, Chain}
-
--- the first of a part, stored, and then the rest
-pub store-first : (l : List ℕ) (k i : ℕ) (is : List ℕ) → k + length (i ∷ is) ≤ length l → overwritten l k (i ∷ is) ≡ overwritten (set l k i) (k + 1) is
-store-first l k i is h =
-    rw add-one (sym (sets-eq (i ∷ is) l k h) ∙ sets-eq is (set l k i) (suc k) (rw length-set (omega arith)))
 
 -- a chain, from its first particle's number on
 pub follows-linked : (next is : List ℕ) → Follows next is → Linked next (first is + 1) is

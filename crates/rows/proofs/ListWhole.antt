@@ -16,13 +16,12 @@ use Rattle.rules.proofs.CellList.{In}
 use Rattle.rules.proofs.CellIs.{Is}
 use Rattle.rules.proofs.CellCount.{length-upTo, in-count}
 use Rattle.rules.proofs.CellRule as Rule
-use Rattle.sheet.proofs.Lists.{overwritten-none, overwritten-next, overwritten-length}
+use Rattle.sheet.proofs.Lists.{overwritten-none, overwritten-next, overwritten-length, store-first}
 use Rattle.slots.specs.Trees.{inCells, Stands, Below}
 use Rattle.slots.proofs.Trees.{cells-depth, each-map}
 use Rattle.rows.specs.List.{Listable, Wrote, Whole}
 use Rattle.slots.specs.declared.Quadtree.{Quadtree}
 use Rattle.rows.specs.declared.Cursor.{Cursor}
-use Rattle.rows.proofs.ListChain.{store-first}
 use Rattle.rows.proofs.ListRows.{flat-length, rows-count}
 
 -- ---- cells for slots change nothing that is listed

@@ -26,5 +26,6 @@ pub mod CellRule
 pub mod OutcomeLaws
 pub mod RefusalLaws
 pub mod RefusalNumbers
+pub mod Signs
 pub mod Places
 pub mod Counting

@@ -1,11 +1,12 @@
 -- Lists that are written over.
 use mathlib.Core.Path.{_≡_, refl, sym, ap, _∙_}
 use mathlib.Core.List.{List, [], _∷_, _++_, append-assoc, append-nil}
-use Prim.Native.Nat.{ℕ, _+_, _≤_}
+use Prim.Native.Nat.{ℕ, suc, _+_, _≤_}
 use native.Mathlib.Nat.{add-assoc, add-zero}
+use native.Mathlib.Numerals.{add-one}
 use native.Mathlib.Omega.{arith}
-use lib.ListN.{length, take, drop, length-drop, length-append, take-append-drop}
-use lib.Seq.{length-take-le, drop-append-add, take-append-add, drop-drop, drop-at, take-at}
+use lib.ListN.{length, take, drop, set, length-drop, length-append, length-set, take-append-drop}
+use lib.Seq.{length-take-le, drop-append-add, take-append-add, drop-drop, drop-at, take-at, sets-eq}
 use Rattle.rules.specs.Plain.{overwritten}
 
 module _ {A : Type 0} where
@@ -45,3 +46,8 @@ module _ {A : Type 0} where
   pub overwritten-part : (p a q : List A) (n : ℕ) (b : List A) → length p ≡ n → length b ≡ length a → overwritten (p ++ (a ++ q)) n b ≡ p ++ (b ++ q)
   overwritten-part p a q n b e h =
       rw (take-at p (a ++ q) n e, ← drop-drop (length b) n (p ++ (a ++ q)), drop-at p (a ++ q) n e, drop-at a q (length b) (sym h)) (append-assoc p b q)
+
+  -- the first of a part, stored, and then the rest
+  pub store-first : (l : List A) (k : ℕ) (a : A) (part : List A) → k + length (a ∷ part) ≤ length l → overwritten l k (a ∷ part) ≡ overwritten (set l k a) (k + 1) part
+  store-first l k a part h =
+      rw add-one (sym (sets-eq (a ∷ part) l k h) ∙ sets-eq part (set l k a) (suc k) (rw length-set (omega arith)))
