@@ -27,5 +27,6 @@ pub mod OutcomeLaws
 pub mod RefusalLaws
 pub mod RefusalNumbers
 pub mod Signs
+pub mod Outline
 pub mod Places
 pub mod Counting

@@ -18,5 +18,6 @@ pub mod Force
 pub mod Calls
 pub mod Tick
 pub mod Listing
+pub mod Outline
 pub mod Terms
 pub mod Opened

@@ -1,10 +1,11 @@
--- T1 to T13 of document 01: one computed table, and that every case of it holds. Behind it the lister's sample, lent lengths, what T1 to T13 leave open, and the limits.
+-- T1 to T13 of document 01: one computed table, and that every case of it holds. Behind it the lister's sample, lent lengths, what T1 to T13 leave open, the limits, and outlines.
 use mathlib.Core.Path.{_≡_, refl}
 use mathlib.Core.Bool.{Bool, true, false, _&&_, _||_, not, cond}
 use mathlib.Core.List.{List, [], _∷_, _++_, map}
-use Prim.Native.Nat.{ℕ, _+_, _*_, _^_}
+use Prim.Native.Nat.{ℕ, zero, suc, _+_, _-_, _*_, _^_}
 use lib.Dec.{eqb}
-use lib.IntN.{pos, negℤ}
+use lib.IntN.{ℤ, pos, negℤ, _+ℤ_, _-ℤ_}
+use lib.Signed.{leZ}
 use lib.ListN.{length, replicate}
 use lib.Ieee.{Float, neg}
 use Rattle.rules.specs.declared.Particle.{Particle}
@@ -22,6 +23,7 @@ use Rattle.rules.specs.Flow.{Flow}
 use Rattle.rules.specs.Calls.{slotWords, TreeInput, treeResult, treeAnswer, rowsAfter, chainsAfter, treeWorkAfter, ForceInput, manyBodyResult, collideResult, linkResult, forceAnswer, bufferAfter, centerResult, closingResult, particlesAfter}
 use Rattle.rules.specs.Tick.{settings, SheetInput, tickAnswer, sheetAfterTick, alphaAfterTick, workAfterTick, stepAnswer, alphaAfterStep}
 use Rattle.rules.specs.Listing.{lister, ascii}
+use Rattle.rules.specs.Outline.{OutlineInput, outlineAnswer, unwrappedAfter}
 use Rattle.rules.specs.Opened.{opened}
 
 -- ---- numbers, and tests of equality
@@ -423,3 +425,142 @@ limits =
 pub every-limit-holds : all (λ b. b) limits ≡ true
 unfolding opened limits lent crowd flagged oddly records treeRefusal lengths entry halving half refusesTick equals isRefusal still force before behind refusesForce two
 every-limit-holds = refl
+
+-- ---- outlines, of document 02, R-10: the output holds 9 before the call
+
+east : ℕ → ℤ
+east n = pos n
+
+west : ℕ → ℤ
+west n = negℤ (pos n)
+
+halfway : ℕ
+halfway = 1800000000
+
+equalsZ : List ℤ → List ℤ → Bool
+equalsZ [] [] = true
+equalsZ [] (b ∷ bs) = false
+equalsZ (a ∷ l) [] = false
+equalsZ (a ∷ l) (b ∷ bs) = leZ a b && leZ b a && equalsZ l bs
+
+-- these corners round a centre, with room for so many numbers
+round : ℕ → ℤ → List ℤ → OutlineInput
+round room centre l = record { corners = l; centre = centre; unwrapped = replicate room (pos 9) }
+
+-- accepted, with these numbers, and so many places behind them as they were
+unwrapsBefore : ℕ → ℤ → List ℤ → List ℤ → Bool
+unwrapsBefore rest centre l us =
+    let o = round (length l + rest) centre l in
+    isRefusal 0 0 (outlineAnswer o) && equalsZ (unwrappedAfter o) (us ++ replicate rest (pos 9))
+
+unwraps : ℤ → List ℤ → List ℤ → Bool
+unwraps centre l us = unwrapsBefore 2 centre l us
+
+-- refused, with nothing written
+refusesOutline : OutlineInput → ℕ → ℕ → Bool
+refusesOutline o number place = isRefusal number place (outlineAnswer o) && equalsZ (unwrappedAfter o) (o .unwrapped)
+
+-- a box from 170 degrees east to 170 west
+box : List ℤ
+box = east 1700000000 ∷ west 1700000000 ∷ west 1700000000 ∷ east 1700000000 ∷ []
+
+-- the same from its other side on
+boxFromWest : List ℤ
+boxFromWest = west 1700000000 ∷ east 1700000000 ∷ east 1700000000 ∷ west 1700000000 ∷ []
+
+-- three corners round a pole, by steps of 120 degrees east, and by steps west
+polar : List ℤ
+polar = west 1200000000 ∷ east 0 ∷ east 1200000000 ∷ []
+
+polarWest : List ℤ
+polarWest = east 1200000000 ∷ east 0 ∷ west 1200000000 ∷ []
+
+-- so many numbers, each 120 degrees from the one before
+upFrom : ℕ → ℤ → List ℤ
+upFrom zero z = []
+upFrom (suc n) z = z ∷ upFrom n (z +ℤ pos 1200000000)
+
+downFrom : ℕ → ℤ → List ℤ
+downFrom zero z = []
+downFrom (suc n) z = z ∷ downFrom n (z -ℤ pos 1200000000)
+
+-- one unit too far
+tooFar : ℤ
+tooFar = east 1800000001
+
+pub outlines : List Bool
+outlines =
+    -- no corners, with no room and with more than corners may be
+    unwraps (east 0) [] []
+    ∷ unwrapsBefore 0 (east 0) [] []
+    ∷ unwrapsBefore 4098 (east 0) [] []
+    -- one corner on either seam, seen from 0 and from either seam
+    ∷ unwraps (east 0) (east halfway ∷ []) (west halfway ∷ [])
+    ∷ unwraps (east 0) (west halfway ∷ []) (west halfway ∷ [])
+    ∷ unwraps (east halfway) (east halfway ∷ []) (east halfway ∷ [])
+    ∷ unwraps (east halfway) (west halfway ∷ []) (east halfway ∷ [])
+    ∷ unwraps (west halfway) (east halfway ∷ []) (west halfway ∷ [])
+    ∷ unwraps (west halfway) (west halfway ∷ []) (west halfway ∷ [])
+    -- both seams in one outline
+    ∷ unwraps (east 0) (east halfway ∷ west halfway ∷ []) (west halfway ∷ west halfway ∷ [])
+    -- a box across 180 degrees from the same three centres, in an output that just holds it
+    ∷ unwraps (east 0) box (east 1700000000 ∷ east 1900000000 ∷ east 1900000000 ∷ east 1700000000 ∷ [])
+    ∷ unwrapsBefore 0 (east halfway) box (east 1700000000 ∷ east 1900000000 ∷ east 1900000000 ∷ east 1700000000 ∷ [])
+    ∷ unwraps (west halfway) box (west 1900000000 ∷ west 1700000000 ∷ west 1700000000 ∷ west 1900000000 ∷ [])
+    ∷ unwraps (east 0) boxFromWest (west 1700000000 ∷ west 1900000000 ∷ west 1900000000 ∷ west 1700000000 ∷ [])
+    -- half a turn goes west, from either side; one unit less goes east
+    ∷ unwraps (east 0) (east 0 ∷ east halfway ∷ west 900000000 ∷ []) (east 0 ∷ west halfway ∷ west 900000000 ∷ [])
+    ∷ unwraps (east 0) (east 0 ∷ west halfway ∷ west 900000000 ∷ []) (east 0 ∷ west halfway ∷ west 900000000 ∷ [])
+    ∷ unwraps (east 0) (east halfway ∷ east 0 ∷ east 900000000 ∷ []) (west 1800000000 ∷ west 3600000000 ∷ west 2700000000 ∷ [])
+    ∷ unwraps (east 0) (east 0 ∷ east 1799999999 ∷ east 900000000 ∷ []) (east 0 ∷ east 1799999999 ∷ east 900000000 ∷ [])
+    -- half a turn from the centre is west of it, one unit less is east
+    ∷ unwraps (east 900000000) (west 900000000 ∷ []) (west 900000000 ∷ [])
+    ∷ unwraps (west 900000000) (east 900000000 ∷ []) (west 2700000000 ∷ [])
+    ∷ unwraps (east 0) (east 1799999999 ∷ []) (east 1799999999 ∷ [])
+    -- so does the closing step: half a turn west closes, half a turn east doesn't
+    ∷ unwraps (east 0) (east 0 ∷ east 900000000 ∷ east halfway ∷ []) (east 0 ∷ east 900000000 ∷ east halfway ∷ [])
+    ∷ refusesOutline (round 3 (east 0) (east 0 ∷ west 900000000 ∷ west halfway ∷ [])) 16 0
+    -- from a turn away straight back over half a turn
+    ∷ unwraps (east 0) (east 0 ∷ east 1200000000 ∷ west 1200000000 ∷ east 0 ∷ west halfway ∷ east 900000000 ∷ []) (upFrom 4 (east 0) ++ east 1800000000 ∷ east 900000000 ∷ [])
+    -- three turns east and back, three turns west and back
+    ∷ unwraps (east 0) (polar ++ polar ++ polar ++ west 1200000000 ∷ polarWest ++ polarWest ++ east 1200000000 ∷ east 0 ∷ []) (upFrom 10 (west 1200000000) ++ downFrom 8 (east 8400000000))
+    ∷ unwraps (east 0) (polarWest ++ polarWest ++ polarWest ++ east 1200000000 ∷ polar ++ polar ++ west 1200000000 ∷ east 0 ∷ []) (downFrom 10 (east 1200000000) ++ upFrom 8 (west 8400000000))
+    -- 16: round a pole either way, from another centre, and where both ways end on the same side of 0 or as far from it; 0 and half a turn alone, as both steps go west
+    ∷ refusesOutline (round 3 (east 0) polar) 16 0
+    ∷ refusesOutline (round 3 (east 0) polarWest) 16 0
+    ∷ refusesOutline (round 3 (east halfway) polar) 16 0
+    ∷ refusesOutline (round 3 (west halfway) polarWest) 16 0
+    ∷ refusesOutline (round 3 (east 0) (west halfway ∷ west 600000000 ∷ east 600000000 ∷ [])) 16 0
+    ∷ refusesOutline (round 2 (east 0) (east 0 ∷ east halfway ∷ [])) 16 0
+    -- 5: a corner or the centre by one unit on either side, and by as much as there is; the first such corner; no corners, and the centre all the same
+    ∷ refusesOutline (round 1 (east 0) (tooFar ∷ [])) 5 0
+    ∷ refusesOutline (round 2 (east 0) (east 0 ∷ west 1800000001 ∷ [])) 5 1
+    ∷ refusesOutline (round 2 (east 0) (east 0 ∷ east (2 ^ 63 - 1) ∷ [])) 5 1
+    ∷ refusesOutline (round 2 (east 0) (east 0 ∷ west (2 ^ 63) ∷ [])) 5 1
+    ∷ refusesOutline (round 3 (east 0) (east 0 ∷ tooFar ∷ tooFar ∷ [])) 5 1
+    ∷ refusesOutline (round 1 tooFar (east 0 ∷ [])) 5 0
+    ∷ refusesOutline (round 1 (west 1800000001) (east 0 ∷ [])) 5 0
+    ∷ refusesOutline (round 0 tooFar []) 5 0
+    -- 2: no room for the last
+    ∷ refusesOutline (round 3 (east 0) box) 2 0
+    -- 1: one corner too many; as many as may be, where 2 shows
+    ∷ refusesOutline (round 4097 (east 0) (replicate 4097 (east 0))) 1 0
+    ∷ refusesOutline (round 4095 (east 0) (replicate 4096 (east 0))) 2 0
+    -- 1 before 2, 5 and 16
+    ∷ refusesOutline (round 0 (east 0) (replicate 4097 (east 0))) 1 0
+    ∷ refusesOutline (round 4097 (east 0) (replicate 4097 tooFar)) 1 0
+    ∷ refusesOutline (round 4097 tooFar (replicate 4097 (east 0))) 1 0
+    ∷ refusesOutline (round 4097 (east 0) (replicate 4094 (west 1200000000) ++ polar)) 1 0
+    -- 2 before 5 and 16
+    ∷ refusesOutline (round 0 (east 0) (tooFar ∷ [])) 2 0
+    ∷ refusesOutline (round 0 tooFar (east 0 ∷ [])) 2 0
+    ∷ refusesOutline (round 2 (east 0) polar) 2 0
+    -- a corner's 5 before the centre's and 16, the centre's before 16
+    ∷ refusesOutline (round 2 tooFar (east 0 ∷ tooFar ∷ [])) 5 1
+    ∷ refusesOutline (round 4 (east 0) (polar ++ tooFar ∷ [])) 5 3
+    ∷ refusesOutline (round 3 tooFar polar) 5 0
+    ∷ []
+
+pub every-outline-holds : all (λ b. b) outlines ≡ true
+unfolding opened outlines east west halfway equalsZ round unwrapsBefore unwraps refusesOutline box boxFromWest polar polarWest upFrom downFrom tooFar isRefusal
+every-outline-holds = refl
