@@ -8,6 +8,7 @@
 //! - [`many_body`], [`collide`], [`link`]: one force on places and velocities.
 //! - [`center`], [`apply_velocities`]: Center and the closing move on particles.
 //! - [`tick()`], [`step`]: a whole sheet, with up to eight forces ([`Forces`]).
+//! - [`unwrap`]: an outline in longitudes, unwrapped the short way round, across 180 degrees too.
 //!
 //! Nothing is allocated by the archive: a tree's nodes live in lent work slots ([`SLOT_WORDS`]), jiggles come from a lent list of draws, and a call's own lists stand on the
 //! stack (some 400 KB for a tick). [`raw`] has the same calls with their answers as they come.
@@ -17,6 +18,7 @@
 mod force;
 mod forces;
 mod number;
+mod outline;
 mod particles;
 pub mod raw;
 mod refusal;
@@ -27,6 +29,7 @@ mod tree;
 pub use force::{collide, link, many_body, velocities_of, velocity_bytes, Counts, Lent, Links, Points};
 pub use forces::{Force, Forces, FORCE_SLOTS};
 pub use number::{floor, root};
+pub use outline::{unwrap, HALF_TURN};
 pub use particles::{apply_velocities, center};
 pub use refusal::Refusal;
 pub use sheet::{particles_of, sheet_of, Particle, RECORD_BYTES};

@@ -15,7 +15,7 @@
 #[repr(C)]
 #[derive(Clone, Copy, Debug, PartialEq, Eq)]
 pub struct Refusal {
-    /// 1 to 10, or 0.
+    /// 1 to 10, 16, or 0.
     pub number: u64,
     /// An index, or 0.
     pub place: u64,
@@ -266,6 +266,8 @@ mod entry {
             work: *mut u64,
             work_len: usize,
         ) -> StepAnswer;
+
+        pub fn talemiku_unwrap(corners: *const i64, corners_len: usize, centre: i64, unwrapped: *mut i64, unwrapped_len: usize) -> Refusal;
     }
 }
 
@@ -480,4 +482,10 @@ pub fn step(
             work.len(),
         )
     }
+}
+
+/// An outline in longitudes, unwrapped the short way round.
+pub fn unwrap(corners: &[i64], centre: i64, unwrapped: &mut [i64]) -> Refusal {
+    // SAFETY: each pointer is followed by the length of its own slice, and what is `&mut` overlaps no other; the entry stays within them.
+    unsafe { entry::talemiku_unwrap(corners.as_ptr(), corners.len(), centre, unwrapped.as_mut_ptr(), unwrapped.len()) }
 }

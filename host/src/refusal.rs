@@ -1,9 +1,9 @@
-//! The refusals of document 01, a variant for each number.
+//! The refusals of document 01 and of the requests after it, a variant for each number.
 use crate::raw;
 use std::error::Error;
 use std::fmt;
 
-/// Why a call was refused. 1 to 5 and 10 change no buffer; 6 to 9 leave particles and alpha as they were and zero all lent work slots.
+/// Why a call was refused. 1 to 5, 10 and 16 change no buffer; 6 to 9 leave particles and alpha as they were and zero all lent work slots.
 ///
 /// ```
 /// use talemiku::Refusal;
@@ -12,19 +12,19 @@ use std::fmt;
 /// assert_eq!((refusal.number(), refusal.place()), (4, 0));
 /// ```
 ///
-/// It is shown by its number, its place where it names one, and a sentence. Place 0 of 5 and of 10 may name none (a setting; a bad length), and the sentence then says so.
+/// It is shown by its number, its place where it names one, and a sentence. Place 0 of 5 and of 10 may name none (a setting, a centre; a bad length), and the sentence then says so.
 ///
 /// ```
 /// # use talemiku::Refusal;
-/// assert_eq!(Refusal::TooMany.to_string(), "refused 1: too many particles, links, ticks or iterations");
+/// assert_eq!(Refusal::TooMany.to_string(), "refused 1: too many particles, links, ticks, iterations or corners");
 /// assert_eq!(Refusal::Coordinate { particle: 7 }.to_string(), "refused 4 at 7: a coordinate is out of range");
 /// ```
 #[derive(Clone, Copy, Debug, PartialEq, Eq, Hash)]
 #[non_exhaustive]
 pub enum Refusal {
-    /// 1: over 4,096 particles, 8,192 links, 4,096 ticks of one step, or 64 iterations of one force.
+    /// 1: over 4,096 particles, 8,192 links, 4,096 ticks of one step, 64 iterations of one force, or 4,096 corners of one outline.
     TooMany,
-    /// 2: lent lengths disagree with the counts, or a part reaches past its buffer.
+    /// 2: lent lengths disagree with the counts, a part reaches past its buffer, or an output is too short.
     Lengths,
     /// 3: a link's end is not a particle.
     LinkEnd {
@@ -60,7 +60,9 @@ pub enum Refusal {
         /// The record's index; 0 for a bad length.
         record: usize,
     },
-    /// A number that document 01 doesn't have: no call refuses by one, but an archive may be newer than this crate.
+    /// 16: the outline doesn't close, as one round a pole doesn't.
+    Unclosed,
+    /// A number that is none of these: no call refuses by one, but an archive may be newer than this crate.
     Other {
         /// The number.
         number: u64,
@@ -70,7 +72,7 @@ pub enum Refusal {
 }
 
 impl Refusal {
-    /// The number that document 01 gives it.
+    /// Its number.
     #[must_use]
     pub fn number(self) -> u64 {
         match self {
@@ -84,11 +86,12 @@ impl Refusal {
             Refusal::Draws => 8,
             Refusal::Result => 9,
             Refusal::Record { .. } => 10,
+            Refusal::Unclosed => 16,
             Refusal::Other { number, .. } => number,
         }
     }
 
-    /// The place that document 01 gives it: 0 where it names none.
+    /// Its place: 0 where it names none.
     #[must_use]
     pub fn place(self) -> usize {
         match self {
@@ -96,7 +99,7 @@ impl Refusal {
             Refusal::Coordinate { particle } | Refusal::Level { particle } | Refusal::Slots { particle } => particle,
             Refusal::Number { place } | Refusal::Other { place, .. } => place,
             Refusal::Record { record } => record,
-            Refusal::TooMany | Refusal::Lengths | Refusal::Draws | Refusal::Result => 0,
+            Refusal::TooMany | Refusal::Lengths | Refusal::Draws | Refusal::Result | Refusal::Unclosed => 0,
         }
     }
 
@@ -122,6 +125,7 @@ impl Refusal {
             8 => Refusal::Draws,
             9 => Refusal::Result,
             10 => Refusal::Record { record: place },
+            16 => Refusal::Unclosed,
             number => Refusal::Other { number, place },
         })
     }
@@ -138,7 +142,7 @@ impl Refusal {
 impl fmt::Display for Refusal {
     fn fmt(&self, f: &mut fmt::Formatter<'_>) -> fmt::Result {
         let (named, why) = match self {
-            Refusal::TooMany => (false, "too many particles, links, ticks or iterations"),
+            Refusal::TooMany => (false, "too many particles, links, ticks, iterations or corners"),
             Refusal::Lengths => (false, "lent lengths disagree with the counts"),
             Refusal::LinkEnd { .. } => (true, "a link's end is not a particle"),
             Refusal::Coordinate { .. } => (true, "a coordinate is out of range"),
@@ -150,6 +154,7 @@ impl fmt::Display for Refusal {
             Refusal::Result => (false, "a result out of range"),
             Refusal::Record { record: 0 } => (false, "the length is no multiple of 40, or the first record has an unknown flag"),
             Refusal::Record { .. } => (true, "an unknown flag"),
+            Refusal::Unclosed => (false, "the outline doesn't close"),
             Refusal::Other { .. } => (true, "a refusal that is not known here"),
         };
         let (number, place) = (self.number(), self.place());

@@ -6,6 +6,7 @@ mod Callees
 mod Frame
 mod Lent
 mod Outcomes
+mod Outlines
 mod Passes
 mod Rules
 mod Trees

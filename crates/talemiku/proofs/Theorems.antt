@@ -1,6 +1,6 @@
--- What the public calls are shown to do, for any bytes, from what the entries promise alone: these promises are the equations of floor and root, `AfterTree`, `Answered` of a force, `Lists.Answered` of Center and the closing move, `AfterTick` and `AfterStep`. The words are those of rules/specs/Terms and specs/Told.
+-- What the public calls are shown to do, for any bytes, from what the entries promise alone: these promises are the equations of floor and root, `AfterTree`, `Answered` of a force, `Lists.Answered` of Center and the closing move, `AfterTick` and `AfterStep`, `Unwrapped` of an outline. The words are those of rules/specs/Terms, rules/specs/Outline and specs/Told.
 use mathlib.Core.Path.{_≡_, refl, sym, ap, _∙_, subst}
-use mathlib.Core.Logic.{_⊎_, _↔_}
+use mathlib.Core.Logic.{_⊎_, _↔_, _≢_}
 use mathlib.Core.Bool.{Bool, true, false}
 use mathlib.Core.List.{List, [], _∷_, _++_, map}
 use Prim.Native.Nat.{ℕ, suc, _+_, _*_, _^_, _≤_, _<_}
@@ -8,8 +8,8 @@ use native.Mathlib.Nat.{mul-le-mul-left}
 use native.Mathlib.Omega.{arith}
 use borrow.Author.Tests.{eqb-true}
 use lib.Dec.{T, leb}
-use lib.IntN.{pos}
-use lib.ListN.{length}
+use lib.IntN.{ℤ, pos, negℤ, natAbs, _+ℤ_, _-ℤ_}
+use lib.ListN.{length, getD, take, drop}
 use lib.Ieee.{Float}
 use Rattle.rules.specs.declared.Extent.{Extent}
 use Rattle.rules.specs.declared.FloorAnswer.{FloorAnswer}
@@ -19,7 +19,7 @@ use Rattle.rules.specs.declared.Settings.{Settings}
 use Rattle.rules.specs.declared.TreeAnswer.{TreeAnswer}
 use Rattle.rules.specs.declared.Counts.{Counts}
 use Rattle.rules.specs.declared.StepAnswer.{StepAnswer}
-use Rattle.rules.specs.Plain.{keep, padded, all, sum, upTo}
+use Rattle.rules.specs.Plain.{keep, padded, overwritten, all, sum, upTo}
 use Rattle.rules.specs.Outcome.{Outcome, done, refused, refusal, fine, require, _>>=_, refusalOf, ifDone}
 use Rattle.rules.specs.Number.{0·, floatOf, bitsOf, within, xAt, yAt}
 use Rattle.rules.specs.Floor.{floor, floorResult, floorAnswer, IsFloor}
@@ -37,6 +37,7 @@ use Rattle.rules.specs.Calls as Calls
 use Rattle.rules.specs.Calls.{slotsOf, TreeInput, treeLengths, inputCheck, treeResult, ForceInput, speeds, forceCheck, manyBodyResult, collideResult, linkResult, forceAnswer, centerResult, closingResult}
 use Rattle.rules.specs.Tick.{Force, SheetInput, count, entries, forces, State, state, nextAlpha, forceStage, tick, sheetCheck, begun, tickSettings, tickResult, tickAnswer, ticksFrom, stepResult, stepAnswer}
 use Rattle.rules.specs.Terms.{leaves, EachLeaf, Oversized, Earliest, NotOfTree, times, inCell, IsTree, Sided, distinct, mostNodes, Walked, repeated, mostVisited, ForceWalked, uncounted, Forced, tickCounts}
+use Rattle.rules.specs.Outline.{halfTurn, shortStep, outline, outlineCheck, OutlineInput, outlineAnswer, unwrappedAfter, Equivalent, Short, IsOutline, Closed, stepsRound, total, SameMeridians}
 use Rattle.rules.proofs.Theorems.{floor-is, root-is}
 use Rattle.rules.proofs.RefusalLaws.{of-answer}
 use Rattle.rules.proofs.Places as Places
@@ -44,6 +45,7 @@ use Rattle.rules.proofs.CellCount.{in-count, times-in, length-upTo}
 use Rattle.rules.proofs.CellChain.{each-map, Chain}
 use Rattle.rules.proofs.CellRule.{unique, points, leaves-distinct, nodes-distinct, chains-length, each-once, chains as chains-of}
 use Rattle.rules.proofs.Counting.{sum-few, tick-counts-length, ticks-sum}
+use Rattle.rules.proofs.Outline.{seam-at, step-short, step-equivalent, step-only, outline-is, outline-only, closes-short, closes-sum}
 use Rattle.number.proofs.Flooring.{within-finite}
 use Rattle.cells.proofs.WholeTree.{extent-sided, extent-holds, whole-tree, leaves-hold, ruled-fine, earliest-ruled, computed-exactly, ruled-exactly, earliest}
 use Rattle.rows.proofs.ListRows.{rows-count}
@@ -51,10 +53,12 @@ use Rattle.tree.specs.Tree.{AfterTree}
 use Rattle.force_call.specs.Calls.{Answered}
 use Rattle.tick_call.specs.Tick.{AfterTick}
 use Rattle.step_call.specs.Step.{AfterStep}
+use Rattle.outline.specs.Unwrap.{Unwrapped, lentOutline}
 use Rattle.talemiku.specs.Answered as Lists
-use Rattle.talemiku.specs.Told.{placesLent, particlesLent, pointsLent, extentLent, ruleTree, InputFine, mostOfTick, TreeRefused}
+use Rattle.talemiku.specs.Told.{placesLent, particlesLent, pointsLent, extentLent, ruleTree, InputFine, mostOfTick, TreeRefused, OutlineFine}
 use Rattle.talemiku.proofs.Trees.{Accepted, input-fine, input-refused, built-fine, builds, refusal-is, accepts, answer-is, rows-are, chains-are}
 use Rattle.talemiku.proofs.Accepted.{checked, force-ran, force-refuses-tree, tick-ran, entries-fine}
+use Rattle.talemiku.proofs.Outlines.{Laid, laid, first-are, rest-is, length-is, few-corners, near-centre, near-zero, kept, closed-is, unclosed-is, input-answer, result-same}
 use Rattle.talemiku.proofs.Visits.{many-body-walked, collide-walked, force-walked, tick-forced, ticks-each, all-few}
 
 -- ==== floor and root
@@ -292,3 +296,70 @@ module _ (l : SheetInput) (s : Settings) (least : Float) (budget : ℕ) (r : Ste
     step-most =
         let few = all-few (count l) 0 (entries l) (l .numbers) (l .links) (entries-fine l budget (tickSettings l s ++ (least ∷ [])) h) in
         omega (arith, step-visits .0, rw (← step-visits .1) at (sum-few (sum (map mostVisited (forces l))) counts step-few), mul-le-mul-left (r .ticks) few)
+
+-- ==== an outline (document 02, R-10)
+
+-- From any number there is exactly one short step to an equivalent of a corner: the one that the rule computes.
+pub one-step : (p a : ℤ) → Short (shortStep p a) × Equivalent a (p +ℤ shortStep p a) × ((s : ℤ) → Short s → Equivalent a (p +ℤ s) → s ≡ shortStep p a)
+one-step p a = (step-short p a, step-equivalent p a, step-only p a)
+
+-- Of any corners round any centre there is exactly one outline, also where it doesn't close.
+pub one-outline : (centre : ℤ) (corners : List ℤ) → (us : List ℤ) × IsOutline centre corners us × ((vs : List ℤ) → IsOutline centre corners vs → vs ≡ us)
+one-outline centre corners = (outline centre corners, outline-is centre corners, outline-only centre corners)
+
+module _ (l : OutlineInput) (r : Refusal) (after : List ℤ) (a : Unwrapped l r after) where
+  -- ---- answered 0
+
+  module _ (z : r .number ≡ 0) where
+    -- As many numbers are written as there are corners, and they are an outline of the corners round the centre.
+    pub unwrap-outline : IsOutline (l .centre) (l .corners) (take (length (l .corners)) after)
+    unwrap-outline = rw (first-are a z) (outline-is (l .centre) (l .corners))
+
+    -- Any list that is one is this one.
+    pub unwrap-only : (us : List ℤ) → IsOutline (l .centre) (l .corners) us → us ≡ take (length (l .corners)) after
+    unwrap-only us h = outline-only (l .centre) (l .corners) us h ∙ sym (first-are a z)
+
+    -- It is closed, and its short steps, the closing one included, add up to 0.
+    pub unwrap-closed : Closed (take (length (l .corners)) after) × (total (stepsRound (l .corners)) ≡ pos 0)
+    unwrap-closed = (rw (first-are a z) (closes-short (l .centre) (l .corners) (laid a z .returns)), closes-sum (l .centre) (l .corners) (laid a z .returns))
+
+    -- A longer output keeps its rest.
+    pub unwrap-rest : (drop (length (l .corners)) after ≡ drop (length (l .corners)) (l .unwrapped)) × (length after ≡ length (l .unwrapped))
+    unwrap-rest = (rest-is a z, length-is a z)
+
+    -- Every number written lies within 1800000000 * corners of the centre, so within 1800000000 * (corners + 1) of 0, and that is below 2 ^ 43.
+    pub unwrap-within : (i : ℕ) → i < length (l .corners)
+        → let u = getD after i (pos 0) in (natAbs (u -ℤ l .centre) ≤ halfTurn * length (l .corners)) × (natAbs u ≤ halfTurn * (length (l .corners) + 1)) × (natAbs u < 2 ^ 43)
+    unwrap-within i h = (near-centre a z i h, near-zero a z i h, omega (arith, near-zero a z i h, few-corners a z))
+
+  -- ---- refused
+
+  -- A refusal writes nothing.
+  pub unwrap-refused : r .number ≢ 0 → after ≡ l .unwrapped
+  unwrap-refused h = kept a h
+
+  -- Where a check of what is lent refuses (1, 2, 5), that is the answer.
+  pub unwrap-input : (q : Refusal) → outlineCheck (l .corners) (l .centre) (length (l .unwrapped)) ≡ refused q → r ≡ q
+  unwrap-input q e = input-answer a q e
+
+  -- Past them 16 is answered exactly when the short steps from corner to corner, the closing one included, don't add up to 0, as those round a pole don't.
+  pub unwrap-closes : OutlineFine l → (r ≡ refusal 16 0) ↔ (total (stepsRound (l .corners)) ≢ pos 0)
+  unwrap-closes h = (λ n e. let z : r ≡ refusal 0 0 = closed-is a h e in omega (arith, ap (λ (r : Refusal). r .number) (sym n ∙ z)), unclosed-is a h)
+
+  -- Past them 0 is answered exactly when they do.
+  pub unwrap-accepts : OutlineFine l → (r ≡ refusal 0 0) ↔ (total (stepsRound (l .corners)) ≡ pos 0)
+  unwrap-accepts h = (λ n. unwrap-closed (ap (λ (r : Refusal). r .number) n) .1, closed-is a h)
+
+-- Two calls give the same answer and the same output where their corners are the same meridians.
+pub unwrap-meridians : (corners others : List ℤ) (centre : ℤ) (before : List ℤ) (r s : Refusal) (after also : List ℤ)
+    → Unwrapped (lentOutline corners centre before) r after → Unwrapped (lentOutline others centre before) s also → SameMeridians corners others → (r ≡ s) × (after ≡ also)
+unfolding outlineAnswer unwrappedAfter
+unwrap-meridians corners others centre before r s after also a b h =
+    let e = result-same corners others centre before h in
+    (a .answer ∙ ap refusalOf e ∙ sym (b .answer), a .written ∙ ap (λ (o : Outcome (List ℤ)). ifDone o (overwritten before 0) before) e ∙ sym (b .written))
+
+-- So a corner at -1800000000 and one at 1800000000 give the same result, whatever stands before and behind it.
+pub unwrap-seam : (these those : List ℤ) (centre : ℤ) (before : List ℤ) (r s : Refusal) (after also : List ℤ)
+    → Unwrapped (lentOutline (these ++ negℤ (pos halfTurn) ∷ those) centre before) r after → Unwrapped (lentOutline (these ++ pos halfTurn ∷ those) centre before) s also → (r ≡ s) × (after ≡ also)
+unwrap-seam these those centre before r s after also a b =
+    unwrap-meridians (these ++ negℤ (pos halfTurn) ∷ those) (these ++ pos halfTurn ∷ those) centre before r s after also a b (seam-at these those)

@@ -2,6 +2,7 @@
 use mathlib.Core.Path.{_≡_, sym, _∙_}
 use mathlib.Core.List.{List}
 use Prim.Native.Nat.{ℕ}
+use lib.IntN.{ℤ}
 use lib.Ieee.{Float}
 use Rattle.rules.specs.declared.Extent.{Extent}
 use Rattle.rules.specs.declared.FloorAnswer.{FloorAnswer}
@@ -19,7 +20,9 @@ use Rattle.rules.specs.Walk.{Counted}
 use Rattle.rules.specs.Flow.{Flow}
 use Rattle.rules.specs.Calls.{TreeInput, ForceInput}
 use Rattle.rules.specs.Tick.{SheetInput}
+use Rattle.rules.specs.Outline.{OutlineInput}
 use Rattle.tree.specs.Tree.{AfterTree}
+use Rattle.outline.specs.Unwrap.{Unwrapped}
 use Rattle.force_call.specs.Calls as Force
 use Rattle.tick_call.specs.Tick.{AfterTick}
 use Rattle.step_call.specs.Step.{AfterStep}
@@ -65,3 +68,7 @@ pub step-unique : (l : SheetInput) (s : Settings) (least : Float) (budget : ℕ)
     → (r ≡ r') × (sheet ≡ sheet') × (alpha ≡ alpha') × (work ≡ work')
 step-unique l s least budget r r' sheet sheet' alpha alpha' work work' e f =
     (same (e .answer) (f .answer), same (e .sheet) (f .sheet), same (e .alpha) (f .alpha), same (e .work) (f .work))
+
+-- An outline: the answer and the output.
+pub unwrap-unique : (l : OutlineInput) (r r' : Refusal) (after after' : List ℤ) → Unwrapped l r after → Unwrapped l r' after' → (r ≡ r') × (after ≡ after')
+unwrap-unique l r r' after after' e f = (same (e .answer) (f .answer), same (e .written) (f .written))

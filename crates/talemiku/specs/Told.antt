@@ -1,8 +1,9 @@
--- Names for what is lent to the tree call, bounds for a force and a tick, and how a force refuses a tree, in the theorems about the entries. Definitions only.
+-- Names for what is lent to the tree call, bounds for a force and a tick, how a force refuses a tree, and an outline that is checked, in the theorems about the entries. Definitions only.
 use mathlib.Core.Path.{_≡_}
 use mathlib.Core.Logic.{_⊎_, _↔_}
 use mathlib.Core.List.{List}
 use Prim.Native.Nat.{ℕ, _*_}
+use lib.ListN.{length}
 use lib.Ieee.{Float}
 use Rattle.rules.specs.declared.Extent.{Extent}
 use Rattle.rules.specs.declared.Refusal.{Refusal}
@@ -14,6 +15,7 @@ use Rattle.rules.specs.Cover.{coverFirst, extentOf}
 use Rattle.rules.specs.Tree.{Tree, treeOf}
 use Rattle.rules.specs.Calls.{TreeInput, treeLengths, inputCheck}
 use Rattle.rules.specs.Tick.{forceSlots}
+use Rattle.rules.specs.Outline.{outlineCheck, OutlineInput}
 use Rattle.rules.specs.Terms.{Oversized, Earliest, IsTree, distinct, mostNodes}
 
 -- ---- the tree call
@@ -57,3 +59,9 @@ mostOfTick n = forceSlots * mostOfForce n
 pub record TreeRefused (at : List Float) (n slots : ℕ) (r : Refusal) : Type 0 where
   pub exactly : ((r .number ≡ 6) ⊎ (r .number ≡ 7)) ↔ ((t : Tree Extent) → IsTree at (extentOf (coverFirst at n)) t (upTo n) → Oversized slots t)
   pub earliest : (r .number ≡ 6) ⊎ (r .number ≡ 7) → Earliest at n slots r
+
+-- ---- an outline
+
+-- none of 1, 2 and 5
+abbrev pub OutlineFine : OutlineInput → Type 0
+OutlineFine l = outlineCheck (l .corners) (l .centre) (length (l .unwrapped)) ≡ fine

@@ -8,6 +8,7 @@ pub use applying::talemiku_apply_velocities;
 pub use centring::talemiku_center;
 use rules::Counts;
 use rules::FloorAnswer;
+use rules::Refusal;
 use rules::Settings;
 use rules::StepAnswer;
 use rules::TreeAnswer;
@@ -21,6 +22,7 @@ ghost use Rattle.checks.specs.Input.{lentSheet};
 ghost use Rattle.tick_call.specs.Tick.{AfterTick};
 ghost use Rattle.step_call.specs.Step.{AfterStep};
 ghost use Rattle.tree.specs.Tree as Tree;
+ghost use Rattle.outline.specs.Unwrap.{lentOutline, Unwrapped};
 ghost use Rattle.force_call.specs.Calls.{lent, Answered};
 
 // The floor as a whole number, or refusal 4.
@@ -190,4 +192,12 @@ pub extern "C" fn talemiku_step(
         budget,
         work,
     )
+}
+
+// An outline in longitudes of 1e-7 degree, unwrapped the short way round: the first corner against `centre`, each later one against the one before. The first places of `unwrapped` take the numbers.
+#[no_mangle]
+pub extern "C" fn talemiku_unwrap(corners: &[i64], centre: i64, unwrapped: &mut [i64]) -> Refusal
+    ensures { λ r. ⌜ Unwrapped (lentOutline (now (corners .entry)) centre (now (unwrapped .entry))) r (now (unwrapped .exit)) ⌝ }
+{
+    outline::unwrap(corners, centre, unwrapped)
 }
