@@ -3,6 +3,9 @@
 //   rustc -O -o beside/build/vectors beside/vectors.rs && beside/build/vectors crates/vectors/src
 //
 // It writes roots.rt and floors.rt into the folder that it is given.
+mod random;
+
+use random::Random;
 use std::fmt::Write;
 
 const NAN: u64 = 0x7ff8_0000_0000_0000;
@@ -21,19 +24,6 @@ fn canonical(b: u64) -> u64 {
 
 fn root(b: u64) -> u64 {
     canonical(f64::from_bits(b).sqrt().to_bits())
-}
-
-// splitmix64
-struct Random(u64);
-
-impl Random {
-    fn next(&mut self) -> u64 {
-        self.0 = self.0.wrapping_add(0x9e37_79b9_7f4a_7c15);
-        let mut z = self.0;
-        z = (z ^ (z >> 30)).wrapping_mul(0xbf58_476d_1ce4_e5b9);
-        z = (z ^ (z >> 27)).wrapping_mul(0x94d0_49bb_1331_11eb);
-        z ^ (z >> 31)
-    }
 }
 
 // ---- patterns whose roots are asked for
@@ -149,7 +139,7 @@ fn array(out: &mut String, comment: &str, name: &str, of: &str, values: &[String
 const MADE: &str = "Made by `rustc -O -o beside/build/vectors beside/vectors.rs && beside/build/vectors crates/vectors/src`";
 
 fn roots() -> String {
-    let mut random = Random(1);
+    let mut random = Random::new(1);
     let squares = squares(&mut random);
     let neighbours = neighbours(&squares);
     let mut all = squares;

@@ -1,40 +1,13 @@
 //! Random hard cases, the same for a seed on every machine.
 
 use crate::case::{Case, Force, Record, Tick};
+use crate::random::Random;
 
 const LIMIT: f64 = 1_099_511_627_776.0; // 2^40
 
 // ---- the generator
 
-/// splitmix64.
-pub struct Random(u64);
-
 impl Random {
-    pub fn new(seed: u64) -> Self {
-        Self(seed)
-    }
-
-    fn next(&mut self) -> u64 {
-        self.0 = self.0.wrapping_add(0x9e37_79b9_7f4a_7c15);
-        let mut z = self.0;
-        z = (z ^ (z >> 30)).wrapping_mul(0xbf58_476d_1ce4_e5b9);
-        z = (z ^ (z >> 27)).wrapping_mul(0x94d0_49bb_1331_11eb);
-        z ^ (z >> 31)
-    }
-
-    fn below(&mut self, n: usize) -> usize {
-        (self.next() % n as u64) as usize
-    }
-
-    /// Once in n times.
-    fn once_in(&mut self, n: usize) -> bool {
-        self.below(n) == 0
-    }
-
-    fn pick<A: Copy>(&mut self, list: &[A]) -> A {
-        list[self.below(list.len())]
-    }
-
     /// A whole number from -n to n.
     fn whole(&mut self, n: usize) -> f64 {
         self.below(2 * n + 1) as f64 - n as f64

@@ -3,6 +3,8 @@
 mod answer;
 mod case;
 mod gen;
+#[path = "../random.rs"]
+mod random;
 mod refusal;
 mod rule;
 mod rust;
@@ -96,7 +98,7 @@ fn with_plan(words: &[String], work: impl Fn(&Plan) -> io::Result<bool>) -> io::
 }
 
 fn cases(plan: &Plan) -> impl Iterator<Item = String> + '_ {
-    let mut random = gen::Random::new(plan.seed);
+    let mut random = random::Random::new(plan.seed);
     (0..plan.count).map(move |_| case::write(&gen::case(&mut random, plan.max, &plan.kinds)))
 }
 
