@@ -531,6 +531,7 @@ outlines =
     ∷ refusesOutline (round 3 (east halfway) polar) 16 0
     ∷ refusesOutline (round 3 (west halfway) polarWest) 16 0
     ∷ refusesOutline (round 3 (east 0) (west halfway ∷ west 600000000 ∷ east 600000000 ∷ [])) 16 0
+    ∷ refusesOutline (round 3 (east halfway) (east halfway ∷ east 600000000 ∷ west 600000000 ∷ [])) 16 0
     ∷ refusesOutline (round 2 (east 0) (east 0 ∷ east halfway ∷ [])) 16 0
     -- 5: a corner or the centre by one unit on either side, and by as much as there is; the first such corner; no corners, and the centre all the same
     ∷ refusesOutline (round 1 (east 0) (tooFar ∷ [])) 5 0
