@@ -7,8 +7,8 @@ pub const HALF_TURN: i64 = 1_800_000_000;
 
 /// Unwraps an outline the short way round, into the first places of `unwrapped`; a longer list keeps its rest.
 ///
-/// The first corner goes to its one equivalent (whole turns away) within `HALF_TURN` of the sheet's centre, each later one to the equivalent whose step from the one before is
-/// short: at least -`HALF_TURN`, below `HALF_TURN`. Corners at -180 and at 180 degrees give the same numbers. No corners give none.
+/// The first corner goes to its one equivalent (whole turns away) from `centre - HALF_TURN` to below `centre + HALF_TURN`, each later one to the equivalent whose step from the one
+/// before is short: from `-HALF_TURN` to below `HALF_TURN`. So half a turn is a step west. Corners at -180 and at 180 degrees give the same numbers. No corners give none.
 ///
 /// # Errors
 ///

@@ -64,9 +64,16 @@ rem-past (negsuc n) h = rem-neg-past n (suc n % turn) refl h
 
 -- ---- the numbers on the way
 
-module _ (from corner : ℤ) (ff : SFits w64 from) (fc : SFits w64 corner) (far : natAbs from ≤ farthest) (lon : longitudeRange corner ≡ true) where
+-- what a step begins with
+pub record Begun (from corner : ℤ) : Type 0 where
+  pub from-fits : SFits w64 from
+  pub corner-fits : SFits w64 corner
+  pub far : natAbs from ≤ farthest
+  pub ranged : longitudeRange corner ≡ true
+
+module _ {from corner : ℤ} (b : Begun from corner) where
   near : natAbs corner ≤ halfTurn
-  near = longitude-size corner lon
+  near = longitude-size corner (b .ranged)
 
   -- as the machine computes them, each from what it reads back of the one before
   abbrev apart : ℤ
@@ -79,10 +86,10 @@ module _ (from corner : ℤ) (ff : SFits w64 from) (fc : SFits w64 corner) (far 
   left = remZ (toZ w64 (ofZ w64 shifted)) (pos turn)
 
   apart-is : apart ≡ corner -ℤ from
-  apart-is = ap₂ _-ℤ_ (toZ-ofZ w64 corner fc) (toZ-ofZ w64 from ff)
+  apart-is = ap₂ _-ℤ_ (toZ-ofZ w64 corner (b .corner-fits)) (toZ-ofZ w64 from (b .from-fits))
 
   apart-size : natAbs (corner -ℤ from) ≤ halfTurn + farthest
-  apart-size = omega (arith, size-add corner (negℤ from), size-neg from, near, far)
+  apart-size = omega (arith, size-add corner (negℤ from), size-neg from, near, b .far)
 
   pub apart-fits : SFits w64 apart
   apart-fits = subst (SFits w64) (sym apart-is) (fits (corner -ℤ from) (omega (arith, apart-size)))
@@ -112,7 +119,7 @@ module _ (from corner : ℤ) (ff : SFits w64 from) (fc : SFits w64 corner) (far 
   read-left = back left-is (fits (remZ whole-way (pos turn)) (omega (arith, rem-size whole-way)))
 
   -- from `from` on by a step
-  module _ (step : ℤ) (step-is : step ≡ shortStep from corner) where
+  module _ {step : ℤ} (step-is : step ≡ shortStep from corner) where
     small : natAbs (shortStep from corner) ≤ halfTurn
     small = short-size (shortStep from corner) (step-short from corner)
 
@@ -121,10 +128,10 @@ module _ (from corner : ℤ) (ff : SFits w64 from) (fc : SFits w64 corner) (far 
 
     on-is : toZ w64 (ofZ w64 from) +ℤ toZ w64 (ofZ w64 step) ≡ shortWay from corner
     unfolding shortWay
-    on-is = ap₂ _+ℤ_ (toZ-ofZ w64 from ff) (back step-is (fits (shortStep from corner) (omega (arith, small))))
+    on-is = ap₂ _+ℤ_ (toZ-ofZ w64 from (b .from-fits)) (back step-is (fits (shortStep from corner) (omega (arith, small))))
 
     way-fits : SFits w64 (shortWay from corner)
-    way-fits = fits (shortWay from corner) (omega (arith, way-size from corner, far))
+    way-fits = fits (shortWay from corner) (omega (arith, way-size from corner, b .far))
 
     pub on-fits : SFits w64 (toZ w64 (ofZ w64 from) +ℤ toZ w64 (ofZ w64 step))
     on-fits = subst (SFits w64) (sym on-is) way-fits
