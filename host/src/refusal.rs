@@ -38,7 +38,7 @@ pub enum Refusal {
     },
     /// 5: another number is out of its range, or there is no such kind of force.
     Number {
-        /// The index in its list; 0 for a setting.
+        /// The index in its list; 0 for a setting or an outline's centre.
         place: usize,
     },
     /// 6: the tree would pass level 64.

@@ -25,8 +25,8 @@ cornerAt l i = getD l i (pos 0)
 
 -- what a step asks: half a turn for each corner passed, and one for the centre
 module _ (l : List ℤ) (c : ℤ) (s : Sound l c) where
-  pub begun : natAbs c ≤ halfTurn * (0 + 1)
-  begun = omega (arith, longitude-size c (s .centred))
+  pub at-centre : natAbs c ≤ halfTurn * (0 + 1)
+  at-centre = omega (arith, longitude-size c (s .centred))
 
   pub asked : (i : ℕ) (at : ℤ) → i < length l → natAbs at ≤ halfTurn * (i + 1) → (natAbs at ≤ farthest) × (longitudeRange (cornerAt l i) ≡ true)
   asked i at h near = (omega (arith, s .few), all-at longitudeRange l i (pos 0) (s .ranged) h)

@@ -8,7 +8,7 @@ ghost use Rattle.outline.specs.Unwrap.{farthest};
 
 const HALF_TURN: i64 = 1800000000;
 
-const TURN: i64 = 3600000000;
+const TURN: i64 = 2 * HALF_TURN;
 
 pub fn longitude_range(a: i64) -> bool
     ensures { λ r. ⌜ r ≡ Outline.longitudeRange a ⌝ }

@@ -7,7 +7,7 @@ use mir.Syntax.{w64}
 use mir.Val.{toZ, ofZ}
 use mir.ValLaws.{toZ-ofZ}
 use Rattle.rules.specs.Outline.{outline, lastFrom}
-use Rattle.outline.proofs.Turns.{cornerAt, begun, asked}
+use Rattle.outline.proofs.Turns.{cornerAt, at-centre, asked}
 use Rattle.outline.proofs.Ends.{closes-none, closes-tested, last-far}
 use Rattle.outline.proofs.corners.closes.Statement.{statement}
 use Rattle.outline.proofs.corners.closes.Tie as tie
@@ -23,7 +23,7 @@ short-way-requires c κs =
     let s = c .before .before in
     let l = s .args .corners .now in
     rw (toZ-ofZ w64 (s .args .centre) (s .fits .centre), toZ-ofZ w64 (cornerAt l 0) (sfits-of (c .first .given)))
-    (asked l (s .args .centre) (s .pre) 0 (s .args .centre) (some c) (begun l (s .args .centre) (s .pre)))
+    (asked l (s .args .centre) (s .pre) 0 (s .args .centre) (some c) (at-centre l (s .args .centre) (s .pre)))
 
 -- what was found of the last number is read back as it is
 last-read : (c : tie.After-last) → let s = c .before .before .before .before in toZ w64 (ofZ w64 (c .last .result)) ≡ lastFrom (s .args .centre) (outline (s .args .centre) (s .args .corners .now))
@@ -37,7 +37,7 @@ short-way-requires-2 c κs =
     let s = f .before .before in
     let l = s .args .corners .now in
     rw (last-read c, toZ-ofZ w64 (cornerAt l 0) (sfits-of (f .first .given)))
-    (last-far l (s .args .centre) (s .pre), asked l (s .args .centre) (s .pre) 0 (s .args .centre) (some f) (begun l (s .args .centre) (s .pre)) .1)
+    (last-far l (s .args .centre) (s .pre), asked l (s .args .centre) (s .pre) 0 (s .args .centre) (some f) (at-centre l (s .args .centre) (s .pre)) .1)
 
 returns-2 : tie.Need-returns-2
 returns-2 c =

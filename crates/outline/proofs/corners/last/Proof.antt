@@ -8,7 +8,7 @@ use mir.Syntax.{w64}
 use mir.Val.{toZ, ofZ}
 use mir.ValLaws.{toZ-ofZ}
 use Rattle.rules.specs.Outline.{halfTurn, outline, lastFrom}
-use Rattle.outline.proofs.Turns.{cornerAt, begun, asked, nearer, last-turn, step-read}
+use Rattle.outline.proofs.Turns.{cornerAt, at-centre, asked, nearer, last-turn, step-read}
 use Rattle.outline.proofs.corners.last.Statement.{statement}
 use Rattle.outline.proofs.corners.last.Tie as tie
 
@@ -22,7 +22,7 @@ abbrev μ-loop : tie.MeasureT-loop
 μ-loop corners centre end₀ i₀ end i = length corners - i
 
 loop-holds : tie.Need-loop-holds Inv-loop μ-loop
-loop-holds c = (omega arith, rw (toZ-ofZ w64 (c .args .centre) (c .fits .centre)) (begun (c .args .corners .now) (c .args .centre) (c .pre)), refl)
+loop-holds c = (omega arith, rw (toZ-ofZ w64 (c .args .centre) (c .fits .centre)) (at-centre (c .args .corners .now) (c .args .centre) (c .pre)), refl)
 
 short-way-requires : tie.Need-short-way-requires Inv-loop μ-loop
 short-way-requires c κs =

@@ -10,7 +10,7 @@ use mir.ValLaws.{toZ-ofZ}
 use Rattle.rules.specs.Plain.{overwritten}
 use Rattle.rules.specs.Outline.{halfTurn, outline}
 use Rattle.sheet.proofs.Lists.{overwritten-none}
-use Rattle.outline.proofs.Turns.{cornerAt, begun, asked, nearer, lay-turn, step-read}
+use Rattle.outline.proofs.Turns.{cornerAt, at-centre, asked, nearer, lay-turn, step-read}
 use Rattle.outline.proofs.corners.lay.Statement.{statement}
 use Rattle.outline.proofs.corners.lay.Tie as tie
 
@@ -25,7 +25,7 @@ abbrev μ-loop : tie.MeasureT-loop
 μ-loop corners centre unwrapped₀ at₀ i₀ unwrapped at i = length corners - i
 
 loop-holds : tie.Need-loop-holds Inv-loop μ-loop
-loop-holds c = (omega arith, rw (toZ-ofZ w64 (c .args .centre) (c .fits .centre)) (begun (c .args .corners .now) (c .args .centre) (c .pre .0)), refl, refl)
+loop-holds c = (omega arith, rw (toZ-ofZ w64 (c .args .centre) (c .fits .centre)) (at-centre (c .args .corners .now) (c .args .centre) (c .pre .0)), refl, refl)
 
 short-way-requires : tie.Need-short-way-requires Inv-loop μ-loop
 short-way-requires c κs =
