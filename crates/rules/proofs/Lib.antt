@@ -22,11 +22,13 @@ pub mod CellInsert
 pub mod CellSize
 pub mod CellWrap
 pub mod CellMore
+pub mod CellWithout
 pub mod CellRule
 pub mod OutcomeLaws
 pub mod RefusalLaws
 pub mod RefusalNumbers
 pub mod Signs
 pub mod Outline
+pub mod EditLaws
 pub mod Places
 pub mod Counting

@@ -19,5 +19,6 @@ pub mod Calls
 pub mod Tick
 pub mod Listing
 pub mod Outline
+pub mod Edits
 pub mod Terms
 pub mod Opened

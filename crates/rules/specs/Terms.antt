@@ -1,28 +1,32 @@
--- The words in which the theorems about the public calls are put (talemiku/proofs/Theorems): what makes a tree that of the cell rule, its leaves, distinct points, chains, points in cells, and what single walks, forces and ticks count. Definitions only.
+-- The words in which the theorems about the public calls are put (talemiku/proofs/Theorems): what makes a tree that of the cell rule, its leaves, distinct points, chains, points in cells, what single walks, forces and ticks count, and the earliest edit that can't be made. Definitions only.
 use mathlib.Core.Path.{_≡_}
 use mathlib.Core.Logic.{_⊎_, _≢_}
 use mathlib.Core.Bool.{Bool, true, false, cond, not, _&&_}
 use mathlib.Core.List.{List, [], _∷_, _++_, map}
 use Prim.Native.Nat.{ℕ, zero, suc, _+_, _*_, _≤_, _<_}
 use lib.IntN.{pos, _+ℤ_}
+use lib.Signed.{leZ}
 use lib.Dec.{leb, eqb}
-use lib.ListN.{length}
+use lib.ListN.{length, getD, take}
 use lib.Ieee.{Float, lt, le}
 use Rattle.rules.specs.declared.Extent.{Extent}
 use Rattle.rules.specs.declared.Refusal.{Refusal}
 use Rattle.rules.specs.declared.Settings.{Settings}
-use Rattle.rules.specs.Plain.{branch, all, sum, upTo}
+use Rattle.rules.specs.Plain.{branch, keep, all, sum, upTo}
 use Rattle.rules.specs.Outcome.{Outcome, done, _>>=_, ifDone}
+use Rattle.rules.specs.Number.{xAt, yAt}
 use Rattle.rules.specs.Sheet.{placesOf, speedsOf}
 use Rattle.rules.specs.Cell.{quarter}
 use Rattle.rules.specs.Cover.{Square}
-use Rattle.rules.specs.Tree.{Tree, none, leaf, node, depth, nodes, greatestLevel, same, alike, pointsIn, treeOf}
+use Rattle.rules.specs.Tree.{Tree, none, leaf, node, depth, nodes, greatestLevel, same, alike, pointsIn, treeOf, chainsOf}
 use Rattle.rules.specs.Walk.{Entry, counted, After, walk}
 use Rattle.rules.specs.Flow.{flow}
 use Rattle.rules.specs.ManyBody.{standard, chargedTree, manyBodyStep}
 use Rattle.rules.specs.Collide.{radiusTree, collideStep}
 use Rattle.rules.specs.Force.{manyBody, collide, link}
 use Rattle.rules.specs.Tick.{Force, empty, push, center, unknown, State, state, forceStage, tick}
+use Rattle.rules.specs.Edits.{Edit, pointsOf, Present, presentAfter, among, extentNow, treeNow, there}
+use Rattle.rules.specs.Edits as Edits
 
 -- ---- trees
 
@@ -41,6 +45,10 @@ EachLeaf P (node a t0 t1 t2 t3) = EachLeaf P t0 × EachLeaf P t1 × EachLeaf P t
 -- it goes below level 64 (`depth` counts levels, and levels 0 to 64 are 65), or has more nodes than there are slots
 abbrev pub Oversized : {A : Type 0} → ℕ → Tree A → Type 0
 Oversized slots t = (greatestLevel + 1 < depth t) ⊎ (slots < nodes t)
+
+-- it is not: no level below 64, and no more nodes than there are slots
+abbrev pub Fits : {A : Type 0} → ℕ → Tree A → Type 0
+Fits slots t = (depth t ≤ greatestLevel + 1) × (nodes t ≤ slots)
 
 -- The earliest of n particles whose prefix can't be built, in this many slots: every shorter prefix can; 6 is answered where its tree goes below level 64, else 7 where it has more nodes than slots.
 pub record Earliest (at : List Float) (n slots : ℕ) (r : Refusal) : Type 0 where
@@ -79,6 +87,13 @@ module _ (at : List Float) where
 pub record Sided (z : ℕ) (s : Square) : Type 0 where
   pub wide : s .x1 ≡ s .x0 +ℤ pos z
   pub tall : s .y1 ≡ s .y0 +ℤ pos z
+
+-- t reaches at least as far as s on all four sides
+pub record Contains (t s : Square) : Type 0 where
+  pub left : leZ (t .x0) (s .x0) ≡ true
+  pub low : leZ (t .y0) (s .y0) ≡ true
+  pub right : leZ (s .x1) (t .x1) ≡ true
+  pub high : leZ (s .y1) (t .y1) ≡ true
 
 -- ---- what is counted
 
@@ -149,3 +164,47 @@ unfoldable pub tickCounts : Settings → Float → List Force → ℕ → ℕ �
 tickCounts s alphaMin forces slots zero m = []
 tickCounts s alphaMin forces slots (suc k) m =
     branch (lt alphaMin (m .alpha)) (λ _. ifDone (tick s forces slots (uncounted m)) (λ n. n .visits ∷ tickCounts s alphaMin forces slots k n) []) (λ _. [])
+
+-- ---- edits
+
+-- What document 01 demands of a tree, of the points `is` in the cell c and in this many slots: t keeps the cell rule and is the only one that does; it fits; it has one leaf for each distinct point, and at most 1 + 64 m nodes for m of them;
+-- a leaf's chain is all points that are numerically equal to any of its own, in order; each point stands in exactly one chain, once, and nothing else does; each lies in its leaf's half-open cell.
+pub record Ruled (at : List Float) (c : Extent) (t : Tree Extent) (is : List ℕ) (slots : ℕ) : Type 0 where
+  pub ruled : IsTree at c t is
+  pub only : (u : Tree Extent) → IsTree at c u is → u ≡ t
+  pub fits : Fits slots t
+  pub tips : leaves t ≡ distinct at is
+  pub few : nodes t ≤ mostNodes (distinct at is)
+  pub chains : EachLeaf (λ _ js. (i : ℕ) → 0 < times i js → js ≡ keep (same at i) is) t
+  pub once : (i : ℕ) → times i (chainsOf t) ≡ cond (among i is) 1 0
+  pub inside : EachLeaf (λ d js. all (λ i. inCell d (xAt at i) (yAt at i)) js ≡ true) t
+
+module _ (es : List Edit) where
+  -- edit k, where there are more than k
+  abbrev pub nthEdit : ℕ → Edit
+  nthEdit k = getD es k Edits.unknown
+
+  -- what is there after the first k edits
+  abbrev pub presentAt : ℕ → Present
+  presentAt k = presentAfter (take k es)
+
+  -- the extent then
+  abbrev pub extentAt : ℕ → Extent
+  extentAt k = extentNow (pointsOf es) (presentAt k)
+
+  -- the tree then
+  abbrev pub treeAt : ℕ → Tree Extent
+  treeAt k = treeNow (pointsOf es) (presentAt k)
+
+  -- edit k can be made, in this many slots: it removes only what is there, and the tree at it fits
+  abbrev pub Makes : ℕ → ℕ → Type 0
+  Makes slots k = (there (presentAt k) (nthEdit k) ≡ true) × Fits slots (treeAt (k + 1))
+
+-- The earliest edit that can't be made, in this many slots: every edit before it can; 15 is answered where what it removes isn't there, else 6 where the tree at it goes below level 64, else 7 where that has more nodes than slots.
+pub record EarliestEdit (es : List Edit) (slots : ℕ) (r : Refusal) : Type 0 where
+  pub among : r .place < length es
+  pub before : (k : ℕ) → k < r .place → Makes es slots k
+  pub number :
+      let t = treeAt es (r .place + 1) in
+      let removable = there (presentAt es (r .place)) (nthEdit es (r .place)) in
+      ((r .number ≡ 15) × (removable ≡ false)) ⊎ ((r .number ≡ 6) × (removable ≡ true) × (greatestLevel + 1 < depth t)) ⊎ ((r .number ≡ 7) × (removable ≡ true) × (depth t ≤ greatestLevel + 1) × (slots < nodes t))

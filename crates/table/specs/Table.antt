@@ -1,4 +1,4 @@
--- T1 to T13 of document 01: one computed table, and that every case of it holds. Behind it the lister's sample, lent lengths, what T1 to T13 leave open, the limits, and outlines.
+-- T1 to T13 of document 01: one computed table, and that every case of it holds. Behind it the lister's sample, lent lengths, what T1 to T13 leave open, the limits, outlines, and edits.
 use mathlib.Core.Path.{_≡_, refl}
 use mathlib.Core.Bool.{Bool, true, false, _&&_, _||_, not, cond}
 use mathlib.Core.List.{List, [], _∷_, _++_, map}
@@ -24,6 +24,7 @@ use Rattle.rules.specs.Calls.{slotWords, TreeInput, treeResult, treeAnswer, row
 use Rattle.rules.specs.Tick.{settings, SheetInput, tickAnswer, sheetAfterTick, alphaAfterTick, workAfterTick, stepAnswer, alphaAfterStep}
 use Rattle.rules.specs.Listing.{lister, ascii}
 use Rattle.rules.specs.Outline.{OutlineInput, outlineAnswer, unwrappedAfter}
+use Rattle.rules.specs.Edits.{editsOf, insertions, EditsInput, editsAnswer, editRowsAfter, editChainsAfter, editWorkAfter}
 use Rattle.rules.specs.Opened.{opened}
 
 -- ---- numbers, and tests of equality
@@ -565,3 +566,166 @@ outlines =
 pub every-outline-holds : all (λ b. b) outlines ≡ true
 unfolding opened outlines east west halfway equalsZ round unwrapsBefore unwraps refusesOutline box boxFromWest polar polarWest upFrom downFrom tooFar isRefusal
 every-outline-holds = refl
+
+-- ---- edits, of document 02, R-9: every lent list holds 9 or 7 before the call
+
+-- in at a point
+on : Float → Float → List ℕ
+on x y = 0 ∷ bitsOf x ∷ bitsOf y ∷ []
+
+-- out by number; the third word isn't looked at
+off : ℕ → List ℕ
+off i = 1 ∷ i ∷ 7 ∷ []
+
+-- of a kind that there is not
+odd : List ℕ
+odd = 2 ∷ 0 ∷ 0 ∷ []
+
+joinAll : List (List ℕ) → List ℕ
+joinAll [] = []
+joinAll (l ∷ ls) = l ++ joinAll ls
+
+-- lent for these edits, with this many slots
+editing : ℕ → List (List ℕ) → EditsInput
+editing slots es =
+    let words = joinAll es in
+    record { edits = words; rows = replicate (slots * 4) 9; chains = replicate (insertions (editsOf words)) 9; work = replicate (slots * slotWords + 1) 7 }
+
+-- the same with other lengths
+lending : ℕ → ℕ → EditsInput → EditsInput
+lending rows chains l = record { edits = l .edits; rows = replicate rows 9; chains = replicate chains 9; work = l .work }
+
+-- accepted, with these ends, this many nodes, these rows and chains, and every work slot zero
+edits : EditsInput → List Float → ℕ → List ℕ → List ℕ → Bool
+edits l ends n rows chains =
+    let a = editsAnswer l in
+    let e = a .extent in
+    isRefusal 0 0 (a .refusal)
+    && eqb (a .nodes) n
+    && sameBits (e .x0 ∷ e .y0 ∷ e .x1 ∷ e .y1 ∷ []) ends
+    && equals (editRowsAfter l) rows
+    && equals (editChainsAfter l) chains
+    && all (eqb 0) (editWorkAfter l)
+
+nought : List Float
+nought = 0· ∷ 0· ∷ 0· ∷ 0· ∷ []
+
+-- refused, with both lists unchanged, no nodes, no extent, and the work slots all holding w
+refusesEdits : EditsInput → ℕ → ℕ → ℕ → Bool
+refusesEdits l number place w =
+    let a = editsAnswer l in
+    let e = a .extent in
+    isRefusal number place (a .refusal)
+    && eqb (a .nodes) 0
+    && sameBits (e .x0 ∷ e .y0 ∷ e .x1 ∷ e .y1 ∷ []) nought
+    && all (eqb 9) (editRowsAfter l)
+    && all (eqb 9) (editChainsAfter l)
+    && all (eqb w) (editWorkAfter l)
+
+-- 2 ^ 41
+beyond : Float
+beyond = limit ⊗ 2·
+
+-- from 0 to 1, and from 0 to 8
+unit : List Float
+unit = 0· ∷ 0· ∷ 1· ∷ 1· ∷ []
+
+eight : List Float
+eight = 0· ∷ 0· ∷ plus 8 ∷ plus 8 ∷ []
+
+origin : List ℕ
+origin = on 0· 0·
+
+quarter· : Float
+quarter· = tiny 2
+
+eighth : Float
+eighth = tiny 3
+
+threeQuarters : Float
+threeQuarters = 1· ⊖ tiny 2
+
+-- an internal node of a level, in a quadrant, and a leaf with that many
+inner : ℕ → ℕ → List ℕ
+inner l q = l ∷ q ∷ 1 ∷ 0 ∷ []
+
+tip : ℕ → ℕ → ℕ → List ℕ
+tip l q n = l ∷ q ∷ 2 ∷ n ∷ []
+
+pub lapses : List Bool
+lapses =
+    -- none
+    edits (editing 0 []) nought 0 [] []
+    ∷ edits (editing 2 []) nought 0 (replicate 8 0) []
+    -- one in; in and out: its extent stays
+    ∷ edits (editing 1 (on (plus 2 ⊖ half 1·) (minus 3) ∷ [])) (1· ∷ minus 3 ∷ 2· ∷ minus 2 ∷ []) 1 (tip 0 0 1) (0 ∷ [])
+    ∷ edits (editing 1 (on (plus 2 ⊖ half 1·) (minus 3) ∷ off 0 ∷ [])) (1· ∷ minus 3 ∷ 2· ∷ minus 2 ∷ []) 0 (replicate 4 0) (0 ∷ [])
+    -- the extent never shrinks, and a leaf comes into it when none remains
+    ∷ edits (editing 3 (origin ∷ on (plus 5) (plus 5) ∷ off 1 ∷ [])) eight 1 (tip 0 0 1 ++ replicate 8 0) (0 ∷ 0 ∷ [])
+    ∷ edits (editing 3 (origin ∷ on (plus 5) (plus 5) ∷ off 1 ∷ off 0 ∷ [])) eight 0 (replicate 12 0) (0 ∷ 0 ∷ [])
+    ∷ edits (editing 3 (origin ∷ on (plus 5) (plus 5) ∷ off 0 ∷ off 1 ∷ on 1· 1· ∷ [])) eight 1 (tip 0 0 1 ++ replicate 8 0) (2 ∷ 0 ∷ 0 ∷ [])
+    -- it holds a later point as covering all in order does, not as covering those that are left would
+    ∷ edits (editing 3 (origin ∷ on (minus 1) 0· ∷ off 0 ∷ off 1 ∷ on 0· 2· ∷ [])) (minus 1 ∷ 0· ∷ plus 3 ∷ plus 4 ∷ []) 1 (tip 0 0 1 ++ replicate 8 0) (2 ∷ 0 ∷ 0 ∷ [])
+    -- the first of two coincident labels goes: the leaf takes the other's bits; or the second, or the middle one of three
+    ∷ edits (editing 1 (origin ∷ on −0· −0· ∷ off 0 ∷ [])) unit 1 (tip 0 0 1) (1 ∷ 0 ∷ [])
+    ∷ edits (editing 1 (origin ∷ on −0· −0· ∷ off 1 ∷ [])) unit 1 (tip 0 0 1) (0 ∷ 0 ∷ [])
+    ∷ edits (editing 1 (origin ∷ origin ∷ origin ∷ off 1 ∷ [])) unit 1 (tip 0 0 2) (0 ∷ 2 ∷ 0 ∷ [])
+    ∷ edits (editing 1 (origin ∷ origin ∷ off 1 ∷ origin ∷ off 0 ∷ [])) unit 1 (tip 0 0 1) (2 ∷ 0 ∷ 0 ∷ [])
+    -- leaves up three levels, to the root or short of it
+    ∷ edits (editing 5 (origin ∷ on eighth 0· ∷ [])) unit 5 (inner 0 0 ++ inner 1 0 ++ inner 2 0 ++ tip 3 0 1 ++ tip 3 1 1) (0 ∷ 1 ∷ [])
+    ∷ edits (editing 5 (origin ∷ on eighth 0· ∷ off 1 ∷ [])) unit 1 (tip 0 0 1 ++ replicate 16 0) (0 ∷ 0 ∷ [])
+    ∷ edits (editing 5 (origin ∷ on eighth 0· ∷ off 0 ∷ [])) unit 1 (tip 0 0 1 ++ replicate 16 0) (1 ∷ 0 ∷ [])
+    ∷ edits (editing 6 (origin ∷ on eighth 0· ∷ on threeQuarters threeQuarters ∷ off 1 ∷ [])) unit 3 (inner 0 0 ++ tip 1 0 1 ++ tip 1 3 1 ++ replicate 12 0) (0 ∷ 2 ∷ 0 ∷ [])
+    -- one internal child alone: it stays internal
+    ∷ edits (editing 5 (origin ∷ on quarter· 0· ∷ on threeQuarters threeQuarters ∷ off 2 ∷ [])) unit 4 (inner 0 0 ++ inner 1 0 ++ tip 2 0 1 ++ tip 2 1 1 ++ replicate 4 0) (0 ∷ 1 ∷ 0 ∷ [])
+    -- and two leaves left of three stay under their node
+    ∷ edits (editing 4 (origin ∷ on (half 1·) 0· ∷ on 0· (half 1·) ∷ off 0 ∷ [])) unit 3 (inner 0 0 ++ tip 1 1 1 ++ tip 1 2 1 ++ replicate 4 0) (1 ∷ 2 ∷ 0 ∷ [])
+    -- a slot freed and used again: as many slots as the largest tree do, one fewer is 7 at its edit
+    ∷ edits (editing 5 (origin ∷ on (half 1·) 0· ∷ off 1 ∷ on eighth 0· ∷ [])) unit 5 (inner 0 0 ++ inner 1 0 ++ inner 2 0 ++ tip 3 0 1 ++ tip 3 1 1) (0 ∷ 2 ∷ 0 ∷ [])
+    ∷ refusesEdits (editing 4 (origin ∷ on (half 1·) 0· ∷ off 1 ∷ on eighth 0· ∷ [])) 7 3 0
+    ∷ edits (editing 3 (origin ∷ on (half 1·) 0· ∷ off 0 ∷ origin ∷ off 1 ∷ on 0· (half 1·) ∷ [])) unit 3 (inner 0 0 ++ tip 1 0 1 ++ tip 1 2 1) (2 ∷ 3 ∷ 0 ∷ 0 ∷ [])
+    ∷ refusesEdits (editing 2 (origin ∷ on (half 1·) 0· ∷ off 0 ∷ origin ∷ off 1 ∷ on 0· (half 1·) ∷ [])) 7 1 0
+    ∷ refusesEdits (editing 0 (origin ∷ off 0 ∷ [])) 7 0 0
+    -- 15: not inserted yet, removed twice, no number that there could be, and the numbers of removals aren't counted
+    ∷ refusesEdits (editing 1 (off 0 ∷ [])) 15 0 0
+    ∷ refusesEdits (editing 1 (off 0 ∷ origin ∷ [])) 15 0 0
+    ∷ refusesEdits (editing 1 (origin ∷ off 1 ∷ origin ∷ [])) 15 1 0
+    ∷ refusesEdits (editing 1 (origin ∷ off 0 ∷ off 0 ∷ [])) 15 2 0
+    ∷ refusesEdits (editing 1 (origin ∷ off 0 ∷ origin ∷ off 0 ∷ [])) 15 3 0
+    ∷ refusesEdits (editing 1 (origin ∷ off (2 ^ 64 - 1) ∷ [])) 15 1 0
+    ∷ refusesEdits (editing 1 (origin ∷ off (2 ^ 32) ∷ [])) 15 1 0
+    -- whichever comes first of 7 and 15
+    ∷ refusesEdits (editing 1 (origin ∷ on (half 1·) 0· ∷ off 5 ∷ [])) 7 1 0
+    ∷ refusesEdits (editing 1 (origin ∷ off 5 ∷ on (half 1·) 0· ∷ [])) 15 1 0
+    -- 6 at an insertion, also one that widens the extent, after removals; none where what was deep is gone
+    ∷ refusesEdits (editing 99 (origin ∷ on (tiny 65) 0· ∷ [])) 6 1 0
+    ∷ refusesEdits (editing 99 (origin ∷ on threeQuarters 0· ∷ on (tiny 62) 0· ∷ off 1 ∷ on (plus 7) (plus 7) ∷ [])) 6 4 0
+    ∷ edits (editing 66 (origin ∷ on (tiny 64) 0· ∷ off 0 ∷ on eighth 0· ∷ off 1 ∷ on (plus 7) (plus 7) ∷ [])) eight 3 (inner 0 0 ++ tip 1 0 1 ++ tip 1 3 1 ++ replicate 252 0) (2 ∷ 3 ∷ 0 ∷ 0 ∷ [])
+    ∷ edits (editing 66 (origin ∷ on (tiny 64) 0· ∷ off 1 ∷ on (half 1·) 0· ∷ on (plus 7) (plus 7) ∷ [])) eight 7
+    (inner 0 0 ++ inner 1 0 ++ inner 2 0 ++ inner 3 0 ++ tip 4 0 1 ++ tip 4 1 1 ++ tip 1 3 1 ++ replicate 236 0) (0 ∷ 2 ∷ 3 ∷ 0 ∷ [])
+    -- 6 if both
+    ∷ refusesEdits (editing 1 (origin ∷ on (tiny 65) 0· ∷ [])) 6 1 0
+    -- 1 before 2; 4,096 edits are let through
+    ∷ refusesEdits (editing 1 (map off (replicate 4096 0))) 15 0 0
+    ∷ refusesEdits (editing 1 (map off (replicate 4097 0))) 1 0 7
+    ∷ refusesEdits (lending 3 3 (editing 1 (map off (replicate 4097 0)))) 1 0 7
+    ∷ refusesEdits (editing 1 (map off (replicate 4096 0) ++ (1 ∷ 0 ∷ []) ∷ [])) 2 0 7
+    -- 2 before 4: a rest of words, either list
+    ∷ refusesEdits (editing 1 ((0 ∷ []) ∷ [])) 2 0 7
+    ∷ refusesEdits (editing 1 (on beyond 0· ∷ (0 ∷ 0 ∷ []) ∷ [])) 2 0 7
+    ∷ refusesEdits (lending 3 1 (editing 1 (on beyond 0· ∷ []))) 2 0 7
+    ∷ refusesEdits (lending 5 1 (editing 1 (origin ∷ []))) 2 0 7
+    ∷ refusesEdits (lending 4 0 (editing 1 (origin ∷ []))) 2 0 7
+    ∷ refusesEdits (lending 4 2 (editing 1 (origin ∷ off 0 ∷ []))) 2 0 7
+    -- 4 at the first bad insertion, before 5 at the first unknown kind, before 15 and 7; a removal's words are no coordinates
+    ∷ refusesEdits (editing 0 (odd ∷ off 0 ∷ origin ∷ on 0· beyond ∷ on beyond 0· ∷ [])) 4 3 7
+    ∷ refusesEdits (editing 0 (off 0 ∷ origin ∷ odd ∷ odd ∷ [])) 5 2 7
+    ∷ refusesEdits (editing 0 (((2 ^ 64 - 1) ∷ 0 ∷ 0 ∷ []) ∷ [])) 5 0 7
+    ∷ refusesEdits (editing 1 ((0 ∷ (2 ^ 64 - 1) ∷ 0 ∷ []) ∷ [])) 4 0 7
+    ∷ edits (editing 1 (origin ∷ (1 ∷ 0 ∷ (2 ^ 64 - 1) ∷ []) ∷ [])) unit 0 (replicate 4 0) (0 ∷ [])
+    ∷ edits (editing 1 (on limit (neg limit) ∷ [])) (limit ∷ neg limit ∷ (limit ⊖ minus 1) ∷ minus (2 ^ 40 - 1) ∷ []) 1 (tip 0 0 1) (0 ∷ [])
+    ∷ []
+
+pub every-lapse-holds : all (λ b. b) lapses ≡ true
+unfolding opened lapses on off odd joinAll editing lending edits refusesEdits nought beyond unit eight origin quarter· eighth threeQuarters inner tip plus minus half −0· tiny equals sameBits isRefusal
+every-lapse-holds = refl
