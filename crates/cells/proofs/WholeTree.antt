@@ -1,7 +1,7 @@
 -- The cell rule's tree of n particles: where its points lie, how large its extent is, and that building it refuses exactly where the rule's tree is too large. Assumes nothing.
-use mathlib.Core.Path.{_≡_, refl, ap, subst}
+use mathlib.Core.Path.{_≡_, refl}
 use mathlib.Core.Logic.{_⊎_, inl, inr, ⊎-elim, _↔_}
-use mathlib.Core.Bool.{true}
+use mathlib.Core.Bool.{true, true≢false}
 use mathlib.Core.List.{List, [], _∷_, List·Memᴰ, List·Memᴰ·head, List·Memᴰ·tail}
 use Prim.Native.Nat.{ℕ, zero, suc, _+_, _^_, _≤_, _<_}
 use native.Mathlib.Decide.{decLt}
@@ -16,16 +16,17 @@ use Rattle.rules.specs.Outcome.{Check, done, refused, fine}
 use Rattle.rules.specs.Number.{within, xAt, yAt}
 use Rattle.rules.specs.Floor.{floor}
 use Rattle.rules.specs.Cover.{Square, inside, holds, coverFirst, extentOf}
-use Rattle.rules.specs.Tree.{Tree, depth, nodes, treeOf, treeCheck}
-use Rattle.rules.specs.Terms.{EachLeaf, Oversized, Earliest, NotOfTree, inCell, IsTree, Sided}
+use Rattle.rules.specs.Tree.{Tree, none, leaf, node, depth, nodes, treeOf, treeCheck}
+use Rattle.rules.specs.Terms.{EachLeaf, Oversized, Fits, Earliest, NotOfTree, inCell, IsTree, Sided}
 use Rattle.rules.proofs.CellList.{In}
+use Rattle.rules.proofs.CellCount.{in-count, times-in, times-upTo}
 use Rattle.rules.proofs.CellChain.{each-map}
 use Rattle.rules.proofs.CellInside.{Inside}
-use Rattle.rules.proofs.CellRule.{tree-whole, tree-grown, leaves-inside}
+use Rattle.rules.proofs.CellRule.{tree-whole, tree-deep, tree-large, tree-fits, leaves-inside}
 use Rattle.rules.proofs.Cover.{held-sided, held-most, cover-inside}
 use Rattle.cells.specs.Cover.{squareOf, Reachable}
 use Rattle.cells.proofs.CoverLaws.{in-range, list-reachable, list-lies, reachable-finite}
-use Rattle.cells.proofs.Prefix.{InRange, in-T, in-member, member-less, no-tree, check-fits, check-exact, check-earliest}
+use Rattle.cells.proofs.Prefix.{InRange, in-T, in-member, member-less, check-fits, check-exact, check-earliest}
 
 module _ (at : List Float) where
   -- ---- the extent of the first particles, of which there are some
@@ -70,41 +71,41 @@ module _ (at : List Float) where
   unfolding treeOf
   whole-tree n d = tree-whole at (extentOf (coverFirst at n)) (upTo n) d
 
-  -- Every leaf's points lie in its half-open cell.
+  -- Every leaf of a tree of some of the first n points, in the extent of those n, has its points in its half-open cell.
+  pub leaves-within : (n : ℕ) (is : List ℕ) (t : Tree Extent) → InRange at n → ((i : ℕ) → In i is → i < n) → IsTree at (extentOf (coverFirst at n)) t is
+      → EachLeaf (λ c js. all (λ i. inCell c (xAt at i) (yAt at i)) js ≡ true) t
+  leaves-within n [] none r l h = tt
+  leaves-within n [] (leaf d js) r l h = absurd (omega arith)
+  leaves-within n [] (node d t0 t1 t2 t3) r l h = absurd (true≢false (h .1))
+  leaves-within zero (i ∷ is) t r l h = absurd (omega (arith, l i (inl refl)))
+  leaves-within (suc k) (i ∷ is) t r l h =
+      each-map (λ c js. (i : ℕ) → In i js → Inside at c i) (λ c js. all (λ i. inCell c (xAt at i) (yAt at i)) js ≡ true) all-inside t
+      (leaves-inside at t (extentOf (coverFirst at (suc k))) (i ∷ is) (reachable-finite (stands k r .0)) (λ j m. lie k r j (times-in j (upTo (suc k)) (omega (arith, times-upTo j (suc k) (l j m))))) h)
+
+  -- So has every leaf of the tree of all of them.
   pub leaves-hold : (n : ℕ) → InRange at n → depth (treeOf at n) ≤ 65 → EachLeaf (λ c is. all (λ i. inCell c (xAt at i) (yAt at i)) is ≡ true) (treeOf at n)
-  leaves-hold zero r d = rw (no-tree at) tt
-  leaves-hold (suc k) r d =
-      let c = extentOf (coverFirst at (suc k)) in
-      each-map (λ c is. (i : ℕ) → In i is → Inside at c i) (λ c is. all (λ i. inCell c (xAt at i) (yAt at i)) is ≡ true) all-inside (treeOf at (suc k))
-      (leaves-inside at (treeOf at (suc k)) c (upTo (suc k)) (reachable-finite (stands k r .0)) (lie k r) (whole-tree (suc k) d))
+  leaves-hold n r d = leaves-within n (upTo n) (treeOf at n) r (λ i m. omega (arith, in-count 0 n i m)) (whole-tree n d)
 
   -- ---- the tree that the rules compute, cut off below level 65, and the tree that the cell rule names, which is not
 
   module _ (n : ℕ) (t : Tree Extent) (h : IsTree at (extentOf (coverFirst at n)) t (upTo n)) where
-    computed : depth t ≤ 65 → t ≡ treeOf at n
-    unfolding treeOf
-    computed d = tree-grown at t (extentOf (coverFirst at n)) (upTo n) h d
-
     -- Where the one goes below level 64, so does the other.
     pub deep-ruled : 65 < depth (treeOf at n) → 65 < depth t
-    deep-ruled d = elim (decLt 65 (depth t)) [ yes l ↦ l | no m ↦ absurd (let e = ap depth (computed (omega arith)) in omega arith) ]
+    unfolding treeOf
+    deep-ruled d = tree-deep at t (extentOf (coverFirst at n)) (upTo n) h d
 
     -- Where the one is too large, so is the other.
     pub large-ruled : (slots : ℕ) → Oversized slots (treeOf at n) → Oversized slots t
-    large-ruled slots (inl d) = inl (deep-ruled d)
-    large-ruled slots (inr m) = elim (decLt 65 (depth t)) [ yes l ↦ inl l | no k ↦ inr (let e = ap nodes (computed (omega arith)) in omega arith) ]
+    unfolding treeOf
+    large-ruled slots o = tree-large at t (extentOf (coverFirst at n)) (upTo n) slots h o
+
+    fits-ruled : (slots : ℕ) → (Oversized slots t → ⊥) → Fits slots (treeOf at n)
+    unfolding treeOf
+    fits-ruled slots small = tree-fits at t (extentOf (coverFirst at n)) (upTo n) slots h small
 
     -- Where the other is not, building refuses nothing.
     pub ruled-fine : InRange at n → (slots : ℕ) → (Oversized slots t → ⊥) → treeCheck at n slots ≡ fine
-    ruled-fine r slots small =
-        elim (decLt 65 (depth t)) [
-          | yes l ↦ absurd (small (inl l))
-          | no k ↦
-              elim (decLt slots (nodes t)) [
-                | yes l ↦ absurd (small (inr l))
-                | no m ↦ check-exact at n r slots .1 (subst (λ (u : Tree Extent). (depth u ≤ 65) × (nodes u ≤ slots)) (computed (omega arith)) (omega arith, omega arith))
-              ]
-        ]
+    ruled-fine r slots small = check-exact at n r slots .1 (fits-ruled slots small)
 
   -- What is said of the earliest prefix holds of every tree of it by the cell rule.
   pub earliest-ruled : (n slots : ℕ) (r : Refusal) → Earliest at n slots r → (t : Tree Extent) → IsTree at (extentOf (coverFirst at (r .place + 1))) t (upTo (r .place + 1))
@@ -117,10 +118,10 @@ module _ (at : List Float) where
 module _ (at : List Float) (n slots : ℕ) where
   -- the tree fits, and it refuses by neither 6 nor 7; or the tree is too large, and it refuses by the earliest prefix
   pub data Building (r : Refusal) : Type 0 where
-    fits : (depth (treeOf at n) ≤ 65) × (nodes (treeOf at n) ≤ slots) → NotOfTree r → Building r
+    fits : Fits slots (treeOf at n) → NotOfTree r → Building r
     large : Oversized slots (treeOf at n) → Earliest at n slots r → Building r
 
-  too-large : ((depth (treeOf at n) ≤ 65) × (nodes (treeOf at n) ≤ slots) → ⊥) → Oversized slots (treeOf at n)
+  too-large : (Fits slots (treeOf at n) → ⊥) → Oversized slots (treeOf at n)
   too-large small =
       elim (decLt 65 (depth (treeOf at n))) [ yes d ↦ inl d | no e ↦ elim (decLt slots (nodes (treeOf at n))) [ yes m ↦ inr m | no f ↦ absurd (small (omega arith, omega arith)) ] ]
 

@@ -27,5 +27,5 @@ few-keep n p is h = record { below = below-keep n p is (h .below); few = omega (
 few-upTo : (n : ℕ) → Few n (upTo n)
 few-upTo n = record { below = below-upTo n; few = omega (arith, length-upTo n) }
 
-pub chains-few : {at : List Float} {n : ℕ} {m next : List ℕ} {q : Quadtree} → (s : Stands at n m next q) → EachChain (Few n) (s .tree)
-chains-few {n = n} s = chains-have s (Few n) (few-keep n) (few-upTo n)
+pub chains-few : (at : List Float) (n : ℕ) {m next : List ℕ} {q : Quadtree} (s : Stands at n m next q) → EachChain (Few n) (s .tree)
+chains-few at n s = chains-have at n s (Few n) (few-keep n) (few-upTo n)

@@ -1,24 +1,23 @@
 -- The whole force: one tree serves all iterations, and the visits stay few. Assumes nothing.
-use mathlib.Core.Path.{_≡_, refl, sym, ap, _∙_, subst}
+use mathlib.Core.Path.{_≡_, refl, sym, ap, _∙_}
 use mathlib.Core.List.{List, [], _∷_}
 use Prim.Native.Nat.{ℕ, zero, suc, _+_, _*_, _≤_, _^_}
 use native.Mathlib.Nat.{mul-le-mul}
 use native.Mathlib.Omega.{arith}
 use lib.ListN.{length}
 use lib.Ieee.{Float}
-use Rattle.rules.specs.declared.Extent.{Extent}
 use Rattle.rules.specs.declared.Refusal.{Refusal}
 use Rattle.rules.specs.Plain.{upTo}
 use Rattle.rules.specs.Outcome.{Outcome, done, refused, _>>=_, foldStages, fine}
-use Rattle.rules.specs.Tree.{Tree, nodes, depth, treeOf, treeCheck}
+use Rattle.rules.specs.Tree.{nodes, treeCheck}
 use Rattle.rules.specs.Walk.{Counted}
 use Rattle.rules.specs.Flow.{Flow}
 use Rattle.rules.specs.Collide.{radiusTree, collideOnce, runCollide}
 use Rattle.rules.proofs.CellRule.{tree-nodes}
 use Rattle.rules.proofs.OutcomeLaws.{bind-cong}
 use Rattle.slots.specs.declared.Quadtree.{Quadtree}
-use Rattle.slots.proofs.Trees.{cells-depth, cells-nodes}
-use Rattle.walk.proofs.WalkTurns.{nodes-seen}
+use Rattle.slots.proofs.Trees.{lays-levels, lays-nodes}
+use Rattle.walk.proofs.WalkStands.{nodes-stands}
 use Rattle.collide.specs.Radius.{Rounded}
 use Rattle.collide.specs.Collide.{Bounded, walkAll, walkTimes}
 use Rattle.collide.proofs.CollideSteps.{look, seen-radii}
@@ -58,10 +57,8 @@ run-refused at radii strength (suc k) slots m n e = rw (once-refused at radii st
 nodes-radii : {at radii : List Float} {m : List ℕ} {q : Quadtree} → Rounded at radii m q → nodes (radiusTree at radii) ≤ 1 + 64 * length radii
 nodes-radii {at} {radii} {m} {q} s =
     let t = s .valued .stands in
-    let d : depth (treeOf at (length radii)) ≤ 65 = subst (λ (u : Tree Extent). depth u ≤ 65) (t .is) (subst (λ (k : ℕ). k ≤ 65) (sym (cells-depth (q .extent) (t .tree))) (t .levels)) in
-    let e : nodes (treeOf at (length radii)) ≡ nodes (t .tree) = ap nodes (sym (t .is)) ∙ cells-nodes (q .extent) (t .tree) in
-    let g : nodes (radiusTree at radii) ≡ nodes (t .tree) = ap nodes (sym (seen-radii s)) ∙ nodes-seen (look m) (q .extent) (t .tree) in
-    omega (arith, e, g, tree-nodes at (length radii) d .1)
+    let g : nodes (radiusTree at radii) ≡ q .nodes = ap nodes (sym (seen-radii s)) ∙ nodes-stands t (look m) in
+    omega (arith, g, lays-nodes t, tree-nodes at (length radii) (lays-levels t) .1)
 
 pub few-visits : {at radii : List Float} {m : List ℕ} {q : Quadtree} {iterations visits : ℕ} → Rounded at radii m q → Bounded (length radii) iterations visits
     → iterations * (length radii * nodes (radiusTree at radii)) ≤ 2 ^ 37

@@ -45,7 +45,7 @@ module _ (at radii : List Float) (strength : Float) (i : ℕ) where
   pub sets-out : {m : List ℕ} {q : Quadtree} (s : Rounded at radii m q) (b : Counted Flow) {w v : Walk} → Rooted (q .root) (q .extent) w v → Goes m (s .next) b v b
   sets-out {m} s b r =
       let t = s .valued .stands in
-      start (collideStep at radii strength i) (look m) (Below (length radii)) m (s .next) (t .tree) (radiusTree at radii) b (found t (Below (length radii)) (chains-below t)) (t .levels) (seen-radii s) r
+      start (collideStep at radii strength i) (look m) (Below (length radii)) m (s .next) (t .tree) (radiusTree at radii) b (found t (Below (length radii)) (chains-below at (length radii) t)) (t .levels) (seen-radii s) r
 
   -- an internal node: b says whether it is away, v what the walk does
   pub node-step : (n : Extent × Float) (σ : Flow) (b : Bool) (v v' : Visit) → b ≡ away at i (n .0) (radiusOf radii i ⊕ n .1) → v ≡ stopIf b → v ≡ v'

@@ -1,5 +1,5 @@
 -- How many nodes all walks hand out, and the run by what building the tree says. Assumes nothing.
-use mathlib.Core.Path.{_≡_, sym, ap, _∙_, subst}
+use mathlib.Core.Path.{_≡_}
 use mathlib.Core.List.{List}
 use Prim.Native.Nat.{ℕ, _*_, _^_, _≤_}
 use native.Mathlib.Nat.{mul-le-mul}
@@ -9,14 +9,14 @@ use lib.Ieee.{Float}
 use Rattle.rules.specs.declared.Refusal.{Refusal}
 use Rattle.rules.specs.declared.Tuning.{Tuning}
 use Rattle.rules.specs.Outcome.{refused, fine}
-use Rattle.rules.specs.Tree.{nodes, depth, treeOf, treeCheck}
+use Rattle.rules.specs.Tree.{treeCheck}
 use Rattle.rules.specs.Walk.{Counted}
 use Rattle.rules.specs.Flow.{Flow}
 use Rattle.rules.specs.ManyBody.{runManyBody}
 use Rattle.rules.proofs.CellRule.{tree-nodes}
 use Rattle.slots.specs.declared.Quadtree.{Quadtree}
 use Rattle.slots.specs.Trees.{Stands}
-use Rattle.slots.proofs.Trees.{cells-depth, cells-nodes}
+use Rattle.slots.proofs.Trees.{lays-levels, lays-nodes}
 use Rattle.quadtree.proofs.Refusals.{tree-clears}
 use Rattle.force.specs.Ran.{Runs}
 use Rattle.force.proofs.Stages.{ran-refused}
@@ -25,11 +25,9 @@ use Rattle.many_body.specs.ManyBody.{pulledAll}
 -- ---- how many nodes are handed out
 
 -- 4,096 particles, each with at most 262,145 nodes to meet
-pub all-fit : {at : List Float} {n : ℕ} {m next : List ℕ} {q : Quadtree} (s : Stands at n m next q) → n ≤ 4096 → n * q .nodes ≤ 2 ^ 31
-all-fit {at} {n} {q = q} s h =
-    let d : depth (treeOf at n) ≤ 65 = subst (λ (k : ℕ). k ≤ 65) (sym (cells-depth (q .extent) (s .tree)) ∙ ap depth (s .is)) (s .levels) in
-    let k : nodes (treeOf at n) ≡ q .nodes = ap nodes (sym (s .is)) ∙ cells-nodes (q .extent) (s .tree) ∙ s .count in
-    let l : q .nodes ≤ 262145 = omega (arith, tree-nodes at n d .1) in
+pub all-fit : (at : List Float) (n : ℕ) {m next : List ℕ} {q : Quadtree} → Stands at n m next q → n ≤ 4096 → n * q .nodes ≤ 2 ^ 31
+all-fit at n {q = q} s h =
+    let l : q .nodes ≤ 262145 = omega (arith, lays-nodes s, tree-nodes at n (lays-levels s) .1) in
     omega (arith, mul-le-mul h l)
 
 -- ---- 6 and 7

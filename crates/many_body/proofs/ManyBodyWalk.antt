@@ -48,7 +48,7 @@ module _ (at strengths : List Float) {m next : List ℕ} {q : Quadtree} (v : Cha
   pub pull-start : (t : Tuning) (alpha : Float) (i : ℕ) (b : Counted Flow) {w u : Walk} → Rooted (q .root) (q .extent) w u → Pulling t at strengths alpha i next m b u b
   pull-start t alpha i b r =
       start (manyBodyStep t at strengths alpha i) (look m) (Few (length strengths)) m next (v .stands .tree) (chargedTree at strengths) b
-      (found (v .stands) (Few (length strengths)) (chains-few (v .stands))) (v .stands .levels) charged-tree r
+      (found (v .stands) (Few (length strengths)) (chains-few at (length strengths) (v .stands))) (v .stands .levels) charged-tree r
 
 -- the step refuses, at an internal node or at a leaf
 pub refused-there : {A S : Type 0} {step : Entry A → S → Outcome (After S)} {look : ℕ → Extent → A} {P : List ℕ → Type 0} {m next : List ℕ} {T : Tree A} {begun : Counted S} {w : Walk} {now : Counted S} {e : Waiting}

@@ -10,13 +10,13 @@ use lib.ListN.{length, set}
 use borrow.Author.Tests.{leb-true, leb-false}
 use lib.Ieee.{Float}
 use Rattle.rules.specs.declared.Extent.{Extent}
-use Rattle.rules.specs.Plain.{all, upTo}
+use Rattle.rules.specs.Plain.{all}
 use Rattle.rules.specs.Cell.{quarter}
 use Rattle.rules.specs.Outcome.{refused, refusal, fine}
 use Rattle.rules.specs.Tree.{Tree, none, leaf, node, depth, nodes, same, alike, inQuarter, pointsIn, treeIn, fitsCheck}
 use Rattle.rules.proofs.CellList.{In, all-in, keep-in}
 use Rattle.rules.proofs.CellPoints.{same-trans, same-quarter}
-use Rattle.rules.proofs.CellCount.{leaves, Fruitful, fruitful, upTo-snoc, length-upTo}
+use Rattle.rules.proofs.CellCount.{leaves, Fruitful, fruitful}
 use Rattle.rules.proofs.CellChain.{EachLeaf, Points, Chain}
 use Rattle.rules.proofs.CellDeep.{inQuarter-own}
 use Rattle.rules.proofs.CellIs.{Is}
@@ -31,7 +31,7 @@ use Rattle.leaves.specs.Leaf.{side, gap, hung}
 use Rattle.placing.specs.Add.{lead, Stored, Holds, pick, Reaches, moreCheck}
 use Rattle.slots.proofs.Slots.{Same, same-trans as slot-trans, internal-length, internal-same, internal-tag, internal-kids, leaf-length, leaf-same, leaf-tag}
 use Rattle.placing.proofs.SlotsTree.{each-both, lead-le, over, upd, leads, upd-below, each-child, stored-over, stored-child, leads-upd, leads-small, once-out, frame}
-use Rattle.placing.proofs.AddWay.{up, up-is, side-lt, reach-all, reach-each, reach-stored, reach-once, reach-depth, plug, plug-nodes, plug-depth, Renews, plug-renews, plug-once, plug-stored, plug-cells, plug-deep}
+use Rattle.placing.proofs.AddWay.{up, up-is, side-lt, reach-each, reach-stored, reach-once, reach-leaf, reach-depth, plug, plug-nodes, plug-depth, Renews, plug-renews, plug-once, plug-stored, plug-cells, plug-deep}
 use Rattle.placing.proofs.AddSplit.{splitT, split-lead, split-each, split-once, split-depth, split-nodes, split-cells, split-deep}
 
 -- ---- levels, nodes and leaves with cells for slots
@@ -56,11 +56,22 @@ two-levels a t0 t1 t2 t3 h = go (leb 2 (depth (node a t0 t1 t2 t3))) refl
         let l : depth (node a t0 t1 t2 t3) < 2 = leb-false 2 (depth (node a t0 t1 t2 t3)) e in
         absurd (omega (arith, h .0, bare t0 (omega arith), bare t1 (omega arith), bare t2 (omega arith), bare t3 (omega arith)))
 
+-- the slots from x to y
+abbrev pub Between : ℕ → ℕ → ℕ → Type 0
+Between x y j = (x ≤ j) × (j < y)
+
+-- a tree below x has none of them
+old : (x y : ℕ) (t : Tree ℕ) → EachSlot (λ j. j < x) t → EachSlot (λ j. Between x y j → ⊥) t
+old x y t h = each-map (λ j. j < x) (λ j. Between x y j → ⊥) (λ j a b. omega (arith, a, b .0)) t h
+
 module _ (at : List Float) where
   -- ---- what the slots hold is the tree of the points
 
-  holds-levels : (is m : List ℕ) (q : Quadtree) → Holds at is m q → depth (treeIn at (q .extent) is) ≤ 65
-  holds-levels is m q h = subst (λ (n : ℕ). n ≤ 65) (sym (cells-depth (q .extent) (h .tree)) ∙ ap depth (h .cells)) (h .most)
+  pub holds-most : (is m : List ℕ) (q : Quadtree) (h : Holds at is m q) → depth (h .tree) ≤ 65
+  holds-most is m q h = omega (arith, h .deepest, h .shallow)
+
+  pub holds-levels : (is m : List ℕ) (q : Quadtree) → Holds at is m q → depth (treeIn at (q .extent) is) ≤ 65
+  holds-levels is m q h = subst (λ (n : ℕ). n ≤ 65) (sym (cells-depth (q .extent) (h .tree)) ∙ ap depth (h .cells)) (holds-most is m q h)
 
   pub holds-is : (is m : List ℕ) (q : Quadtree) (h : Holds at is m q) → Is at (q .extent) (inCells (q .extent) (h .tree)) is
   holds-is is m q h = subst (λ (t : Tree Extent). Is at (q .extent) t is) (sym (h .cells)) (tree-whole at (q .extent) is (holds-levels is m q h))
@@ -75,13 +86,13 @@ module _ (at : List Float) where
       slots n a b = omega arith
 
   -- at most 1 + 64 slots a particle
-  pub holds-few : (n : ℕ) (m : List ℕ) (q : Quadtree) → Holds at (upTo n) m q → q .nodes ≤ 1 + 64 * n
-  holds-few n m q h =
+  pub holds-few : (is m : List ℕ) (q : Quadtree) → Holds at is m q → q .nodes ≤ 1 + 64 * length is
+  holds-few is m q h =
       let c = q .extent in
-      omega (arith, nodes-points at (inCells c (h .tree)) c (upTo n) (holds-is (upTo n) m q h) (subst (λ (d : ℕ). d ≤ 65) (sym (cells-depth c (h .tree))) (h .most)), cells-nodes c (h .tree), h .count, length-upTo n)
+      omega (arith, nodes-points at (inCells c (h .tree)) c is (holds-is is m q h) (subst (λ (d : ℕ). d ≤ 65) (sym (cells-depth c (h .tree))) (holds-most is m q h)), cells-nodes c (h .tree), h .count)
 
-  pub holds-chains : (n : ℕ) (m : List ℕ) (q : Quadtree) (h : Holds at (upTo n) m q) → Points at (upTo n) → EachLeaf (λ _. Chain at (upTo n)) (h .tree)
-  holds-chains n m q h points = cells-leaves (Chain at (upTo n)) (q .extent) (h .tree) (chains at (inCells (q .extent) (h .tree)) (q .extent) (upTo n) points (holds-is (upTo n) m q h))
+  pub holds-chains : (is m : List ℕ) (q : Quadtree) (h : Holds at is m q) → Points at is → EachLeaf (λ _. Chain at is) (h .tree)
+  holds-chains is m q h points = cells-leaves (Chain at is) (q .extent) (h .tree) (chains at (inCells (q .extent) (h .tree)) (q .extent) is points (holds-is is m q h))
 
   module _ (p : ℕ) where
     -- ---- what is known where the way has come to
@@ -128,15 +139,9 @@ module _ (at : List Float) where
           shared (inl e) x = ap (λ (y : ℕ). same at y p) (sym e) ∙ b
           shared (inr k) x = same-trans at f i p (all-in (same at f) js i x k) b
 
-    pub leaf-chain : (m : List ℕ) (q : Quadtree) (h : Holds at (upTo p) m q) (l : ℕ) (d : Extent) (s : ℕ) (js : List ℕ) → Reaches at p l (q .extent) (h .tree) d (leaf s js) → Points at (upTo p) → Chain at (upTo p) js
-    leaf-chain m q h l d s js r points =
-        reach-all at p (EachLeaf (λ _. Chain at (upTo p))) down l (q .extent) (h .tree) d (leaf s js) r (holds-chains p m q h points)
-      where
-        down : (s : ℕ) (t0 t1 t2 t3 : Tree ℕ) → EachLeaf (λ _. Chain at (upTo p)) (node s t0 t1 t2 t3) → (r : ℕ) → EachLeaf (λ _. Chain at (upTo p)) (pick t0 t1 t2 t3 r)
-        down s t0 t1 t2 t3 h zero = h .0
-        down s t0 t1 t2 t3 h (suc zero) = h .1
-        down s t0 t1 t2 t3 h (suc (suc zero)) = h .2
-        down s t0 t1 t2 t3 h (suc (suc (suc r))) = h .3
+    pub leaf-chain : (is m : List ℕ) (q : Quadtree) (h : Holds at is m q) (l : ℕ) (d : Extent) (s : ℕ) (js : List ℕ) → Reaches at p l (q .extent) (h .tree) d (leaf s js) → Points at is → Chain at is js
+    leaf-chain is m q h l d s js r points =
+        reach-leaf at p l (q .extent) (h .tree) d (leaf s js) r (Chain at is) (holds-chains is m q h points)
 
     -- ---- a subtree in the place of another
 
@@ -149,10 +154,10 @@ module _ (at : List Float) where
       pub count : nodes v + x ≡ nodes u + y
       pub more : x ≤ y
       pub top : lead v ≡ lead u
-      pub renews : Renews at p x y u v
+      pub renews : Renews (Between x y) u v
       pub once : Once v
 
-    module _ (m : List ℕ) (q : Quadtree) (h : Holds at (upTo p) m q) (l n : ℕ) (d : Extent) (u v : Tree ℕ) (y e : ℕ)
+    module _ (is m : List ℕ) (q : Quadtree) (h : Holds at is m q) (l n : ℕ) (d : Extent) (u v : Tree ℕ) (y e : ℕ)
         (r : Reaches at p l (q .extent) (h .tree) d u) (w : Replaces l n d u v (q .nodes) y e) where
       abbrev after : Tree ℕ
       after = plug at p l (q .extent) (h .tree) v
@@ -164,19 +169,19 @@ module _ (at : List Float) where
       after-nodes = omega (arith, plug-nodes at p l (q .extent) (h .tree) d u v r, h .count, w .count)
 
       after-most : depth after ≤ 65
-      after-most = omega (arith, after-depth, h .most, w .most)
+      after-most = omega (arith, after-depth, holds-most is m q h, w .most)
 
       -- it is the tree of the points and p
-      after-cells : inCells (q .extent) after ≡ treeIn at (q .extent) (upTo (p + 1))
+      after-cells : inCells (q .extent) after ≡ treeIn at (q .extent) (is ++ (p ∷ []))
       after-cells =
           let c = q .extent in
           let f : up l (suc n) ≡ 65 = up-is l (suc n) ∙ w .fuel in
           let g : inCells c after ≡ insertT at p c 65 (inCells c (h .tree)) = subst (λ (k : ℕ). inCells c after ≡ insertT at p c k (inCells c (h .tree))) f (plug-cells at p l c (h .tree) d u v (suc n) r (w .cells)) in
           let z : depth (insertT at p c 65 (inCells c (h .tree))) ≤ 65 = subst (λ (k : ℕ). k ≤ 65) (sym (cells-depth c after) ∙ ap depth g) after-most in
-          g ∙ insert-tree at p (inCells c (h .tree)) c (upTo p) (holds-is (upTo p) m q h) z ∙ ap (treeIn at c) (sym (upTo-snoc p))
+          g ∙ insert-tree at p (inCells c (h .tree)) c is (holds-is is m q h) z
 
       -- with too few slots it is refused
-      pub next-full : length m / 8 < y → moreCheck at m (q .extent) p ≡ refused (refusal 7 p)
+      pub next-full : length m / 8 < y → moreCheck at is m (q .extent) p ≡ refused (refusal 7 p)
       next-full lt =
           subst (λ (t : Tree Extent). fitsCheck (length m / 8) p t ≡ refused (refusal 7 p)) after-cells
           (fits-full (length m / 8) p (inCells (q .extent) after) (subst (λ (k : ℕ). k ≤ 65) (sym (cells-depth (q .extent) after)) after-most)
@@ -184,39 +189,42 @@ module _ (at : List Float) where
 
       -- once v is written, the slots hold it
       pub next-holds : (b : List ℕ) (r' : Quadtree) → Stored b v → ((j : ℕ) → j < q .nodes → (lead u ≡ j + 1 → ⊥) → Same m b j) → y * 8 ≤ length b
-          → r' .extent ≡ q .extent → r' .root ≡ q .root → r' .nodes ≡ y → r' .deepest ≡ max (q .deepest) (l + e - 1) → Holds at (upTo (p + 1)) b r'
+          → r' .extent ≡ q .extent → r' .root ≡ q .root → r' .nodes ≡ y → r' .deepest ≡ max (q .deepest) (l + e - 1) → Holds at (is ++ (p ∷ [])) b r'
       next-holds b r' stored keeps room ex ro nn de =
-          let o = plug-stored at p m b (q .nodes) l (q .extent) (h .tree) d u v r (w .top) stored keeps (h .below) (h .once) (h .stored) in
+          let o = plug-stored at p m b (λ j. j < q .nodes) l (q .extent) (h .tree) d u v r (w .top) stored keeps (h .below) (h .once) (h .stored) in
           record {
             tree = after;
             root = ro ∙ h .root ∙ sym (o .1);
             stored = o .0;
-            cells = subst (λ (c : Extent). inCells c after ≡ treeIn at c (upTo (p + 1))) (sym ex) after-cells;
-            most = after-most;
-            deepest = ap (λ (k : ℕ). k - 1) after-depth ∙ less (depth (h .tree)) (q .deepest) (l + e) (h .deepest) ∙ sym de;
+            cells = subst (λ (c : Extent). inCells c after ≡ treeIn at c (is ++ (p ∷ []))) (sym ex) after-cells;
+            deepest = less (depth (h .tree)) (q .deepest) (l + e) (r' .deepest) after-depth (h .deepest) de;
+            shallow = most (q .deepest) (l + e) (r' .deepest) (h .shallow) (w .most) de;
             count = after-nodes ∙ sym nn;
-            below = plug-renews at p (q .nodes) y l (q .extent) (h .tree) d u v r (w .renews) (λ j. j < r' .nodes) (each-map (λ j. j < q .nodes) (λ j. j < r' .nodes) (λ j z. omega (arith, w .more)) (h .tree) (h .below)) (λ j a b. omega arith);
-            once = plug-once at p (q .nodes) y l (q .extent) (h .tree) d u v r (w .renews) (w .once) (h .below) (h .once);
+            below = plug-renews at p (Between (q .nodes) y) l (q .extent) (h .tree) d u v r (w .renews) (λ j. j < r' .nodes) (each-map (λ j. j < q .nodes) (λ j. j < r' .nodes) (λ j z. omega (arith, w .more)) (h .tree) (h .below)) (λ j a. omega (arith, a .1));
+            once = plug-once at p (Between (q .nodes) y) l (q .extent) (h .tree) d u v r (w .renews) (w .once) (old (q .nodes) y (h .tree) (h .below)) (h .once);
             room = omega arith;
           }
         where
-          less : (a b k : ℕ) → a - 1 ≡ b → max a k - 1 ≡ max b (k - 1)
-          less a b k e = omega arith
+          less : {x : ℕ} (a b k r : ℕ) → x ≡ max a k → a ≤ b + 1 → r ≡ max b (k - 1) → x ≤ r + 1
+          less a b k r e f g = omega arith
+
+          most : (b k r : ℕ) → b ≤ 64 → k ≤ 65 → r ≡ max b (k - 1) → r ≤ 64
+          most b k r e f g = omega arith
 
     -- ---- the three ways in which p comes in
 
-    module _ (m : List ℕ) (q : Quadtree) (h : Holds at (upTo p) m q) (l : ℕ) (d : Extent) where
+    module _ (is m : List ℕ) (q : Quadtree) (h : Holds at is m q) (l : ℕ) (d : Extent) where
       -- a tree that is reached stands on level 64 or above
       pub leaf-level : (s : ℕ) (js : List ℕ) → Reaches at p l (q .extent) (h .tree) d (leaf s js) → l ≤ 64
-      leaf-level s js r = omega (arith, reach-depth at p l (q .extent) (h .tree) d (leaf s js) r, h .most)
+      leaf-level s js r = omega (arith, reach-depth at p l (q .extent) (h .tree) d (leaf s js) r, holds-most is m q h)
 
       -- an internal one above it
       pub node-level : (s : ℕ) (u0 u1 u2 u3 : Tree ℕ) → Reaches at p l (q .extent) (h .tree) d (node s u0 u1 u2 u3) → l ≤ 63
       node-level s u0 u1 u2 u3 r =
           let u : Tree ℕ = node s u0 u1 u2 u3 in
-          let (js, g, f) = reached (upTo p) m q h l d u r in
+          let (js, g, f) = reached is m q h l d u r in
           let b = two-levels d (inCells (quarter 0 d) u0) (inCells (quarter 1 d) u1) (inCells (quarter 2 d) u2) (inCells (quarter 3 d) u3) (fruitful at (inCells d u) d js g) in
-          above (depth u) (depth (h .tree)) (subst (λ (k : ℕ). 2 ≤ k) (cells-depth d u) b) (reach-depth at p l (q .extent) (h .tree) d u r) (h .most)
+          above (depth u) (depth (h .tree)) (subst (λ (k : ℕ). 2 ≤ k) (cells-depth d u) b) (reach-depth at p l (q .extent) (h .tree) d u r) (holds-most is m q h)
         where
           above : (a b : ℕ) → 2 ≤ a → l + a ≤ b → b ≤ 65 → l ≤ 63
           above a b x y z = omega arith
@@ -246,7 +254,7 @@ module _ (at : List Float) where
           let z : l ≤ 63 = node-level s u0 u1 u2 u3 r in
           let c : Extent = quarter (side at p d) d in
           let way : Reaches at p 1 d u c none = (refl, e) in
-          let renews : Renews at p (q .nodes) (q .nodes + 1) none t = λ P a new. new (q .nodes) (omega arith) (omega arith) in
+          let renews : Renews (Between (q .nodes) (q .nodes + 1)) none t = λ P a new. new (q .nodes) (omega arith, omega arith) in
           record {
             fuel = omega arith;
             cells = plug-cells at p 1 d u c none t (64 - l) way (sym (insert-none at p c (64 - l)));
@@ -255,8 +263,8 @@ module _ (at : List Float) where
             count = omega (arith, plug-nodes at p 1 d u c none t way);
             more = omega arith;
             top = refl;
-            renews = plug-renews at p (q .nodes) (q .nodes + 1) 1 d u c none t way renews;
-            once = plug-once at p (q .nodes) (q .nodes + 1) 1 d u c none t way renews tt (reach-each at p l (q .extent) (h .tree) d u r (λ j. j < q .nodes) (h .below)) (reach-once at p l (q .extent) (h .tree) d u r (h .once));
+            renews = plug-renews at p (Between (q .nodes) (q .nodes + 1)) 1 d u c none t way renews;
+            once = plug-once at p (Between (q .nodes) (q .nodes + 1)) 1 d u c none t way renews tt (old (q .nodes) (q .nodes + 1) u (reach-each at p l (q .extent) (h .tree) d u r (λ j. j < q .nodes) (h .below))) (reach-once at p l (q .extent) (h .tree) d u r (h .once));
           }
 
       -- it splits a leaf at another point
@@ -273,7 +281,7 @@ module _ (at : List Float) where
             count = omega (arith, split-nodes at p (i ∷ js) g (64 - l) d s (q .nodes) lt e);
             more = omega arith;
             top = split-lead at p (i ∷ js) g d s (q .nodes);
-            renews = λ P a new. split-each at p P (i ∷ js) g d s (q .nodes) a new;
+            renews = λ P a new. split-each at p P (i ∷ js) g d s (q .nodes) a (λ j y z. new j (y, z));
             once = split-once at p (i ∷ js) g d s (q .nodes) b;
           }
         where
@@ -281,15 +289,14 @@ module _ (at : List Float) where
           greater g = omega arith
 
       -- the two stay together to the last level
-      pub too-deep : (s i : ℕ) (js : List ℕ) → Reaches at p l (q .extent) (h .tree) d (leaf s (i ∷ js)) → same at i p ≡ false → gap at p (64 - l) d i ≡ 64 - l → (w : List ℕ) → moreCheck at w (q .extent) p ≡ refused (refusal 6 p)
+      pub too-deep : (s i : ℕ) (js : List ℕ) → Reaches at p l (q .extent) (h .tree) d (leaf s (i ∷ js)) → same at i p ≡ false → gap at p (64 - l) d i ≡ 64 - l → (w : List ℕ) → moreCheck at is w (q .extent) p ≡ refused (refusal 6 p)
       too-deep s i js r ne e w =
           let c = q .extent in
           let z : l ≤ 64 = leaf-level s (i ∷ js) r in
           let f : up l (suc (64 - l)) ≡ 65 = up-is l (suc (64 - l)) ∙ levels z in
-          fits-deep (length w / 8) p (treeIn at c (upTo (p + 1)))
-          (subst (λ (x : List ℕ). 65 < depth (treeIn at c x)) (sym (upTo-snoc p))
-          (insert-refused at p (inCells c (h .tree)) c (upTo p) (holds-is (upTo p) m q h)
-          (subst (λ (k : ℕ). k < depth (insertT at p c k (inCells c (h .tree)))) f (plug-deep at p l c (h .tree) d (leaf s (i ∷ js)) (suc (64 - l)) r (split-deep at p i js (64 - l) d d ne e)))))
+          fits-deep (length w / 8) p (treeIn at c (is ++ (p ∷ [])))
+          (insert-refused at p (inCells c (h .tree)) c is (holds-is is m q h)
+          (subst (λ (k : ℕ). k < depth (insertT at p c k (inCells c (h .tree)))) f (plug-deep at p l c (h .tree) d (leaf s (i ∷ js)) (suc (64 - l)) r (split-deep at p i js (64 - l) d d ne e))))
         where
           levels : l ≤ 64 → l + suc (64 - l) ≡ 65
           levels z = omega arith

@@ -12,6 +12,7 @@ use Rattle.rules.specs.Plain.{branch}
 use Rattle.rules.specs.Number.{xAt, yAt}
 use Rattle.rules.specs.Cell.{quarter}
 use Rattle.rules.specs.Tree.{Tree, none, leaf, node, depth, nodes, inQuarter}
+use Rattle.rules.proofs.CellChain.{EachLeaf}
 use Rattle.rules.proofs.CellInsert.{insertT, into, insert-node}
 use Rattle.rules.proofs.CellDeep.{inQuarter-own}
 use Rattle.slots.specs.Trees.{EachSlot, Apart, Once, inCells}
@@ -19,7 +20,7 @@ use Rattle.leaves.specs.Leaf.{side}
 use Rattle.placing.specs.Add.{lead, Stored, pick, Reaches}
 use Rattle.slots.proofs.Slots.{Same}
 use Rattle.slots.proofs.Trees.{each-map}
-use Rattle.placing.proofs.SlotsTree.{each-both, apart-sym, lead-each, over, upd, each-child, stored-child, upd-below, each-over, stored-over, leads-keep, depth-upd, nodes-upd, depth-child, once-out, once-apart, once-child, once-over, pair-upd, frame}
+use Rattle.placing.proofs.SlotsTree.{each-both, apart-sym, lead-each, over, upd, each-child, stored-child, leaf-child, upd-below, each-over, stored-over, leads-keep, depth-upd, nodes-upd, depth-child, once-out, once-apart, once-child, once-over, pair-upd, frame}
 use Rattle.cells.proofs.Quadrant.{quadrant-lt}
 
 -- n levels more
@@ -42,6 +43,10 @@ pick-ap f a b c d (suc (suc (suc (suc q)))) l = absurd (omega arith)
 -- one level more on both sides
 pub deeper : {a b e k : ℕ} → k < a → b ≡ a → suc b ≤ e → suc k < e
 deeper x y z = omega arith
+
+-- what holds of the slots of u and of the new ones, N, holds of those of v
+abbrev pub Renews : (ℕ → Type 0) → Tree ℕ → Tree ℕ → Type 1
+Renews N u v = (P : ℕ → Type 0) → EachSlot P u → ((j : ℕ) → N j → P j) → EachSlot P v
 
 module _ (at : List Float) (p : ℕ) where
   pub side-lt : (c : Extent) → side at p c < 4
@@ -67,6 +72,9 @@ module _ (at : List Float) (p : ℕ) where
 
     pub reach-once : Once t → Once u
     reach-once h = reach-all Once (λ s t0 t1 t2 t3 h. once-child s t0 t1 t2 t3 h) n c t d u r h
+
+    pub reach-leaf : (Q : List ℕ → Type 0) → EachLeaf (λ _. Q) t → EachLeaf (λ _. Q) u
+    reach-leaf Q h = reach-all (EachLeaf (λ _. Q)) (λ s t0 t1 t2 t3 h. leaf-child t0 t1 t2 t3 s Q h) n c t d u r h
 
   pub reach-depth : (n : ℕ) (c : Extent) (t : Tree ℕ) (d : Extent) (u : Tree ℕ) → Reaches at p n c t d u → n + depth u ≤ depth t
   reach-depth zero c t d u r = omega (arith, ap depth (r .1))
@@ -127,47 +135,44 @@ module _ (at : List Float) (p : ℕ) where
 
   -- ---- no slot twice
 
-  -- What holds of the slots of u and of those from x to y holds of the slots of v.
-  abbrev pub Renews : ℕ → ℕ → Tree ℕ → Tree ℕ → Type 1
-  Renews x y u v = (P : ℕ → Type 0) → EachSlot P u → ((j : ℕ) → x ≤ j → j < y → P j) → EachSlot P v
+  pub plug-renews : (N : ℕ → Type 0) (n : ℕ) (c : Extent) (t : Tree ℕ) (d : Extent) (u v : Tree ℕ) → Reaches at p n c t d u → Renews N u v → Renews N t (plug n c t v)
+  plug-renews N n c t d u v r f P h new = plug-each P n c t v h (f P (reach-each n c t d u r P h) new)
 
-  pub plug-renews : (x y n : ℕ) (c : Extent) (t : Tree ℕ) (d : Extent) (u v : Tree ℕ) → Reaches at p n c t d u → Renews x y u v → Renews x y t (plug n c t v)
-  plug-renews x y n c t d u v r f P h new = plug-each P n c t v h (f P (reach-each n c t d u r P h) new)
-
-  pub plug-once : (x y n : ℕ) (c : Extent) (t : Tree ℕ) (d : Extent) (u v : Tree ℕ) → Reaches at p n c t d u → Renews x y u v → Once v → EachSlot (λ j. j < x) t → Once t → Once (plug n c t v)
-  plug-once x y zero c t d u v r f o b h = o
-  plug-once x y (suc n) c none d u v r f o b h = tt
-  plug-once x y (suc n) c (leaf s is) d u v r f o b h = tt
-  plug-once x y (suc n) c (node s t0 t1 t2 t3) d u v r f o b h =
+  pub plug-once : (N : ℕ → Type 0) (n : ℕ) (c : Extent) (t : Tree ℕ) (d : Extent) (u v : Tree ℕ) → Reaches at p n c t d u → Renews N u v → Once v → EachSlot (λ j. N j → ⊥) t → Once t → Once (plug n c t v)
+  plug-once N zero c t d u v r f o b h = o
+  plug-once N (suc n) c none d u v r f o b h = tt
+  plug-once N (suc n) c (leaf s is) d u v r f o b h = tt
+  plug-once N (suc n) c (node s t0 t1 t2 t3) d u v r f o b h =
       let q : ℕ = side at p c in
       let k : ℕ → Tree ℕ = pick t0 t1 t2 t3 in
       let w : Tree ℕ = plug n (quarter q c) (k q) v in
-      let renews : Renews x y (k q) w = plug-renews x y n (quarter q c) (k q) d u v r f in
+      let renews : Renews N (k q) w = plug-renews N n (quarter q c) (k q) d u v r f in
       let apart : (i : ℕ) → i < 4 → (i ≡ q → ⊥) → Apart w (k i) = λ i l ne.
       renews (λ j. EachSlot (λ z. z ≡ j → ⊥) (k i)) (once-apart s t0 t1 t2 t3 h q i (side-lt c) l (λ e. ne (sym e)))
-      (λ j g _. each-map (λ z. z < x) (λ z. z ≡ j → ⊥) (λ z y e. omega arith) (k i) (each-child t0 t1 t2 t3 s (λ j. j < x) b i)) in
+      (λ j g. each-map (λ z. N z → ⊥) (λ z. z ≡ j → ⊥) (λ z y e. y (subst N (sym e) g)) (k i) (each-child t0 t1 t2 t3 s (λ j. N j → ⊥) b i)) in
       once-over s (upd k q w)
-      (upd-below (λ i u. EachSlot (λ j. j ≡ s → ⊥) u) k q w (renews (λ j. j ≡ s → ⊥) (once-out s t0 t1 t2 t3 h q) (λ j g _ e. omega (arith, b .0))) (λ i l ne. once-out s t0 t1 t2 t3 h i))
+      (upd-below (λ i u. EachSlot (λ j. j ≡ s → ⊥) u) k q w (renews (λ j. j ≡ s → ⊥) (once-out s t0 t1 t2 t3 h q) (λ j g e. b .0 (subst N e g))) (λ i l ne. once-out s t0 t1 t2 t3 h i))
       (pair-upd Apart k q w (once-apart s t0 t1 t2 t3 h) apart (λ i l ne. apart-sym w (k i) (apart i l ne)))
-      (upd-below (λ i u. Once u) k q w (plug-once x y n (quarter q c) (k q) d u v r f o (each-child t0 t1 t2 t3 s (λ j. j < x) b q) (once-child s t0 t1 t2 t3 h q)) (λ i l ne. once-child s t0 t1 t2 t3 h i))
+      (upd-below (λ i u. Once u) k q w (plug-once N n (quarter q c) (k q) d u v r f o (each-child t0 t1 t2 t3 s (λ j. N j → ⊥) b q) (once-child s t0 t1 t2 t3 h q)) (λ i l ne. once-child s t0 t1 t2 t3 h i))
 
   -- ---- the slots hold it
 
-  pub plug-stored : (m w : List ℕ) (x n : ℕ) (c : Extent) (t : Tree ℕ) (d : Extent) (u v : Tree ℕ) → Reaches at p n c t d u → lead v ≡ lead u → Stored w v
-      → ((j : ℕ) → j < x → (lead u ≡ j + 1 → ⊥) → Same m w j) → EachSlot (λ j. j < x) t → Once t → Stored m t → Stored w (plug n c t v) × (lead (plug n c t v) ≡ lead t)
-  plug-stored m w x zero c t d u v r e o f b h g = (o, e ∙ ap lead (sym (r .1)))
-  plug-stored m w x (suc n) c none d u v r e o f b h g = absurd r
-  plug-stored m w x (suc n) c (leaf s is) d u v r e o f b h g = absurd r
-  plug-stored m w x (suc n) c (node s t0 t1 t2 t3) d u v r e o f b h g =
+  -- slots that satisfy P keep their words, but for the one that leads to u
+  pub plug-stored : (m w : List ℕ) (P : ℕ → Type 0) (n : ℕ) (c : Extent) (t : Tree ℕ) (d : Extent) (u v : Tree ℕ) → Reaches at p n c t d u → lead v ≡ lead u → Stored w v
+      → ((j : ℕ) → P j → (lead u ≡ j + 1 → ⊥) → Same m w j) → EachSlot P t → Once t → Stored m t → Stored w (plug n c t v) × (lead (plug n c t v) ≡ lead t)
+  plug-stored m w P zero c t d u v r e o f b h g = (o, e ∙ ap lead (sym (r .1)))
+  plug-stored m w P (suc n) c none d u v r e o f b h g = absurd r
+  plug-stored m w P (suc n) c (leaf s is) d u v r e o f b h g = absurd r
+  plug-stored m w P (suc n) c (node s t0 t1 t2 t3) d u v r e o f b h g =
       let q : ℕ = side at p c in
       let k : ℕ → Tree ℕ = pick t0 t1 t2 t3 in
       let z : Tree ℕ = plug n (quarter q c) (k q) v in
-      let rest = plug-stored m w x n (quarter q c) (k q) d u v r e o f (each-child t0 t1 t2 t3 s (λ j. j < x) b q) (once-child s t0 t1 t2 t3 h q) (stored-child t0 t1 t2 t3 s m g q) in
+      let rest = plug-stored m w P n (quarter q c) (k q) d u v r e o f (each-child t0 t1 t2 t3 s P b q) (once-child s t0 t1 t2 t3 h q) (stored-child t0 t1 t2 t3 s m g q) in
       let own : Same m w s = f s (b .0) (λ y. lead-each (λ j. j ≡ s → ⊥) u s y (reach-each n (quarter q c) (k q) d u r (λ j. j ≡ s → ⊥) (once-out s t0 t1 t2 t3 h q)) refl) in (
         stored-over w s (upd k q z) (own .0 ∙ g .0) (own .1 ∙ g .1 ∙ sym (leads-keep k q z (rest .1)))
             (upd-below (λ i u. Stored w u) k q z (rest .0)
-            (λ i l ne. frame m w (λ j. (j < x) × (lead u ≡ j + 1 → ⊥)) (λ j y. f j (y .0) (y .1)) (k i)
-            (each-both (λ j. j < x) (λ j. lead u ≡ j + 1 → ⊥) (k i) (each-child t0 t1 t2 t3 s (λ j. j < x) b i)
+            (λ i l ne. frame m w (λ j. P j × (lead u ≡ j + 1 → ⊥)) (λ j y. f j (y .0) (y .1)) (k i)
+            (each-both P (λ j. lead u ≡ j + 1 → ⊥) (k i) (each-child t0 t1 t2 t3 s P b i)
             (each-map (λ j. EachSlot (λ y. y ≡ j → ⊥) (k q)) (λ j. lead u ≡ j + 1 → ⊥)
             (λ j y a. lead-each (λ y. y ≡ j → ⊥) u j a (reach-each n (quarter q c) (k q) d u r (λ y. y ≡ j → ⊥) y) refl) (k i) (once-apart s t0 t1 t2 t3 h i q l (side-lt c) ne)))
             (stored-child t0 t1 t2 t3 s m g i))),

@@ -1,4 +1,5 @@
 pub mod SlotsTree
+pub mod Roots
 pub mod AddWay
 pub mod AddSplit
 pub mod AddChain

@@ -54,6 +54,11 @@ lead-le x none h = omega arith
 lead-le x (leaf s is) h = omega arith
 lead-le x (node s t0 t1 t2 t3) h = omega (arith, h .0)
 
+pub lead-none : (t : Tree ℕ) → lead t ≡ 0 → t ≡ none
+lead-none none e = refl
+lead-none (leaf s is) e = absurd (omega arith)
+lead-none (node s t0 t1 t2 t3) e = absurd (omega arith)
+
 -- ---- four children by their numbers
 
 -- the children k of slot s
@@ -71,6 +76,14 @@ bare q = none
 abbrev pub leads : (ℕ → Tree ℕ) → List ℕ
 leads k = lead (k 0) ∷ lead (k 1) ∷ lead (k 2) ∷ lead (k 3) ∷ []
 
+-- one of the four numbers
+pub leads-at : (k : ℕ → Tree ℕ) (q : ℕ) → q < 4 → getD (leads k) q 0 ≡ lead (k q)
+leads-at k zero l = refl
+leads-at k (suc zero) l = refl
+leads-at k (suc (suc zero)) l = refl
+leads-at k (suc (suc (suc zero))) l = refl
+leads-at k (suc (suc (suc (suc q)))) l = absurd (omega arith)
+
 module _ (t0 t1 t2 t3 : Tree ℕ) where
   pub pick-all : (P : Tree ℕ → Type 0) → P t0 → P t1 → P t2 → P t3 → (q : ℕ) → P (pick t0 t1 t2 t3 q)
   pick-all P a b c d zero = a
@@ -83,6 +96,9 @@ module _ (t0 t1 t2 t3 : Tree ℕ) where
 
   pub stored-child : (s : ℕ) (m : List ℕ) → Stored m (node s t0 t1 t2 t3) → (r : ℕ) → Stored m (pick t0 t1 t2 t3 r)
   stored-child s m h = pick-all (Stored m) (h .2) (h .3) (h .4) (h .5)
+
+  pub leaf-child : (s : ℕ) (Q : List ℕ → Type 0) → EachLeaf (λ _. Q) (node s t0 t1 t2 t3) → (r : ℕ) → EachLeaf (λ _. Q) (pick t0 t1 t2 t3 r)
+  leaf-child s Q h = pick-all (EachLeaf (λ _. Q)) (h .0) (h .1) (h .2) (h .3)
 
 -- what holds of a new child and of each other old one holds of each
 pub upd-all : (P : ℕ → Tree ℕ → Type 0) (k : ℕ → Tree ℕ) (q : ℕ) (t : Tree ℕ) → P q t → ((r : ℕ) → (r ≡ q → ⊥) → P r (k r)) → (r : ℕ) → P r (upd k q t r)

@@ -1,7 +1,8 @@
 // A particle goes into a tree whose extent holds it, after src/quadtree/add.rs of fjadra. Where it ends is found by reading alone.
 ghost use mathlib.Core.Path.{_≡_};
 ghost use mathlib.Core.Bool.{false};
-ghost use Prim.Native.Nat.{_+_, _*_, _≤_, _<_, max};
+ghost use mathlib.Core.List.{List};
+ghost use Prim.Native.Nat.{ℕ, _+_, _*_, _≤_, _<_, max};
 ghost use Rattle.rules.specs.Refusal.{mostParticles};
 ghost use Rattle.rules.specs.Tree.{same, greatestLevel};
 ghost use Rattle.placing.specs.Add.{withMore, Seeks, Alone, Found, Puts, FoundLeaf, Grown, Placed};
@@ -28,7 +29,8 @@ pub enum Inserted {
     Full,
 }
 
-fn greater(a: usize, b: usize) -> usize
+// The greater of two.
+pub fn greater(a: usize, b: usize) -> usize
     ensures { λ r. ⌜ r ≡ max a b ⌝ }
 {
     if a < b {
@@ -39,8 +41,8 @@ fn greater(a: usize, b: usize) -> usize
 
 // Where the way of p ends.
 fn find(m: &[u64], at: &[f64], q: Quadtree, p: usize) -> Stop
-    requires { ⌜ Seeks (now at) (now m) q p × (0 < q .root) ⌝ }
-    ensures { λ r. ⌜ Found (now (at .entry)) (now (m .entry)) q p r ⌝ }
+    requires { ⌜ ((is : List ℕ) × Seeks (now at) is (now m) q p × (0 < q .root)) ⌝ }
+    ensures { λ r. ⌜ ((is : List ℕ) → Seeks (now (at .entry)) is (now (m .entry)) q p → Found (now (at .entry)) is (now (m .entry)) q p r) ⌝ }
 {
     let x = point::x_at(at, p);
     let y = point::y_at(at, p);
@@ -90,8 +92,9 @@ fn at_leaf(
     cell: Extent,
     p: usize,
 ) -> Inserted
-    requires { ⌜ Seeks (now at) (now m) q p × FoundLeaf (now at) (now m) q p s l f cell × (same (now at) f p ≡ false) ⌝ }
-    ensures { λ r. ⌜ Grown (now (at .entry)) (now (m .exit)) (q .extent) p r ⌝ }
+    requires { ⌜ ((is : List ℕ) × Seeks (now at) is (now m) q p × FoundLeaf (now at) is (now m) q p s l f cell × (same (now at) f p ≡ false)) ⌝ }
+    ensures { λ r. ⌜ ((is : List ℕ) → Seeks (now (at .entry)) is (now (m .entry)) q p → FoundLeaf (now (at .entry)) is (now (m .entry)) q p s l f cell
+        → Grown (now (at .entry)) is (now (m .exit)) (q .extent) p r) ⌝ }
 {
     let left = Quadtree::GREATEST_LEVEL - l;
     let g = leaf::meet(at, cell, left, f, p);
@@ -114,8 +117,9 @@ pub fn place(
     q: Quadtree,
     p: usize,
 ) -> Inserted
-    requires { ⌜ Puts (now at) (now m) (now next) (now tail) q p × Alone (now next) (now tail) p × (0 < q .root) ⌝ }
-    ensures { λ r. ⌜ Placed (now (at .entry)) (now (m .exit)) (now (next .exit)) (now (tail .exit)) (q .extent) p r ⌝ }
+    requires { ⌜ ((is : List ℕ) × Puts (now at) is (now m) (now next) (now tail) q p × Alone (now next) (now tail) p × (0 < q .root)) ⌝ }
+    ensures { λ r. ⌜ ((is : List ℕ) → Puts (now (at .entry)) is (now (m .entry)) (now (next .entry)) (now (tail .entry)) q p
+        → Placed (now (at .entry)) is (now (m .exit)) (now (next .exit)) (now (tail .exit)) (q .extent) p r) ⌝ }
 {
     let stop = find(m, at, q, p);
     match stop {

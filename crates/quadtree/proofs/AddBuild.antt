@@ -1,7 +1,7 @@
 -- The turns of building: the extent grows with each particle, the tree stands at the end, and the check of all prefixes is what the loop has done.
 use mathlib.Core.Path.{_≡_, refl, sym, ap, _∙_, subst}
 use mathlib.Core.Bool.{true≢false}
-use mathlib.Core.List.{List, List·Memᴰ, List·Memᴰ·head, List·Memᴰ·tail}
+use mathlib.Core.List.{List, [], List·Memᴰ, List·Memᴰ·head, List·Memᴰ·tail}
 use Prim.Native.Nat.{ℕ, zero, suc, _+_, _-_, _/_, _≤_, _<_}
 use native.Mathlib.Omega.{arith}
 use native.Mathlib.Decide.{ℕ-discrete}
@@ -20,11 +20,11 @@ use Rattle.rules.specs.Tree.{Tree, none, leaf, node, alike, treeIn, treeOf, fit
 use Rattle.rules.proofs.CellCount.{upTo-snoc}
 use Rattle.rules.proofs.CellInside.{Inside}
 use Rattle.rules.proofs.CellIs.{Is, grow-none}
-use Rattle.rules.proofs.CellChain.{EachLeaf, Chain}
+use Rattle.rules.proofs.CellChain.{EachLeaf, Points, Chain}
 use Rattle.slots.specs.declared.Quadtree.{Quadtree}
 use Rattle.cells.specs.declared.cover.Covered.{Covered}
 use Rattle.placing.specs.declared.Inserted.the-variants.{Done}
-use Rattle.slots.specs.Trees.{inCells, Follows as Chained, Stands}
+use Rattle.slots.specs.Trees.{inCells, Follows as Chained, Lays, Stands}
 use Rattle.cells.specs.Cover.{squareOf, Reachable, Near, CoveredTo}
 use Rattle.leaves.specs.Chain.{Linked}
 use Rattle.placing.specs.Add.{lead, Holds, Ranged, moreCheck, Placed, Inserts}
@@ -32,9 +32,10 @@ use Rattle.quadtree.specs.declared.build.Built.the-variants as Built
 use Rattle.quadtree.specs.Build.{particles, Builds, Follows, Extends}
 use Rattle.cells.proofs.CoverLaws as Laws
 use Rattle.cells.proofs.Prefix.{member-less}
+use Rattle.slots.proofs.Links.{rises-upTo, in-upTo}
 use Rattle.placing.proofs.SlotsTree.{stored-leads}
 use Rattle.placing.proofs.AddChain.{chain-follows}
-use Rattle.placing.proofs.AddHold.{holds-is, holds-chains}
+use Rattle.placing.proofs.AddHold.{holds-most, holds-is, holds-chains}
 use Rattle.quadtree.proofs.AddInsert.{is-T}
 use Rattle.placing.proofs.AddPlaced.{ranged-points}
 
@@ -121,59 +122,80 @@ module _ (at : List Float) where
     turn : (c : Extent) (p : ℕ) → p < n → c ≡ extentOf (coverFirst at (p + 1)) → (k : Check) → fitsCheck slots p (treeIn at c (upTo (p + 1))) ≡ k → left p ≡ (k >>= λ _. left (p + 1))
     turn c p l e k f = left-turn p l ∙ ap (λ (k : Check). k >>= λ _. left (p + 1)) (ap (fitsCheck slots p) (sym (tree-is c p e)) ∙ f)
 
+  -- a tree of no points has no root
+  pub empty-root : (is m : List ℕ) (q : Quadtree) → Holds at is m q → is ≡ [] → q .root ≡ 0
+  empty-root is m q h z = go (h .tree) (h .root) (holds-is at is m q h)
+    where
+      go : (t : Tree ℕ) → q .root ≡ lead t → Is at (q .extent) (inCells (q .extent) t) is → q .root ≡ 0
+      go none e w = e
+      go (leaf s js) e w = absurd (omega (arith, w .2, ap length z))
+      go (node s t0 t1 t2 t3) e w = absurd (true≢false (ap (alike at) (sym z) ∙ w .1))
+
   -- ---- the loop
 
   -- the tree of the particles before p, and what has been checked
   pub record Building (slots : ℕ) (m next tail : List ℕ) (q : Quadtree) (p : ℕ) : Type 0 where
     pub holds : Holds at (upTo p) m q
-    pub linked : Linked at next tail p
+    pub linked : Linked at (upTo p) next tail
     pub extent : q .extent ≡ extentOf (coverFirst at p)
     pub check : treeCheck at (particles at) slots ≡ left (particles at) slots p
 
-  no-tree : none ≡ treeIn at nowhere (upTo 0)
+  no-tree : none ≡ treeIn at nowhere []
   unfolding treeIn
   no-tree = sym (grow-none at 66 nowhere)
 
-  no-extent : nowhere ≡ extentOf (coverFirst at 0)
+  pub no-extent : nowhere ≡ extentOf (coverFirst at 0)
   unfolding extentOf coverAll
   no-extent = refl
+
+  pub holds-none : (m : List ℕ) → Holds at [] m (record { extent = nowhere; root = 0; nodes = 0; deepest = 0 })
+  holds-none m = record { tree = none; root = refl; stored = tt; cells = no-tree; deepest = omega arith; shallow = omega arith; count = refl; below = tt; once = tt; room = omega arith }
 
   pub build-start : (m next tail : List ℕ) → Building (length m / 8) m next tail (record { extent = nowhere; root = 0; nodes = 0; deepest = 0 }) 0
   build-start m next tail =
       record {
-        holds = record { tree = none; root = refl; stored = tt; cells = no-tree; most = omega arith; deepest = refl; count = refl; below = tt; once = tt; room = omega arith };
-        linked = record { links = λ i l. absurd (omega arith); tails = λ i l f. absurd (omega arith) };
+        holds = holds-none m;
+        linked = record { links = λ i m. absurd m; tails = λ i m. absurd m };
         extent = no-extent;
         check = check-start (particles at) (length m / 8);
       }
 
   module _ (slots : ℕ) (m next tail : List ℕ) (q : Quadtree) (p : ℕ) (b : Building slots m next tail q p) (ranged : Ranged at (particles at)) (l : p < particles at) where
     first-empty : p ≡ 0 → q .root ≡ 0
-    first-empty z = none-root (b .holds .tree) (b .holds .root) (holds-is at (upTo p) m q (b .holds))
-      where
-        none-root : (t : Tree ℕ) → q .root ≡ lead t → Is at (q .extent) (inCells (q .extent) t) (upTo p) → q .root ≡ 0
-        none-root none e h = e
-        none-root (leaf s is) e h = absurd (omega (arith, h .2, ap (λ (i : ℕ). length (upTo i)) z))
-        none-root (node s t0 t1 t2 t3) e h = absurd (true≢false (ap (λ (i : ℕ). alike at (upTo i)) (sym z) ∙ h .1))
+    first-empty z = empty-root (upTo p) m q (b .holds) (ap upTo z)
 
     pub build-follows : Follows at q p
     build-follows = record { extent = b .extent; empty = first-empty; ranged = λ i k. ranged i (omega arith); read = omega arith }
 
-    pub build-inserts : (c : Covered) → Extends at q p c → particles at ≤ 4096 → length next ≡ particles at → length tail ≡ particles at → Inserts at m next tail q c p
+    pub build-inserts : (c : Covered) → Extends at q p c → particles at ≤ 4096 → length next ≡ particles at → length tail ≡ particles at → Inserts at (upTo p) m next tail q c p
     build-inserts c x few links tails =
         record {
-          puts = record { seeks = record { holds = b .holds; ranged = λ i k. ranged i (omega arith); few = omega arith; read = omega arith }; linked = b .linked; in-next = omega arith; in-tail = omega arith };
+          puts =
+              record {
+                seeks = record { holds = b .holds; rises = rises-upTo p; earlier = in-upTo p; ranged = λ i k. ranged i (omega arith); few = omega arith; read = omega arith };
+                linked = b .linked;
+                in-next = omega arith;
+                in-tail = omega arith;
+              };
           covers = x .covers;
         }
 
     module _ (c : Covered) (x : Extends at q p c) (w a d : List ℕ) (s : length w / 8 ≡ slots) where
-      decided : (k : Check) → moreCheck at w (c .extent) p ≡ k → treeCheck at (particles at) slots ≡ (k >>= λ _. left (particles at) slots (p + 1))
-      decided k f = b .check ∙ turn (particles at) slots (c .extent) p l (x .extent) k (subst (λ (n : ℕ). fitsCheck n p (treeIn at (c .extent) (upTo (p + 1))) ≡ k) s f)
+      decided : (k : Check) → moreCheck at (upTo p) w (c .extent) p ≡ k → treeCheck at (particles at) slots ≡ (k >>= λ _. left (particles at) slots (p + 1))
+      decided k f =
+          b .check ∙ turn (particles at) slots (c .extent) p l (x .extent) k
+          (subst (λ (n : ℕ). fitsCheck n p (treeIn at (c .extent) (upTo (p + 1))) ≡ k) s (subst (λ (is : List ℕ). fitsCheck (length w / 8) p (treeIn at (c .extent) is) ≡ k) (sym (upTo-snoc p)) f))
 
-      pub build-done : (r : Quadtree) → Placed at w a d (c .extent) p (Done r) → Building slots w a d r (p + 1)
-      build-done r (f, (h, e, k)) = record { holds = h; linked = k; extent = e ∙ x .extent; check = decided fine f }
+      pub build-done : (r : Quadtree) → Placed at (upTo p) w a d (c .extent) p (Done r) → Building slots w a d r (p + 1)
+      build-done r (f, (h, e, k)) =
+          record {
+            holds = subst (λ (is : List ℕ). Holds at is w r) (sym (upTo-snoc p)) h;
+            linked = subst (λ (is : List ℕ). Linked at is a d) (sym (upTo-snoc p)) k;
+            extent = e ∙ x .extent;
+            check = decided fine f;
+          }
 
-      pub build-refused : (r : Refusal) → moreCheck at w (c .extent) p ≡ refused r → Builds at w a (Built.Refused r)
+      pub build-refused : (r : Refusal) → moreCheck at (upTo p) w (c .extent) p ≡ refused r → Builds at w a (Built.Refused r)
       build-refused r f = ap (treeCheck at (particles at)) s ∙ decided (refused r) f
 
   leaves-map : (P Q : List ℕ → Type 0) → ((js : List ℕ) → P js → Q js) → (t : Tree ℕ) → EachLeaf (λ _. P) t → EachLeaf (λ _. Q) t
@@ -181,19 +203,23 @@ module _ (at : List Float) where
   leaves-map P Q f (leaf s js) h = f js h
   leaves-map P Q f (node s t0 t1 t2 t3) h = (leaves-map P Q f t0 (h .0), leaves-map P Q f t1 (h .1), leaves-map P Q f t2 (h .2), leaves-map P Q f t3 (h .3))
 
-  pub holds-stands : (n : ℕ) (m next tail : List ℕ) (q : Quadtree) → Ranged at n → Holds at (upTo n) m q → Linked at next tail n → q .extent ≡ extentOf (coverFirst at n) → Stands at n m next q
-  unfolding treeOf
-  holds-stands n m next tail q r h k e =
+  -- what is held is laid in the slots, with its chains
+  pub holds-lays : (is m next tail : List ℕ) (q : Quadtree) → Points at is → Holds at is m q → Linked at is next tail → Lays (treeIn at (q .extent) is) m next q
+  holds-lays is m next tail q r h k =
       record {
         tree = h .tree;
-        leads = stored-leads m next (q .root) (h .tree) (h .root) (h .stored) (leaves-map (Chain at (upTo n)) (Chained next) (chain-follows at n next tail k) (h .tree) (holds-chains at n m q h (ranged-points at n r)));
-        is = h .cells ∙ ap (λ (c : Extent). treeIn at c (upTo n)) e;
-        levels = h .most;
+        leads = stored-leads m next (q .root) (h .tree) (h .root) (h .stored) (leaves-map (Chain at is) (Chained next) (chain-follows at is next tail k) (h .tree) (holds-chains at is m q h r));
+        is = h .cells;
+        levels = holds-most at is m q h;
         count = h .count;
         below = h .below;
         once = h .once;
         room = h .room;
       }
+
+  holds-stands : (n : ℕ) (m next tail : List ℕ) (q : Quadtree) → Ranged at n → Holds at (upTo n) m q → Linked at (upTo n) next tail → q .extent ≡ extentOf (coverFirst at n) → Stands at n m next q
+  unfolding treeOf
+  holds-stands n m next tail q r h k e = subst (λ (c : Extent). Lays (treeIn at c (upTo n)) m next q) e (holds-lays (upTo n) m next tail q (ranged-points at (upTo n) n r (in-upTo n)) h k)
 
   -- after the last particle
   pub build-end : (slots : ℕ) (m next tail : List ℕ) (q : Quadtree) (p : ℕ) → Building slots m next tail q p → Ranged at (particles at) → p ≤ particles at → particles at ≤ p → length m / 8 ≡ slots → Builds at m next (Built.Tree q)
@@ -202,5 +228,5 @@ module _ (at : List Float) where
       let z : p ≡ n = omega arith in
       let e : q .extent ≡ extentOf (coverFirst at n) = b .extent ∙ ap (λ (i : ℕ). extentOf (coverFirst at i)) z in (
         ap (treeCheck at n) s ∙ b .check ∙ left-end n slots p ge,
-        (holds-stands n m next tail q r (subst (λ (i : ℕ). Holds at (upTo i) m q) z (b .holds)) (subst (λ (i : ℕ). Linked at next tail i) z (b .linked)) e, e),
+        (holds-stands n m next tail q r (subst (λ (i : ℕ). Holds at (upTo i) m q) z (b .holds)) (subst (λ (i : ℕ). Linked at (upTo i) next tail) z (b .linked)) e, e),
       )

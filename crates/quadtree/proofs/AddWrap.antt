@@ -61,8 +61,8 @@ module _ (at : List Float) where
         root = h .root;
         stored = h .stored;
         cells = ap (inCells e) z ∙ tree-grown at (leaf e js) e is g (omega arith);
-        most = h .most;
         deepest = h .deepest;
+        shallow = h .shallow;
         count = h .count;
         below = h .below;
         once = h .once;
@@ -117,7 +117,7 @@ module _ (at : List Float) where
         let g : Is at (quarter i e) (inCells c t) is = subst (λ (d : Extent). Is at d (inCells c t) is) (sym old) (subst (λ (t : Tree ℕ). Is at c (inCells c t) is) z (holds-is at is m q h)) in
         let f : inCells e wrap-tree ≡ wrapT e i (inCells c t) = ap (λ (t : Tree ℕ). inCells e (over (q .nodes) (upd bare i t))) z ∙ wrap-cells e c i (q .nodes) s t0 t1 t2 t3 old in
         let v : Is at e (wrapT e i (inCells c t)) is = wrapped at e i (inCells c t) is l (λ j k. subst (λ (d : Extent). Inside at d j) (sym old) (within-inside is c w j k)) g in
-        f ∙ tree-grown at (wrapT e i (inCells c t)) e is v (subst (λ (n : ℕ). n ≤ 65) (sym (cells-depth e wrap-tree) ∙ ap depth f) (omega (arith, wrap-depth, h .deepest, h .most)))
+        f ∙ tree-grown at (wrapT e i (inCells c t)) e is v (subst (λ (n : ℕ). n ≤ 65) (sym (cells-depth e wrap-tree) ∙ ap depth f) (omega (arith, wrap-depth, h .deepest)))
 
     pub wrap-holds : (b : List ℕ) → b ≡ putInternal m (q .nodes) (set childless i (q .root)) → Holds at is b (wrappedIn e q)
     wrap-holds b f =
@@ -135,8 +135,8 @@ module _ (at : List Float) where
               (stored-over v x k (internal-tag m x ks (omega arith)) (ap (λ (y : List ℕ). kids (putInternal m x y) x) numbers ∙ internal-kids m x (leads k) (omega arith) fits)
               (upd-below (λ r u. Stored v u) bare i (h .tree) (frame m v (λ j. j < x) (λ j y. internal-same m x ks j (omega arith)) (h .tree) (h .below) (h .stored)) (λ r l n. tt)));
           cells = wrap-is;
-          most = omega (arith, wrap-depth, h .deepest);
-          deepest = ap (λ (n : ℕ). n - 1) wrap-depth ∙ up-one (depth (h .tree)) (q .deepest) (h .deepest) (positive (h .tree) z);
+          deepest = omega (arith, wrap-depth, h .deepest);
+          shallow = levels;
           count = omega (arith, nodes-upd x bare i (h .tree) l, h .count);
           below = each-over (λ j. j < x + 1) x k (omega arith) (upd-below (λ r u. EachSlot (λ j. j < x + 1) u) bare i (h .tree) (each-map (λ j. j < x) (λ j. j < x + 1) (λ j y. omega arith) (h .tree) (h .below)) (λ r l n. tt));
           once =
@@ -146,12 +146,6 @@ module _ (at : List Float) where
               (upd-below (λ r u. Once u) bare i (h .tree) (h .once) (λ r l n. tt));
           room = omega (arith, ap length f, internal-length m x ks);
         }
-      where
-        up-one : (a b : ℕ) → a - 1 ≡ b → 0 < a → suc a - 1 ≡ b + 1
-        up-one a b e f = omega arith
-
-        positive : (t : Tree ℕ) → t ≡ node s t0 t1 t2 t3 → 0 < depth t
-        positive t z = subst (λ (t : Tree ℕ). 0 < depth t) (sym z) (omega arith)
 
   -- ---- all wraps, before anything is written
 

@@ -1,3 +1,4 @@
+mod Levels
 pub mod AddWrap
 pub mod AddInsert
 pub mod AddBuild

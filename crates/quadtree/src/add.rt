@@ -1,7 +1,9 @@
 // add.rs: a particle goes into the tree, which first grows until its extent holds it.
-ghost use Prim.Native.Nat.{_<_};
+ghost use mathlib.Core.List.{List};
+ghost use Prim.Native.Nat.{ℕ, _<_};
 ghost use Rattle.rules.specs.Refusal.{mostParticles};
 ghost use Rattle.placing.specs.Add.{Seeks, Placed, Covers, Wraps, Wrapped, Enlarged, Planted, Inserts};
+use crate::depth;
 use cells::cover;
 use cells::cover::Covered;
 use leaves::chain;
@@ -14,8 +16,8 @@ use slots::store;
 
 // An internal root is wrapped once for each doubling: the old root becomes the child of a new one, in the quadrant that its extent takes.
 fn wrap(m: &mut [u64], at: &[f64], q: Quadtree, covered: Covered, p: usize) -> Quadtree
-    requires { ⌜ Wraps (now at) (now m) q (covered .extent) p (covered .doublings) ⌝ }
-    ensures { λ r. ⌜ Wrapped (now (at .entry)) (now (m .exit)) (covered .extent) p r ⌝ }
+    requires { ⌜ ((is : List ℕ) × Wraps (now at) is (now m) q (covered .extent) p (covered .doublings)) ⌝ }
+    ensures { λ r. ⌜ ((is : List ℕ) → Wraps (now (at .entry)) is (now (m .entry)) q (covered .extent) p (covered .doublings) → Wrapped (now (at .entry)) is (now (m .exit)) (covered .extent) r) ⌝ }
 {
     let x = point::x_at(at, p);
     let y = point::y_at(at, p);
@@ -38,10 +40,10 @@ fn wrap(m: &mut [u64], at: &[f64], q: Quadtree, covered: Covered, p: usize) -> Q
     wrapped
 }
 
-// The tree of the particles before p in the extent with p. A leaf root is not wrapped: only the extent grows.
+// The tree of those particles in the extent with p. A leaf root is not wrapped: only the extent grows.
 fn enlarge(m: &mut [u64], at: &[f64], q: Quadtree, covered: Covered, p: usize) -> Inserted
-    requires { ⌜ Seeks (now at) (now m) q p × (0 < q .root) × Covers (now at) q covered p ⌝ }
-    ensures { λ r. ⌜ Enlarged (now (at .entry)) (now (m .exit)) (covered .extent) p r ⌝ }
+    requires { ⌜ ((is : List ℕ) × Seeks (now at) is (now m) q p × (0 < q .root) × Covers (now at) q covered p) ⌝ }
+    ensures { λ r. ⌜ ((is : List ℕ) → Seeks (now (at .entry)) is (now (m .entry)) q p → Enlarged (now (at .entry)) is (now (m .exit)) (covered .extent) p r) ⌝ }
 {
     let root = q.root;
     if store::tag(m, root as usize - 1) != 0 {
@@ -54,13 +56,21 @@ fn enlarge(m: &mut [u64], at: &[f64], q: Quadtree, covered: Covered, p: usize) -
         });
     }
     let w = covered.doublings;
-    if q.deepest + w > Quadtree::GREATEST_LEVEL {
+    let deepest = depth::deepest(m, q, w);
+    if deepest + w > Quadtree::GREATEST_LEVEL {
         return Inserted::Deep;
     }
     if store::slots(m) < q.nodes + w {
         return Inserted::Full;
     }
-    Inserted::Done(wrap(m, at, q, covered, p))
+    let extent = q.extent;
+    let bounded = Quadtree {
+        extent: extent,
+        root: root,
+        nodes: q.nodes,
+        deepest: deepest,
+    };
+    Inserted::Done(wrap(m, at, bounded, covered, p))
 }
 
 // A leaf of p as the root of a tree that has none.
@@ -80,7 +90,7 @@ fn plant(m: &mut [u64], extent: Extent, p: usize) -> Inserted
     })
 }
 
-// p goes into the tree of the particles before it; `covered` is the extent with p.
+// p goes into the tree of some of the particles before it; `covered` is the extent with p.
 pub fn insert(
     m: &mut [u64],
     at: &[f64],
@@ -90,8 +100,9 @@ pub fn insert(
     covered: Covered,
     p: usize,
 ) -> Inserted
-    requires { ⌜ Inserts (now at) (now m) (now next) (now tail) q covered p ⌝ }
-    ensures { λ r. ⌜ Placed (now (at .entry)) (now (m .exit)) (now (next .exit)) (now (tail .exit)) (covered .extent) p r ⌝ }
+    requires { ⌜ ((is : List ℕ) × Inserts (now at) is (now m) (now next) (now tail) q covered p) ⌝ }
+    ensures { λ r. ⌜ ((is : List ℕ) → Inserts (now (at .entry)) is (now (m .entry)) (now (next .entry)) (now (tail .entry)) q covered p
+        → Placed (now (at .entry)) is (now (m .exit)) (now (next .exit)) (now (tail .exit)) (covered .extent) p r) ⌝ }
 {
     chain::begin(next, tail, p);
     if q.root == 0 {

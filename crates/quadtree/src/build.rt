@@ -16,7 +16,7 @@ pub enum Built {
 }
 
 // The extent with p, and how many doublings lead to it.
-fn extend(at: &[f64], q: Quadtree, p: usize) -> Covered
+pub fn extend(at: &[f64], q: Quadtree, p: usize) -> Covered
     requires { ⌜ Follows (now at) q p ⌝ }
     ensures { λ r. ⌜ Extends (now (at .entry)) q p r ⌝ }
 {

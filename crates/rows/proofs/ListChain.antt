@@ -1,30 +1,21 @@
 -- A chain, written particle by particle.
-use mathlib.Core.Path.{_≡_, refl, sym, ap, subst, _∙_}
+use mathlib.Core.Path.{_≡_, refl, sym, _∙_}
 use mathlib.Core.List.{List, [], _∷_}
 use Prim.Native.Nat.{ℕ, _+_, _-_, _<_}
 use native.Mathlib.Omega.{arith}
 use lib.ListN.{length, getD, set, length-set}
 use Rattle.rules.specs.Plain.{overwritten}
 use Rattle.sheet.proofs.Lists.{overwritten-none, store-first}
-use Rattle.slots.specs.Trees.{Follows, first}
-use Rattle.rows.specs.List.{Linked, Chain}
+use Rattle.slots.proofs.Links.{trails-unique}
+use Rattle.slots.specs.Trees.{Follows, Trails, first}
+use Rattle.rows.specs.List.{Chain}
 
 -- a chain, from its first particle's number on
-pub follows-linked : (next is : List ℕ) → Follows next is → Linked next (first is + 1) is
-follows-linked next [] f = absurd f
-follows-linked next (i ∷ []) f = (refl, f)
-follows-linked next (i ∷ j ∷ is) f =
-    (refl, rw (f .0) (follows-linked next (j ∷ is) (f .1)))
-
--- a number leads to one chain
-linked-unique : (next : List ℕ) (p : ℕ) (is js : List ℕ) → Linked next p is → Linked next p js → is ≡ js
-linked-unique next p [] [] a b = refl
-linked-unique next p [] (j ∷ js) a b = absurd (omega arith)
-linked-unique next p (i ∷ is) [] a b = absurd (omega arith)
-linked-unique next p (i ∷ is) (j ∷ js) a b =
-    let e : i ≡ j = omega arith in
-    ap (λ (k : ℕ). k ∷ is) e
-    ∙ ap (λ (l : List ℕ). j ∷ l) (linked-unique next (getD next j 0) is js (subst (λ (k : ℕ). Linked next (getD next k 0) is) e (a .1)) (b .1))
+pub follows-trails : (next is : List ℕ) → Follows next is → Trails next (first is + 1) is
+follows-trails next [] f = absurd f
+follows-trails next (i ∷ []) f = (refl, f)
+follows-trails next (i ∷ j ∷ is) f =
+    (refl, rw (f .0) (follows-trails next (j ∷ is) (f .1)))
 
 module _ (next before : List ℕ) (p at : ℕ) where
   -- The chain from p on is being written behind the first `at`: it is left to write the one from `link` on at `end`.
@@ -39,7 +30,7 @@ module _ (next before : List ℕ) (p at : ℕ) where
     left = v .0;
     chain = v .1;
     size = refl;
-    whole = λ is w. let e = linked-unique next p is (v .0) (w .linked) (v .1 .linked) in (rw e, rw e);
+    whole = λ is w. let e = trails-unique next p is (v .0) (w .trails) (v .1 .trails) in (rw e, rw e);
   }
 
   -- a link that is not the end leads to a particle, and there is room for it
@@ -52,8 +43,8 @@ module _ (next before : List ℕ) (p at : ℕ) where
   chaining-here chains link end h f = go (h .left) (h .chain)
     where
       go : (is : List ℕ) → Chain next link (length before) end is → Here link end
-      go [] v = absurd (f (v .linked))
-      go (i ∷ is) v = record { some = omega (arith, v .linked .0); inside = omega (arith, v .linked .0, v .below .0); room = omega (arith, v .room) }
+      go [] v = absurd (f (v .trails))
+      go (i ∷ is) v = record { some = omega (arith, v .trails .0); inside = omega (arith, v .trails .0, v .below .0); room = omega (arith, v .room) }
 
   pub chaining-turn : (chains : List ℕ) (link end : ℕ) → Chaining chains link end → (link ≡ 0 → ⊥)
       → Chaining (set chains end (link - 1)) (getD next (link - 1) 0) (end + 1)
@@ -62,21 +53,21 @@ module _ (next before : List ℕ) (p at : ℕ) where
       go : (js : List ℕ) → Chain next link (length before) end js
           → ((is : List ℕ) → Chain next p (length before) at is → (overwritten before at is ≡ overwritten chains end js) × (at + length is ≡ end + length js))
           → Chaining (set chains end (link - 1)) (getD next (link - 1) 0) (end + 1)
-      go [] v g = absurd (f (v .linked))
+      go [] v g = absurd (f (v .trails))
       go (i ∷ js) v g =
-          let e : link - 1 ≡ i = omega (arith, v .linked .0) in
+          let e : link - 1 ≡ i = omega (arith, v .trails .0) in
           rw e (record {
             left = js;
-            chain = record { linked = v .linked .1; below = v .below .1; room = omega (arith, v .room) };
+            chain = record { trails = v .trails .1; below = v .below .1; room = omega (arith, v .room) };
             size = length-set chains end i ∙ h .size;
             whole = λ is w. (g is w .0 ∙ store-first chains end i js (omega (arith, h .size, v .room)), omega (arith, g is w .1));
           })
 
   pub chaining-end : (chains : List ℕ) (link end : ℕ) → Chaining chains link end → link ≡ 0 → (is : List ℕ) → Chain next p (length before) at is
       → (chains ≡ overwritten before at is) × (end ≡ at + length is)
-  chaining-end chains link end h z is w = go (h .left) (h .chain .linked) (h .whole is w .0) (h .whole is w .1)
+  chaining-end chains link end h z is w = go (h .left) (h .chain .trails) (h .whole is w .0) (h .whole is w .1)
     where
-      go : (js : List ℕ) → Linked next link js → overwritten before at is ≡ overwritten chains end js → at + length is ≡ end + length js
+      go : (js : List ℕ) → Trails next link js → overwritten before at is ≡ overwritten chains end js → at + length is ≡ end + length js
           → (chains ≡ overwritten before at is) × (end ≡ at + length is)
       go [] l a b = (sym (a ∙ overwritten-none chains end), omega arith)
       go (j ∷ js) l a b = absurd (omega arith)

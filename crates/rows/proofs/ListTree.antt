@@ -7,10 +7,10 @@ use lib.ListN.{length, getD, length-append}
 use Rattle.rules.specs.Refusal.{mostParticles}
 use Rattle.rules.specs.Tree.{Tree, none, leaf, node, nodes, Row, row, rowsFrom, flat, chainsOf}
 use Rattle.rules.specs.Plain.{overwritten}
-use Rattle.slots.specs.Trees.{word, kids, first, Follows, Below}
-use Rattle.rows.specs.List.{Linked, Leaf, Lies, Listable, Wrote}
+use Rattle.slots.specs.Trees.{word, kids, first, Follows, Trails, Below}
+use Rattle.rows.specs.List.{Leaf, Lies, Listable, Wrote}
 use Rattle.rows.specs.declared.Cursor.{Cursor}
-use Rattle.rows.proofs.ListChain.{follows-linked}
+use Rattle.rows.proofs.ListChain.{follows-trails}
 use Rattle.rows.proofs.ListRows.{rows-count, wrote-internal, wrote-next, wrote-rows, wrote-chains}
 
 -- ---- numbers below a bound
@@ -42,7 +42,7 @@ module _ (m next : List ℕ) (p level : ℕ) where
     pub label : ℕ
     pub chain : List ℕ
     pub is : t ≡ leaf label chain
-    pub linked : Linked next w chain
+    pub trails : Trails next w chain
     pub below : Below (length next) chain
     pub small : w ≤ length next
 
@@ -51,7 +51,7 @@ module _ (m next : List ℕ) (p level : ℕ) where
   lies-leaf w (leaf s is) l f e g =
       let k : p - 1 ≡ s = omega (arith, l .leads .0) in
       let h : w ≡ first is + 1 = e ∙ ap (λ (i : ℕ). word m i 0) k ∙ l .leads .1 in
-      record { label = s; chain = is; is = refl; linked = rw h (follows-linked next is (l .leads .2)); below = l .below; small = go is h (l .leads .2) (l .below) }
+      record { label = s; chain = is; is = refl; trails = rw h (follows-trails next is (l .leads .2)); below = l .below; small = go is h (l .leads .2) (l .below) }
     where
       go : (is : List ℕ) → w ≡ first is + 1 → Follows next is → Below (length next) is → w ≤ length next
       go [] h c b = absurd c
@@ -67,7 +67,7 @@ leaf-listable {t = t} w l =
     let n : nodes t ≡ 1 = ap nodes (l .is) in
     let e : chainsOf t ≡ l .chain = ap chainsOf (l .is) in
     record {
-      chain = record { linked = l .linked; below = l .below; room = rw e at (w .space) };
+      chain = record { trails = l .trails; below = l .below; room = rw e at (w .space) };
       room = omega (arith, w .room);
       few = w .few .1;
     }

@@ -17,12 +17,12 @@ use Rattle.rules.proofs.CellIs.{Is}
 use Rattle.rules.proofs.CellCount.{length-upTo, in-count}
 use Rattle.rules.proofs.CellRule as Rule
 use Rattle.sheet.proofs.Lists.{overwritten-none, overwritten-next, overwritten-length, store-first}
-use Rattle.slots.specs.Trees.{inCells, Stands, Below}
-use Rattle.slots.proofs.Trees.{cells-depth, each-map}
+use Rattle.slots.specs.Trees.{inCells, Lays, Below}
+use Rattle.slots.proofs.Trees.{each-map}
 use Rattle.rows.specs.List.{Listable, Wrote, Whole}
 use Rattle.slots.specs.declared.Quadtree.{Quadtree}
 use Rattle.rows.specs.declared.Cursor.{Cursor}
-use Rattle.rows.proofs.ListRows.{flat-length, rows-count}
+use Rattle.rows.proofs.ListRows.{flat-length, rows-count, wrote-chains}
 
 -- ---- cells for slots change nothing that is listed
 
@@ -66,11 +66,6 @@ clearing-end before from list i c h = sym (c .whole ∙ rw e (overwritten-none l
 taken : (l part : List ℕ) → length part ≡ length l → overwritten l 0 part ≡ part
 taken l part h = rw (zero-add, drop-of-length-le l {i = length part} (omega arith)) (append-nil part)
 
-all-written : (l part : List ℕ) → length part ≡ length l → overwritten l 0 part ≡ padded (length l) 0 part
-all-written l part h =
-    let e : length l - length part ≡ 0 = omega arith in
-    taken l part h ∙ rw e (sym (append-nil part))
-
 -- a part from the front and zeros behind it
 zeros-behind : (l part : List ℕ) → length part ≤ length l
     → overwritten (overwritten l 0 part) (length part) (replicate (length (overwritten l 0 part) - length part) 0) ≡ padded (length l) 0 part
@@ -83,7 +78,59 @@ zeros-behind l part h =
     ∙ overwritten-next l 0 part z (omega arith)
     ∙ taken l (part ++ z) (length-append part z ∙ omega arith)
 
--- ---- what a tree that stands in slots gives
+-- ---- what a tree that lies in slots gives
+
+module _ {t : Tree Extent} {m next : List ℕ} {q : Quadtree} {rows chains : ℕ} (w : Whole t m next q rows chains) where
+  abbrev s : Lays t m next q
+  s = w .stands
+
+  chains-same : chainsOf (s .tree) ≡ chainsOf t
+  chains-same = sym (chains-cells (q .extent) (s .tree)) ∙ ap chainsOf (s .is)
+
+  rows-same : rowsOf (s .tree) ≡ rowsOf t
+  rows-same = sym (rows-cells 0 0 (q .extent) (s .tree)) ∙ ap (λ (t : Tree Extent). rowsOf t) (s .is)
+
+  -- it can be listed
+  pub whole-listable : Listable m next (q .root) 0 rows chains (record { nodes = 0; chained = 0 }) (s .tree)
+  whole-listable =
+      let e = chains-same in
+      record {
+        lies = record {
+          leads = s .leads;
+          levels = omega (arith, s .levels);
+          slots = each-map (λ i. i < q .nodes) (λ i. i * 8 + 8 ≤ length m) (λ i h. omega (arith, s .room)) (s .tree) (s .below);
+          below = rw e (w .below);
+        };
+        room = omega (arith, w .room, s .count);
+        space = omega (arith, ap length e, w .space);
+        few = w .few;
+      }
+
+  -- and is, with zeros behind its rows and its chains
+  module _ {rows₀ chains₀ rows′ chains′ : List ℕ} {r : Cursor}
+      (v : Wrote rows₀ chains₀ (record { nodes = 0; chained = 0 }) (rowsOf (s .tree)) (chainsOf (s .tree)) rows′ chains′ r) where
+    pub rows-listed : length rows₀ ≡ rows → {rows″ : List ℕ} → rows″ ≡ overwritten rows′ (q .nodes * 4) (replicate (length rows′ - q .nodes * 4) 0)
+        → rows″ ≡ padded (length rows₀) 0 (flat (rowsOf t))
+    rows-listed a e =
+        let f = flat (rowsOf (s .tree)) in
+        let k : length f ≡ q .nodes * 4 = omega (arith, flat-length (rowsOf (s .tree)), rows-count 0 0 (s .tree), s .count) in
+        e ∙ rw (← k, v .listed) (zeros-behind rows₀ f (omega (arith, w .room))) ∙ ap (λ (rs : List Row). padded (length rows₀) 0 (flat rs)) rows-same
+
+    module _ (b : length chains₀ ≡ chains) where
+      fits : length (chainsOf (s .tree)) ≤ length chains₀
+      fits = omega (arith, w .space, ap length chains-same)
+
+      pub chains-end : r .chained ≤ length chains′
+      chains-end = omega (arith, fits, v .reach, wrote-chains v (omega (arith, fits)))
+
+      pub chains-listed : {chains″ : List ℕ} → chains″ ≡ overwritten chains′ (r .chained) (replicate (length chains′ - r .chained) 0)
+          → chains″ ≡ padded (length chains₀) 0 (chainsOf t)
+      chains-listed e =
+          let f = chainsOf (s .tree) in
+          let k : length f ≡ r .chained = omega (arith, v .reach) in
+          e ∙ rw (← k, v .chained) (zeros-behind chains₀ f fits) ∙ ap (padded (length chains₀) 0) chains-same
+
+-- ---- the tree of the first n points, for those who list it
 
 in-below : (n : ℕ) (is : List ℕ) → ((i : ℕ) → In i is → i < n) → Below n is
 in-below n [] f = tt
@@ -102,46 +149,3 @@ module _ (at : List Float) (n : ℕ) where
       let t = treeOf at n in
       let h = is-whole l in
       (Rule.chains-length at t c (upTo n) h ∙ length-upTo n, in-below n (chainsOf t) (λ i m. omega (arith, in-count 0 n i (Rule.chains-in at t c (upTo n) i h .0 m))))
-
-  module _ (m next : List ℕ) (q : Quadtree) (rows chains : ℕ) (w : Whole at n m next q rows chains) where
-    abbrev s : Stands at n m next q
-    s = w .stands
-
-    chains-same : chainsOf (s .tree) ≡ chainsOf (treeOf at n)
-    chains-same = sym (chains-cells (q .extent) (s .tree)) ∙ ap chainsOf (s .is)
-
-    rows-same : rowsOf (s .tree) ≡ rowsOf (treeOf at n)
-    rows-same = sym (rows-cells 0 0 (q .extent) (s .tree)) ∙ ap (λ (t : Tree Extent). rowsOf t) (s .is)
-
-    levels : depth (treeOf at n) ≤ 65
-    levels = omega (arith, s .levels, cells-depth (q .extent) (s .tree), ap (λ (t : Tree Extent). depth t) (s .is))
-
-    pub whole-listable : Listable m next (q .root) 0 rows chains (record { nodes = 0; chained = 0 }) (s .tree)
-    whole-listable =
-        let a = chains-all levels in
-        let e = chains-same in
-        record {
-          lies = record {
-            leads = s .leads;
-            levels = omega (arith, s .levels);
-            slots = each-map (λ i. i < q .nodes) (λ i. i * 8 + 8 ≤ length m) (λ i h. omega (arith, s .room)) (s .tree) (s .below);
-            below = rw (w .links, e) (a .1);
-          };
-          room = omega (arith, w .room, s .count);
-          space = omega (arith, ap length e, a .0, w .places);
-          few = (omega (arith, w .links, w .few), omega (arith, w .places, w .few));
-        }
-
-    -- what its listing and zeros behind the rows leave
-    pub whole-listed : (rows₀ chains₀ rows′ chains′ rows″ : List ℕ) (r : Cursor) → length rows₀ ≡ rows → length chains₀ ≡ chains
-        → Wrote rows₀ chains₀ (record { nodes = 0; chained = 0 }) (rowsOf (s .tree)) (chainsOf (s .tree)) rows′ chains′ r
-        → rows″ ≡ overwritten rows′ (q .nodes * 4) (replicate (length rows′ - q .nodes * 4) 0)
-        → (rows″ ≡ padded (length rows₀) 0 (flat (rowsOf (treeOf at n)))) × (chains′ ≡ padded (length chains₀) 0 (chainsOf (treeOf at n)))
-    whole-listed rows₀ chains₀ rows′ chains′ rows″ r a b v e =
-        let f = flat (rowsOf (s .tree)) in
-        let k : length f ≡ q .nodes * 4 = omega (arith, flat-length (rowsOf (s .tree)), rows-count 0 0 (s .tree), s .count) in
-        let h : length f ≤ length rows₀ = omega (arith, w .room) in
-        let z = chains-all levels in (
-          e ∙ rw (← k, v .listed) (zeros-behind rows₀ f h) ∙ ap (λ (rs : List Row). padded (length rows₀) 0 (flat rs)) rows-same,
-          v .chained ∙ rw chains-same (all-written chains₀ (chainsOf (treeOf at n)) (omega (arith, z .0, w .places, b))),
-        )

@@ -1,24 +1,19 @@
 -- What listing a tree asks for and what it writes. Definitions only.
 use mathlib.Core.Path.{_≡_}
-use mathlib.Core.List.{List, [], _∷_}
+use mathlib.Core.List.{List}
 use Prim.Native.Nat.{ℕ, _+_, _*_, _≤_}
-use lib.ListN.{length, getD}
-use lib.Ieee.{Float}
+use lib.ListN.{length}
+use Rattle.rules.specs.declared.Extent.{Extent}
 use Rattle.rules.specs.Plain.{overwritten}
 use Rattle.rules.specs.Tree.{Tree, depth, nodes, Row, flat, chainsOf, greatestLevel}
 use Rattle.rules.specs.Refusal.{mostParticles}
-use Rattle.slots.specs.Trees.{Leads, EachSlot, Stands, Below}
+use Rattle.slots.specs.Trees.{Trails, Leads, EachSlot, Lays, Below}
 use Rattle.slots.specs.declared.Quadtree.{Quadtree}
 use Rattle.rows.specs.declared.Cursor.{Cursor}
 
--- following the links from the number p gives these particles and the end: 0 for the end, i + 1 for the particle i
-abbrev pub Linked : List ℕ → ℕ → List ℕ → Type 0
-Linked next p [] = p ≡ 0
-Linked next p (i ∷ is) = (p ≡ i + 1) × Linked next (getD next i 0) is
-
 -- the number p leads to this chain, and there is room for it behind the first `at` of the chains
 pub record Chain (next : List ℕ) (p chains at : ℕ) (is : List ℕ) : Type 0 where
-  pub linked : Linked next p is
+  pub trails : Trails next p is
   pub below : Below (length next) is
   pub room : at + length is ≤ chains
 
@@ -49,10 +44,10 @@ pub record Wrote (rows chains : List ℕ) (at : Cursor) (rs : List Row) (is : Li
   pub nodes : r .nodes ≡ at .nodes + length rs
   pub reach : r .chained ≡ at .chained + length is
 
--- the slots hold the tree of n points, each with a link and a place of the chains, and there is room for the rows
-pub record Whole (at : List Float) (n : ℕ) (m next : List ℕ) (q : Quadtree) (rows chains : ℕ) : Type 0 where
-  pub stands : Stands at n m next q
-  pub links : length next ≡ n
-  pub places : chains ≡ n
-  pub few : n ≤ mostParticles
+-- the slots hold the tree t, whose particles have links, and there is room for its rows and chains
+pub record Whole (t : Tree Extent) (m next : List ℕ) (q : Quadtree) (rows chains : ℕ) : Type 0 where
+  pub stands : Lays t m next q
+  pub below : Below (length next) (chainsOf t)
+  pub space : length (chainsOf t) ≤ chains
+  pub few : (length next ≤ mostParticles) × (chains ≤ mostParticles)
   pub room : q .nodes * 4 ≤ rows

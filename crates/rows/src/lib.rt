@@ -6,9 +6,9 @@ ghost use mathlib.Core.Path.{_≡_};
 ghost use mathlib.Core.List.{List, [], _∷_};
 ghost use Prim.Native.Nat.{ℕ, _+_, _-_, _*_, _≤_};
 ghost use lib.ListN.{length, replicate};
-ghost use lib.Ieee.{Float};
+ghost use Rattle.rules.specs.declared.Extent.{Extent};
 ghost use Rattle.rules.specs.Plain.{overwritten, padded};
-ghost use Rattle.rules.specs.Tree.{Tree, row, rowsFrom, rowsOf, flat, chainsOf, treeOf};
+ghost use Rattle.rules.specs.Tree.{Tree, row, rowsFrom, rowsOf, flat, chainsOf};
 ghost use Rattle.rows.specs.List.{Chain, Leaf, Listable, Wrote, Whole};
 
 const INTERNAL: u32 = 1;
@@ -126,18 +126,19 @@ fn clear_from(list: &mut [u32], from: usize)
     }
 }
 
-// A whole tree. Unused rows become zero; every particle stands in a chain, so that no place of the chains is unused.
+// A whole tree. What its rows and its chains leave unused becomes zero.
 pub fn list(q: Quadtree, m: &[u64], next: &[u32], rows: &mut [u32], chains: &mut [u32])
-    requires { ⌜ ((at : List Float) × (n : ℕ) × Whole at n (now m) (now next) q (length (now rows)) (length (now chains))) ⌝ }
-    ensures { λ _. ⌜ ((at : List Float) (n : ℕ) → Whole at n (now (m .entry)) (now (next .entry)) q (length (now (rows .entry))) (length (now (chains .entry)))
-        → (now (rows .exit) ≡ padded (length (now (rows .entry))) 0 (flat (rowsOf (treeOf at n))))
-        × (now (chains .exit) ≡ padded (length (now (chains .entry))) 0 (chainsOf (treeOf at n)))) ⌝ }
+    requires { ⌜ ((t : Tree Extent) × Whole t (now m) (now next) q (length (now rows)) (length (now chains))) ⌝ }
+    ensures { λ _. ⌜ ((t : Tree Extent) → Whole t (now (m .entry)) (now (next .entry)) q (length (now (rows .entry))) (length (now (chains .entry)))
+        → (now (rows .exit) ≡ padded (length (now (rows .entry))) 0 (flat (rowsOf t)))
+        × (now (chains .exit) ≡ padded (length (now (chains .entry))) 0 (chainsOf t))) ⌝ }
 {
     let nodes = q.nodes;
     let from = Cursor {
         nodes: 0,
         chained: 0,
     };
-    list_node(m, next, q.root, 0, 0, rows, chains, from);
+    let end = list_node(m, next, q.root, 0, 0, rows, chains, from);
     clear_from(rows, nodes * 4);
+    clear_from(chains, end.chained);
 }

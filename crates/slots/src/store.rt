@@ -4,7 +4,7 @@ ghost use mathlib.Core.Path.{_≡_};
 ghost use Prim.Native.Nat.{_+_, _*_, _/_, _%_, _^_, _≤_, _<_};
 ghost use lib.ListN.{length, set, replicate};
 ghost use Rattle.rules.specs.Refusal.{mostParticles};
-ghost use Rattle.slots.specs.Slots.{word, put, childless, kids, value, putInternal, putLeaf, putValue};
+ghost use Rattle.slots.specs.Slots.{word, put, childless, kids, value, putInternal, putLeaf, putValue, copied};
 
 const WORDS: usize = 8;
 
@@ -100,6 +100,19 @@ pub fn put_leaf(m: &mut [u64], s: usize, first: usize)
     ensures { λ _. ⌜ now (m .exit) ≡ putLeaf (now (m .entry)) s first ⌝ }
 {
     put_word(m, s, 0, (first + 1) as u64);
+}
+
+// What a tree sees of slot x, in slot h too.
+pub fn copy(m: &mut [u64], x: usize, h: usize)
+    requires { ⌜ (x * 8 + 8 ≤ length (now m)) × (h * 8 + 8 ≤ length (now m)) ⌝ }
+    ensures { λ _. ⌜ now (m .exit) ≡ copied (now (m .entry)) x h ⌝ }
+{
+    let tag = word_at(m, x, 0);
+    let left = word_at(m, x, 1);
+    let right = word_at(m, x, 2);
+    put_word(m, h, 0, tag);
+    put_word(m, h, 1, left);
+    put_word(m, h, 2, right);
 }
 
 // Value j of a node: 0, 1 or 2.

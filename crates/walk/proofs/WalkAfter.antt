@@ -5,13 +5,14 @@ use Prim.Native.Nat.{ℕ, zero, suc, _+_, _*_, _-_, _≤_, _<_}
 use native.Mathlib.Omega.{arith}
 use lib.ListN.{length, getD, length-append}
 use lib.Ieee.{Float}
+use Rattle.rules.specs.declared.Extent.{Extent}
 use Rattle.rules.specs.Plain.{foldl}
 use Rattle.rules.specs.Tree.{Tree, none, leaf, node, nodes}
 use Rattle.rules.specs.Walk.{Entry, internal, tip, valued, parentLast}
 use Rattle.slots.specs.declared.Quadtree.{Quadtree}
 use Rattle.walk.specs.declared.visit_after.Path.{Path}
 use Rattle.walk.specs.declared.visit_after.Handed.{Handed}
-use Rattle.slots.specs.Trees.{word, kid, kids, Follows, first, Stands, ChainFrom}
+use Rattle.slots.specs.Trees.{word, kid, kids, Follows, first, Lays, Stands, ChainFrom}
 use Rattle.walk.specs.Walk.{EachChain}
 use Rattle.walk.specs.WalkAfter.{Step, stepsAt, stepsOf, rooted, Steps, Climbs, Climbing, EntryAt, First, Descends, Lent, KidsLent, EachTip, valuesAt, kidValues, Valued}
 use Rattle.walk.proofs.WalkClimb.{climb-start, climb-end}
@@ -117,9 +118,9 @@ abbrev pub shorter : List ℕ → Handed → Path
 shorter l r = record { steps = l; height = r .height }
 
 module _ {B : Type 0} (read : List ℕ → ℕ → B) (write : List ℕ → ℕ → B → List ℕ) (ofLeaf : List ℕ → B) (ofNode : List B → B) (P : List ℕ → Type 0) where
-  pub start : {at : List Float} {n : ℕ} {m next : List ℕ} {q : Quadtree} (s : Stands at n m next q) → EachChain P (s .tree) → (p : Path) → stepsOf p ≡ rooted (q .root) → length (p .steps) ≡ 130
+  pub start : {t : Tree Extent} {m next : List ℕ} {q : Quadtree} (s : Lays t m next q) → EachChain P (s .tree) → (p : Path) → stepsOf p ≡ rooted (q .root) → length (p .steps) ≡ 130
       → Filling read write ofLeaf ofNode P next (s .tree) m m p (q .nodes)
-  start {at} {n} {m} {next} {q} s h p e z =
+  start {m = m} {next = next} {q = q} s h p e z =
       let f = found s P h in
       record {
         rest = parentLast (s .tree);
@@ -209,8 +210,8 @@ module _ {B : Type 0} {read : List ℕ → ℕ → B} {write : List ℕ → ℕ 
 -- ---- its end
 
 -- the same tree stands in slots that it sees alike
-abbrev pub stands-alike : {at : List Float} {n : ℕ} {m next : List ℕ} {q : Quadtree} (s : Stands at n m next q) (w : List ℕ) → Alike m w → length w ≡ length m → Stands at n w next q
-stands-alike {m = m} {next = next} {q = q} s w a e =
+abbrev pub lays-alike : {t : Tree Extent} {m next : List ℕ} {q : Quadtree} (s : Lays t m next q) (w : List ℕ) → Alike m w → length w ≡ length m → Lays t w next q
+lays-alike {m = m} {next = next} {q = q} s w a e =
     record {
       tree = s .tree;
       leads = leads-alike m w next a (q .root) (s .tree) (s .leads);
@@ -230,7 +231,7 @@ module _ {B : Type 0} {Fit : B → Type 0} {read : List ℕ → ℕ → B} {writ
   finish-read {m₀ = m₀} {m = m} {next = next} {q = q} s h p f =
       let e : m ≡ fill read write ofLeaf ofNode (parentLast (s .tree)) m₀ = none-left (f .rest) (f .count) (f .same) in
       record {
-        stands = stands-alike s m (f .alike) (f .long);
+        stands = lays-alike s m (f .alike) (f .long);
         values = kept-valued read write ofLeaf ofNode m (q .extent) (s .tree)
             (subst⁻¹ (λ (x : List ℕ). Rattle.walk.proofs.WalkFill.Kept read write ofLeaf ofNode x (s .tree)) e
             (kept-fill W ofLeaf ofNode P fitLeaf fitNode next (s .tree) (q .root) m₀ (s .leads) (s .once) (found s P h .1) h))

@@ -11,7 +11,7 @@ use Rattle.rules.specs.Plain.{keep, countFrom, upTo, branch}
 use Rattle.rules.specs.Cell.{quarter}
 use Rattle.rules.specs.Tree.{Tree, none, leaf, node, nodes, inQuarter, pointsIn, alike, grow, treeIn, treeOf}
 use Rattle.slots.specs.declared.Quadtree.{Quadtree}
-use Rattle.slots.specs.Trees.{inCells, Stands, Below}
+use Rattle.slots.specs.Trees.{inCells, Lays, Stands, Below}
 use Rattle.slots.proofs.Trees.{each-map}
 use Rattle.walk.specs.Walk.{seen, EachChain}
 use Rattle.walk.proofs.WalkTurns.{Found, nodes-seen}
@@ -65,7 +65,7 @@ below-upTo n = below-count n 0 n (omega arith)
 
 -- ---- the tree that stands in the slots
 
-module _ {at : List Float} {n : ℕ} {m next : List ℕ} {q : Quadtree} (s : Stands at n m next q) where
+module _ (at : List Float) (n : ℕ) {m next : List ℕ} {q : Quadtree} (s : Stands at n m next q) where
   pub chains-have : (P : List ℕ → Type 0) → ((p : ℕ → Bool) (is : List ℕ) → P is → P (keep p is)) → P (upTo n) → EachChain P (s .tree)
   chains-have P kept h = chains-cells P (q .extent) (s .tree) (subst (EachChain P) (sym (s .is)) (chains-tree P kept at n h))
 
@@ -73,6 +73,7 @@ module _ {at : List Float} {n : ℕ} {m next : List ℕ} {q : Quadtree} (s : Sta
   pub chains-below : EachChain (Below n) (s .tree)
   chains-below = chains-have (Below n) (below-keep n) (below-upTo n)
 
+module _ {t : Tree Extent} {m next : List ℕ} {q : Quadtree} (s : Lays t m next q) where
   -- all its slots are lent
   pub found : (P : List ℕ → Type 0) → EachChain P (s .tree) → Found P m next (q .root) (s .tree)
   found P h = (s .leads, each-map (λ i. i < q .nodes) (λ i. i * 8 + 8 ≤ length m) (λ i b. omega (arith, s .room)) (s .tree) (s .below), h)

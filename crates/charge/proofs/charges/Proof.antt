@@ -34,7 +34,7 @@ loop-holds : tie.Need-loop-holds Inv-loop μ-loop
 loop-holds c = λ q s e k.
     let a = c .before .before .before .before .before .args in
     subst⁻¹ (λ (n : ℕ). Fill (a .at .now) (a .strengths .now) (a .next .now) (s .tree) (a .m .now) (a .m .now) (c .begin .result) n) k
-    (start readCharge putCharge (leafCharge (a .at .now) (a .strengths .now)) nodeCharge (Few (length (a .strengths .now))) s (chains-few s) (c .begin .result) e (c .begin .ensures .1))
+    (start readCharge putCharge (leafCharge (a .at .now) (a .strengths .now)) nodeCharge (Few (length (a .strengths .now))) s (chains-few (a .at .now) (length (a .strengths .now)) s) (c .begin .result) e (c .begin .ensures .1))
 
 -- over the tree that was handed in
 mine : (c : tie.At-loop Inv-loop μ-loop)
@@ -99,7 +99,7 @@ returns c =
     let l = c .before .loop in
     let z : l .left ≡ 0 = omega arith in
     finish charge-values (leafCharge (a .at .now) (a .strengths .now)) nodeCharge (Few (length (a .strengths .now)))
-    (leaf-fit (a .at .now) (a .strengths .now) (c .before .before .before .before .before .before .shared-slice-known .given) (length (a .strengths .now))) node-fit (s .pre .0) (chains-few (s .pre .0)) (l .p)
+    (leaf-fit (a .at .now) (a .strengths .now) (c .before .before .before .before .before .before .shared-slice-known .given) (length (a .strengths .now))) node-fit (s .pre .0) (chains-few (a .at .now) (length (a .strengths .now)) (s .pre .0)) (l .p)
     (subst (λ (n : ℕ). Fill (a .at .now) (a .strengths .now) (a .next .now) (s .pre .0 .tree) (a .m .now) (l .m) (l .p) n) z (mine (c .before)))
 
 pub charges-spec : {M : Type 1} → statement M

@@ -2,7 +2,7 @@ use Prim.Native.Nat.{_+_, _/_, _≤_, _<_}
 use native.Mathlib.Omega.{arith}
 use lib.ListN.{length}
 use borrow.Author.Needs.{needs}
-use Rattle.placing.proofs.AddPlaced.{few, first-of, leaf-most, grown-deep, gap-most, grown-split-full, split-asks, grown-split}
+use Rattle.placing.proofs.AddPlaced.{few, first-less, leaf-most, grown-deep, gap-most, grown-split-full, split-asks, grown-split}
 use Rattle.placing.proofs.at_leaf.Statement.{statement}
 use Rattle.placing.proofs.at_leaf.Tie as tie
 
@@ -10,40 +10,36 @@ use Rattle.placing.proofs.at_leaf.Tie as tie
 abbrev start : tie.After-meet → tie.Start
 start c = c .before .before .before
 
-first-less : (s : tie.Start) → s .args .f < s .args .p
-first-less s = first-of (s .args .at .now) (s .args .m .now) (s .args .q) (s .args .p) (s .pre .0) (s .args .s) (s .args .l) (s .args .f) (s .args .cell) (s .pre .1) .0
+before-p : (s : tie.Start) → s .args .f < s .args .p
+before-p s = first-less _ _ _ _ _ (s .pre .1) _ _ _ _ (s .pre .2)
 
 level-most : (s : tie.Start) → s .args .l ≤ 64
-level-most s = leaf-most (s .args .at .now) (s .args .m .now) (s .args .q) (s .args .p) (s .pre .0) (s .args .s) (s .args .l) (s .args .f) (s .args .cell) (s .pre .1)
+level-most s = leaf-most _ _ _ _ _ (s .pre .1) _ _ _ _ (s .pre .2)
 
 nodes-few : (s : tie.Start) → s .args .q .nodes ≤ 262144
-nodes-few s = few (s .args .at .now) (s .args .m .now) (s .args .q) (s .args .p) (s .pre .0)
+nodes-few s = few _ _ _ _ _ (s .pre .1)
 
 gap-few : (c : tie.After-meet) → c .meet .result ≤ 64
-gap-few c =
-    let s = start c in
-    gap-most (s .args .at .now) (s .args .m .now) (s .args .q) (s .args .p) (s .pre .0) (s .args .s) (s .args .l) (s .args .f) (s .args .cell) (s .pre .1) (s .pre .2) (c .meet .result) (c .meet .ensures)
+gap-few c = let s = start c in gap-most _ _ _ _ _ (s .pre .1) _ _ _ _ (s .pre .2) (s .pre .3) (c .meet .result) (c .meet .ensures)
 
 meet-requires : tie.Need-meet-requires
 meet-requires c κs =
     let s = c .before .before in
-    let l = first-less s in
-    let r = s .pre .0 .read in
+    let l = before-p s in
+    let r = s .pre .1 .read in
     omega arith
 
 returns : tie.Need-returns
-returns c =
+returns c is g h =
     let k = c .before in
     let s = start k in
-    grown-deep (s .args .at .now) (s .args .m .now) (s .args .q) (s .args .p) (s .pre .0) (s .args .s) (s .args .l) (s .args .f) (s .args .cell) (s .pre .1) (s .pre .2) (k .meet .result) (k .meet .ensures) (c .if1 .taken) (s .args .m .now)
+    grown-deep _ _ _ _ _ g _ _ _ _ h (s .pre .3) (k .meet .result) (k .meet .ensures) (c .if1 .taken) (s .args .m .now)
 
 returns-2 : tie.Need-returns-2
-returns-2 c =
+returns-2 c is g h =
     let b = c .before .before .before .before in
     let k = b .before in
-    let s = start k in
-    grown-split-full (s .args .at .now) (s .args .m .now) (s .args .q) (s .args .p) (s .pre .0) (s .args .s) (s .args .l) (s .args .f) (s .args .cell) (s .pre .1) (s .pre .2) (k .meet .result) (k .meet .ensures) (b .if1 .left)
-    (omega (arith, c .before .before .slots .ensures, c .if2 .taken))
+    grown-split-full _ _ _ _ _ g _ _ _ _ h (start k .pre .3) (k .meet .result) (k .meet .ensures) (b .if1 .left) (omega (arith, c .before .before .slots .ensures, c .if2 .taken))
 
 -- there is room
 fits : (c : tie.Else2) → let k = c .before .before .before .before .before in start k .args .q .nodes + k .meet .result + 2 ≤ length (start k .args .m .now) / 8
@@ -55,17 +51,15 @@ split-requires c κs =
     let b = e .before .before .before .before in
     let k = b .before in
     let s = start k in
-    split-asks (s .args .at .now) (s .args .m .now) (s .args .q) (s .args .p) (s .pre .0) (s .args .s) (s .args .l) (s .args .f) (s .args .cell) (s .pre .1) (s .pre .2) (k .meet .result) (k .meet .ensures) (b .if1 .left) (fits e)
+    split-asks _ _ _ _ _ (s .pre .1) _ _ _ _ (s .pre .2) (s .pre .3) (k .meet .result) (k .meet .ensures) (b .if1 .left) (fits e)
 
 returns-3 : tie.Need-returns-3
-returns-3 c =
+returns-3 c is g h =
     let w = c .before .before .before in
     let e = w .before .before in
     let b = e .before .before .before .before in
     let k = b .before in
-    let s = start k in
-    grown-split (s .args .at .now) (s .args .m .now) (s .args .q) (s .args .p) (s .pre .0) (s .args .s) (s .args .l) (s .args .f) (s .args .cell) (s .pre .1) (s .pre .2) (k .meet .result) (k .meet .ensures) (b .if1 .left) (fits e)
-    (w .split .last .0) (c .more .result) (w .split .ensures) (c .more .ensures)
+    grown-split _ _ _ _ _ g _ _ _ _ h (start k .pre .3) (k .meet .result) (k .meet .ensures) (b .if1 .left) (fits e) (w .split .last .0) (c .more .result) (w .split .ensures) (c .more .ensures)
 
 -- from after the split back to the count
 abbrev met : tie.After-slice-known2 → tie.After-meet

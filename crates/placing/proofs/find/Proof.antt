@@ -9,7 +9,7 @@ use Rattle.rules.specs.Tree.{Tree}
 use Rattle.cells.specs.Indexer.{indexer, cellOf}
 use Rattle.slots.specs.Slots.{word, kids}
 use Rattle.leaves.specs.Leaf.{side}
-use Rattle.placing.specs.Add.{lead, Reaches, FoundLeaf}
+use Rattle.placing.specs.Add.{lead, Holds, Reaches, FoundLeaf}
 use Rattle.leaves.proofs.Turns.{indexed, step-side, step-less, step-own, step-cell}
 use Rattle.placing.proofs.AddTurns.{Way, Inner, way-start, way-slot, way-leaf, way-inner, way-hole, way-down}
 use Rattle.placing.proofs.find.Statement.{statement}
@@ -25,26 +25,30 @@ abbrev entry : tie.At-loop Inv-loop μ-loop → tie.Start Inv-loop μ-loop
 entry c = c .before .before .before .before .before .before .before
 
 -- the tree that the way has come to
-here : (c : tie.At-loop Inv-loop μ-loop)
-    → (u : Tree ℕ) × Reaches (entry c .args .at .now) (entry c .args .p) (c .loop .l) (entry c .args .q .extent) (entry c .pre .0 .holds .tree) (cellOf (c .loop .ix)) u × (lead u ≡ c .loop .s + 1)
-here c =
+here : (c : tie.At-loop Inv-loop μ-loop) (is : List ℕ) (h : Holds (entry c .args .at .now) is (entry c .args .m .now) (entry c .args .q))
+    → (u : Tree ℕ) × Reaches (entry c .args .at .now) (entry c .args .p) (c .loop .l) (entry c .args .q .extent) (h .tree) (cellOf (c .loop .ix)) u × (lead u ≡ c .loop .s + 1)
+here c is h =
     let s = entry c in
-    c .loop .inv .1 (s .args .q) (s .pre .0 .holds) (omega (arith, s .pre .1)) (sym (ap cellOf (c .before .with-extent .ensures)))
+    c .loop .inv .1 is (s .args .q) h (omega (arith, s .pre .2)) (sym (ap cellOf (c .before .with-extent .ensures)))
 
 slot : (c : tie.At-loop Inv-loop μ-loop) → c .loop .s * 8 + 8 ≤ length (entry c .args .m .now)
 slot c =
     let s = entry c in
-    let (u, r, e) = here c in
-    way-slot (s .args .at .now) (s .args .p) (s .args .m .now) (s .args .q) (s .pre .0 .holds) (c .loop .s) (c .loop .l) (cellOf (c .loop .ix)) u r e
+    let (u, r, e) = here c (s .pre .0) (s .pre .1 .holds) in
+    way-slot (s .args .at .now) (s .args .p) _ _ _ (s .pre .1 .holds) _ (c .loop .l) _ u r e
 
 -- it is internal
-inner : (c : tie.Else1 Inv-loop μ-loop)
-    → let d = c .before .before in Inner (entry d .args .at .now) (entry d .args .p) (entry d .args .m .now) (entry d .args .q) (entry d .pre .0 .holds) (d .loop .s) (d .loop .l) (cellOf (d .loop .ix))
-inner c =
+inner : (c : tie.Else1 Inv-loop μ-loop) → let d = c .before .before in (is : List ℕ) (h : Holds (entry d .args .at .now) is (entry d .args .m .now) (entry d .args .q))
+    → Inner (entry d .args .at .now) (entry d .args .p) is (entry d .args .m .now) (entry d .args .q) h (d .loop .s) (d .loop .l) (cellOf (d .loop .ix))
+inner c is h =
     let d = c .before .before in
     let s = entry d in
-    let (u, r, e) = here d in
-    way-inner (s .args .at .now) (s .args .p) (s .args .m .now) (s .args .q) (s .pre .0 .holds) (d .loop .s) (d .loop .l) (cellOf (d .loop .ix)) u r e (sym (c .before .tag .ensures) ∙ c .if1 .left)
+    let (u, r, e) = here d is h in
+    way-inner (s .args .at .now) (s .args .p) _ _ _ h _ (d .loop .l) _ u r e (sym (c .before .tag .ensures) ∙ c .if1 .left)
+
+-- its level
+inner-level : (c : tie.Else1 Inv-loop μ-loop) → c .before .before .loop .l ≤ 63
+inner-level c = let s = entry (c .before .before) in inner c (s .pre .0) (s .pre .1 .holds) .level
 
 loop-holds : tie.Need-loop-holds Inv-loop μ-loop
 loop-holds c =
@@ -52,14 +56,14 @@ loop-holds c =
     (indexed (c .with-extent .result) (s .args .q .extent) (c .with-extent .ensures), way-start (s .args .at .now) (s .args .p) (s .args .m .now) (s .args .q .root - 1) (cellOf (c .with-extent .result)))
 
 returns : tie.Need-returns Inv-loop μ-loop
-returns c =
+returns c is k =
     let d = c .before .before .before in
     let s = entry d in
-    let (u, r, e) = here d in
+    let (u, r, e) = here d is (k .holds) in
     let t = c .before .before .tag .ensures in
-    let g : FoundLeaf (s .args .at .now) (s .args .m .now) (s .args .q) (s .args .p) (d .loop .s) (d .loop .l) (word (s .args .m .now) (d .loop .s) 0 - 1) (cellOf (d .loop .ix)) = way-leaf (s .args .at .now) (s .args .p) (s .args .m .now) (s .args .q) (s .pre .0 .holds) (d .loop .s) (d .loop .l) (cellOf (d .loop .ix)) u r e (λ z. c .before .if1 .taken (t ∙ z)) in
-    subst (λ (f : ℕ). FoundLeaf (s .args .at .now) (s .args .m .now) (s .args .q) (s .args .p) (d .loop .s) (d .loop .l) f (c .cell .result)) (ap (λ (n : ℕ). n - 1) (sym t))
-    (subst (λ (k : Extent). FoundLeaf (s .args .at .now) (s .args .m .now) (s .args .q) (s .args .p) (d .loop .s) (d .loop .l) (word (s .args .m .now) (d .loop .s) 0 - 1) k) (sym (c .cell .ensures)) g)
+    let g = way-leaf (s .args .at .now) (s .args .p) _ _ _ (k .holds) _ (d .loop .l) _ u r e (λ z. c .before .if1 .taken (t ∙ z)) in
+    subst (λ (f : ℕ). FoundLeaf (s .args .at .now) is (s .args .m .now) (s .args .q) (s .args .p) (d .loop .s) (d .loop .l) f (c .cell .result)) (ap (λ (n : ℕ). n - 1) (sym t))
+    (subst (λ (x : Extent). FoundLeaf (s .args .at .now) is (s .args .m .now) (s .args .q) (s .args .p) (d .loop .s) (d .loop .l) (word (s .args .m .now) (d .loop .s) 0 - 1) x) (sym (c .cell .ensures)) g)
 
 -- the quadrant is the particle's
 quadrant-is : (c : tie.After-get-and-descend Inv-loop μ-loop) → let d = c .before .before .before in c .get-and-descend .result .quadrant ≡ side (entry d .args .at .now) (entry d .args .p) (cellOf (d .loop .ix))
@@ -79,11 +83,10 @@ child-is : (c : tie.After-children Inv-loop μ-loop) → let d = c .before .befo
 child-is c = ap (λ (ks : List ℕ). getD ks (c .before .get-and-descend .result .quadrant) 0) (c .children .ensures)
 
 returns-2 : tie.Need-returns-2 Inv-loop μ-loop
-returns-2 c =
+returns-2 c is k =
     let b = c .before .before in
-    let d = b .before .before .before in
-    let s = entry d in
-    way-hole (s .args .at .now) (s .args .p) (s .args .m .now) (s .args .q) (s .pre .0 .holds) (d .loop .s) (d .loop .l) (cellOf (d .loop .ix)) (inner (b .before)) (b .get-and-descend .result .quadrant) (quadrant-is b) (sym (child-is (c .before)) ∙ c .if2 .taken)
+    let s = entry (b .before .before .before) in
+    way-hole (s .args .at .now) (s .args .p) _ _ _ (k .holds) _ _ _ (inner (b .before) is (k .holds)) _ (quadrant-is b) (sym (child-is (c .before)) ∙ c .if2 .taken)
 
 loop-again : tie.Need-loop-again Inv-loop μ-loop
 loop-again c =
@@ -95,10 +98,10 @@ loop-again c =
     let x = d .before .before .before .before .x-at .ensures in
     let y = d .before .before .before .y-at .ensures in (
       step-own (s .args .at .now) (s .args .p) (cellOf (d .loop .ix)) _ _ k (b .get-and-descend .ensures) x y,
-      λ q h er ee.
-          (let (u, r, e) = d .loop .inv .1 q h er ee in
-          let i = way-inner (s .args .at .now) (s .args .p) (s .args .m .now) q h (d .loop .s) (d .loop .l) (cellOf (d .loop .ix)) u r e (sym (b .before .before .tag .ensures) ∙ b .before .if1 .left) in
-          let (v, w, f) = way-down (s .args .at .now) (s .args .p) (s .args .m .now) q h (d .loop .s) (d .loop .l) (cellOf (d .loop .ix)) i (k .quadrant) (quadrant-is b) (getD (a .children .result) (k .quadrant) 0) (child-is a) (c .before .if2 .left) in
+      λ is q h er ee.
+          (let (u, r, e) = d .loop .inv .1 is q h er ee in
+          let i = way-inner (s .args .at .now) (s .args .p) is (s .args .m .now) q h (d .loop .s) (d .loop .l) (cellOf (d .loop .ix)) u r e (sym (b .before .before .tag .ensures) ∙ b .before .if1 .left) in
+          let (v, w, f) = way-down (s .args .at .now) (s .args .p) is (s .args .m .now) q h (d .loop .s) (d .loop .l) (cellOf (d .loop .ix)) i (k .quadrant) (quadrant-is b) (getD (a .children .result) (k .quadrant) 0) (child-is a) (c .before .if2 .left) in
           (v, subst (λ (e : Extent). Reaches (s .args .at .now) (s .args .p) (d .loop .l + 1) (q .extent) (h .tree) e v) (sym (step-cell (s .args .at .now) (s .args .p) (cellOf (d .loop .ix)) _ _ k (b .get-and-descend .ensures) x y)) w, f)),
     )
 
@@ -125,6 +128,6 @@ find-spec =
     returns-2
     (λ c. search needs)
     (λ c. search needs)
-    (λ c. let l = inner (c .before .before .before .before) .level in omega arith)
-    (λ c. let l = inner (c .before .before .before .before) .level in omega arith)
+    (λ c. let l = inner-level (c .before .before .before .before) in omega arith)
+    (λ c. let l = inner-level (c .before .before .before .before) in omega arith)
     loop-again)

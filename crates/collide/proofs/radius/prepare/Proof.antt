@@ -33,7 +33,7 @@ loop-holds : tie.Need-loop-holds Inv-loop μ-loop
 loop-holds c = λ q s e k.
     let a = c .before .before .before .args in
     subst⁻¹ (λ (n : ℕ). Filling radiusIn write (leafRadius (a .radii .now)) nodeRadius (Below (length (a .radii .now))) (s .next) (s .stands .tree) (a .m .now) (a .m .now) (c .begin .result) n) k
-    (start radiusIn write (leafRadius (a .radii .now)) nodeRadius (Below (length (a .radii .now))) (s .stands) (chains-below (s .stands)) (c .begin .result) e (c .begin .ensures .1))
+    (start radiusIn write (leafRadius (a .radii .now)) nodeRadius (Below (length (a .radii .now))) (s .stands) (chains-below (s .at) (length (a .radii .now)) (s .stands)) (c .begin .result) e (c .begin .ensures .1))
 
 next-requires : tie.Need-next-requires Inv-loop μ-loop
 next-requires c κs =
@@ -105,7 +105,7 @@ returns c = λ s.
     record {
       next = s .next;
       valued = finish-read one-value (leafRadius (a .radii .now)) nodeRadius (Below (length (a .radii .now)))
-          (λ is p. leaf-fits (a .radii .now) (λ j. c .before .before .before .before .shared-slice-known .given j) is) node-fits (s .stands) (chains-below (s .stands)) (l .p)
+          (λ is p. leaf-fits (a .radii .now) (λ j. c .before .before .before .before .shared-slice-known .given j) is) node-fits (s .stands) (chains-below (s .at) (length (a .radii .now)) (s .stands)) (l .p)
           (subst (λ (n : ℕ). Filling radiusIn write (leafRadius (a .radii .now)) nodeRadius (Below (length (a .radii .now))) (s .next) (s .stands .tree) (a .m .now) (l .m) (l .p) n) z
           (l .inv (a .q) s (c .before .before .begin .ensures .0) refl));
     }

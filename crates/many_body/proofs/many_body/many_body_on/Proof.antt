@@ -1,5 +1,6 @@
 use native.Mathlib.Omega.{arith}
 use borrow.Author.Needs.{needs}
+use lib.ListN.{length}
 use Rattle.many_body.proofs.ManyBodyRun.{all-fit}
 use Rattle.many_body.proofs.many_body.many_body_on.Statement.{statement}
 use Rattle.many_body.proofs.many_body.many_body_on.Tie as tie
@@ -7,13 +8,15 @@ use Rattle.many_body.proofs.many_body.many_body_on.Tie as tie
 pull-all-requires : tie.Need-pull-all-requires
 pull-all-requires c κs =
     let s = c .before .before .before .before .before .before .before .before .before .before .before .before in
+    let a = s .args in
     let p = s .pre .1 in
-    (c .before .before .before .before .charges .ensures, (p .0, p .1, omega (arith, all-fit (s .pre .0) (p .0 .few), p .2)))
+    (c .before .before .before .before .charges .ensures, (p .0, p .1, omega (arith, all-fit (a .at .now) (length (a .strengths .now)) (s .pre .0) (p .0 .few), p .2)))
 
 returns : tie.Need-returns
 returns c =
     let s = c .before .before .before .before .before .before .before .before .before .before .before .before .before .before .before in
-    (c .before .before .pull-all .ensures .0, omega (arith, c .before .before .pull-all .ensures .1, all-fit (s .pre .0) (s .pre .1 .0 .few)))
+    let a = s .args in
+    (c .before .before .pull-all .ensures .0, omega (arith, c .before .before .pull-all .ensures .1, all-fit (a .at .now) (length (a .strengths .now)) (s .pre .0) (s .pre .1 .0 .few)))
 
 pub many-body-on-spec : {M : Type 1} → statement M
 many-body-on-spec = tie.close (tie.spec (λ c κs. search needs) pull-all-requires (λ c. search needs) (λ c. search needs) returns)

@@ -1,6 +1,7 @@
 use mathlib.Core.Path.{_≡_, refl, sym, ap, _∙_, subst₂}
 use mathlib.Core.Bool.{false}
-use Prim.Native.Nat.{_+_, _<_}
+use mathlib.Core.List.{List}
+use Prim.Native.Nat.{ℕ, _+_, _<_}
 use native.Mathlib.Omega.{arith}
 use lib.ListN.{length}
 use lib.Ieee.{Float}
@@ -17,7 +18,7 @@ use Rattle.quadtree.proofs.add.wrap.Statement.{statement}
 use Rattle.quadtree.proofs.add.wrap.Tie as tie
 
 abbrev Inv-loop : tie.InvT-loop
-Inv-loop m₀ at p x y wrapped₀ left₀ m wrapped left = (length m ≡ length m₀) × ((to : Extent) → Wraps at m₀ wrapped₀ to p left₀ → Wraps at m wrapped to p left)
+Inv-loop m₀ at p x y wrapped₀ left₀ m wrapped left = (length m ≡ length m₀) × ((is : List ℕ) (to : Extent) → Wraps at is m₀ wrapped₀ to p left₀ → Wraps at is m wrapped to p left)
 
 abbrev μ-loop : tie.MeasureT-loop
 μ-loop m₀ at p x y wrapped₀ left₀ m wrapped left = left
@@ -27,8 +28,8 @@ abbrev start : tie.At-loop Inv-loop μ-loop → tie.Start Inv-loop μ-loop
 start c = c .before .before .before .before .before
 
 -- what is left to wrap
-left-wraps : (c : tie.At-loop Inv-loop μ-loop) → let s = start c in Wraps (s .args .at .now) (c .loop .m) (c .loop .wrapped) (s .args .covered .extent) (s .args .p) (c .loop .left)
-left-wraps c = let s = start c in c .loop .inv .1 (s .args .covered .extent) (s .pre)
+left-wraps : (c : tie.At-loop Inv-loop μ-loop) → let s = start c in Wraps (s .args .at .now) (s .pre .0) (c .loop .m) (c .loop .wrapped) (s .args .covered .extent) (s .args .p) (c .loop .left)
+left-wraps c = let s = start c in c .loop .inv .1 (s .pre .0) (s .args .covered .extent) (s .pre .1)
 
 -- a doubling towards the particle
 doubled : (c : tie.After-double-once Inv-loop μ-loop)
@@ -42,7 +43,7 @@ double-once-requires c κs =
     let d = c .before in
     let s = start d in
     subst₂ (λ (x y : Float). Near (d .loop .wrapped .extent) x y × (inside (squareOf (d .loop .wrapped .extent)) (floor x) (floor y) ≡ false)) (sym (d .before .before .x-at .ensures)) (sym (d .before .y-at .ensures))
-    (wrap-asks (s .args .at .now) (d .loop .m) (d .loop .wrapped) (s .args .covered .extent) (s .args .p) (d .loop .left) (left-wraps d) (c .loop-test .taken))
+    (wrap-asks _ _ _ _ _ _ _ (left-wraps d) (c .loop-test .taken))
 
 only-requires : tie.Need-only-requires Inv-loop μ-loop
 only-requires c κs =
@@ -50,8 +51,8 @@ only-requires c κs =
     let d = b .before .before in
     let s = start d in
     let w = left-wraps d in (
-      wrap-quadrant (s .args .at .now) (d .loop .m) (d .loop .wrapped) (s .args .covered .extent) (s .args .p) (d .loop .left) w (b .before .loop-test .taken) (b .double-once .result) (doubled b),
-      (let r = wrap-root (s .args .at .now) (d .loop .m) (d .loop .wrapped) (s .args .covered .extent) (s .args .p) (d .loop .left) w in omega (arith, w .small)),
+      wrap-quadrant _ _ _ _ _ _ _ w (b .before .loop-test .taken) (b .double-once .result) (doubled b),
+      (let r = wrap-root _ _ _ _ _ _ _ w in omega (arith, w .small)),
     )
 
 put-internal-requires : tie.Need-put-internal-requires Inv-loop μ-loop
@@ -68,14 +69,11 @@ loop-again c =
     let s = start d in
     let e = a .put-internal .ensures ∙ ap (putInternal (d .loop .m) (d .loop .wrapped .nodes)) (a .before .before .only .ensures) in (
       a .put-internal .kept .0 ∙ d .loop .inv .0,
-      λ to w. wrap-turn (s .args .at .now) (d .loop .m) (d .loop .wrapped) to (s .args .p) (d .loop .left) (d .loop .inv .1 to w) (b .before .loop-test .taken) (b .double-once .result) (doubled b) (a .put-internal .last .0) e,
+      λ is to w. wrap-turn _ _ _ _ _ _ _ (d .loop .inv .1 is to w) (b .before .loop-test .taken) (b .double-once .result) (doubled b) (a .put-internal .last .0) e,
     )
 
 returns : tie.Need-returns Inv-loop μ-loop
-returns c =
-    let d = c .before in
-    let s = start d in
-    wrap-end (s .args .at .now) (d .loop .m) (d .loop .wrapped) (s .args .covered .extent) (s .args .p) (d .loop .left) (left-wraps d) (c .loop-test .left)
+returns c is w = let d = c .before in wrap-end _ _ _ _ _ _ _ (d .loop .inv .1 is _ w) (c .loop-test .left)
 
 -- a slot's number fits
 nodes-fit : (c : tie.In-loop Inv-loop μ-loop) → c .before .loop .wrapped .nodes + 1 < 4294967296
@@ -89,7 +87,7 @@ wrap-spec =
     μ-loop
     (λ c κs. search needs)
     (λ c κs. search needs)
-    (λ c. (refl, λ to w. w))
+    (λ c. (refl, λ is to w. w))
     double-once-requires
     (λ c. search needs)
     only-requires

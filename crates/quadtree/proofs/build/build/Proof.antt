@@ -3,8 +3,9 @@ use Prim.Native.Nat.{ℕ, _-_, _/_, _≤_}
 use native.Mathlib.Omega.{arith}
 use lib.ListN.{length}
 use borrow.Author.Needs.{needs}
+use Rattle.rules.specs.Plain.{upTo}
 use Rattle.placing.specs.declared.Inserted.{Inserted}
-use Rattle.placing.specs.Add.{Placed}
+use Rattle.placing.specs.Add.{Placed, Inserts}
 use Rattle.quadtree.proofs.AddBuild.{Building, build-start, build-follows, build-inserts, build-done, build-refused, build-end}
 use Rattle.quadtree.proofs.build.build.Statement.{statement}
 use Rattle.quadtree.proofs.build.build.Tie as tie
@@ -31,13 +32,16 @@ extend-requires c κs =
     let s = start d in
     build-follows (s .args .at .now) (length (s .args .m .now) / 8) (d .loop .m) (d .loop .next) (d .loop .tail) (d .loop .q) (d .loop .p) (d .loop .inv .4) (s .pre .ranged) (c .loop-test .taken)
 
-insert-requires : tie.Need-insert-requires Inv-loop μ-loop
-insert-requires c κs =
-    let b = c .before .before .before in
+-- what inserting the next particle asks
+inserts : (c : tie.After-extend Inv-loop μ-loop) → let d = c .before .before in Inserts (start d .args .at .now) (upTo (d .loop .p)) (d .loop .m) (d .loop .next) (d .loop .tail) (d .loop .q) (c .extend .result) (d .loop .p)
+inserts b =
     let d = b .before .before in
     let s = start d in
     build-inserts (s .args .at .now) (length (s .args .m .now) / 8) (d .loop .m) (d .loop .next) (d .loop .tail) (d .loop .q) (d .loop .p) (d .loop .inv .4) (s .pre .ranged) (b .before .loop-test .taken) (b .extend .result) (b .extend .ensures)
     (s .pre .few) (d .loop .inv .0 ∙ s .pre .links) (d .loop .inv .1 ∙ s .pre .tails)
+
+insert-requires : tie.Need-insert-requires Inv-loop μ-loop
+insert-requires c κs = (_, inserts (c .before .before .before))
 
 -- as many slots as at the start
 same-slots : (c : tie.After-insert Inv-loop μ-loop) → length (c .insert .last .0) / 8 ≡ length (start (c .before .before .before .before .before .before) .args .m .now) / 8
@@ -45,11 +49,11 @@ same-slots c = ap (λ (k : ℕ). k / 8) (c .insert .kept .0 ∙ c .before .befor
 
 -- what has become of the particle
 placed : (c : tie.After-insert Inv-loop μ-loop) (r : Inserted) → c .insert .result ≡ r
-    → let b = c .before .before .before .before in let d = b .before .before in Placed (start d .args .at .now) (c .insert .last .0) (c .insert .last .1 .1 .0) (c .insert .last .1 .1 .1 .0) (b .extend .result .extent) (d .loop .p) r
+    → let b = c .before .before .before .before in let d = b .before .before in Placed (start d .args .at .now) (upTo (d .loop .p)) (c .insert .last .0) (c .insert .last .1 .1 .0) (c .insert .last .1 .1 .1 .0) (b .extend .result .extent) (d .loop .p) r
 placed c r e =
     let b = c .before .before .before .before in
     let d = b .before .before in
-    subst (λ (r : Inserted). Placed (start d .args .at .now) (c .insert .last .0) (c .insert .last .1 .1 .0) (c .insert .last .1 .1 .1 .0) (b .extend .result .extent) (d .loop .p) r) e (c .insert .ensures)
+    subst (λ (r : Inserted). Placed (start d .args .at .now) (upTo (d .loop .p)) (c .insert .last .0) (c .insert .last .1 .1 .0) (c .insert .last .1 .1 .1 .0) (b .extend .result .extent) (d .loop .p) r) e (c .insert .ensures _ (inserts b))
 
 returns : tie.Need-returns Inv-loop μ-loop
 returns c =
