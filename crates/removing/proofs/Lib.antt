@@ -1,0 +1,13 @@
+pub mod Plug
+pub mod Settle
+pub mod Replace
+pub mod Count
+pub mod Move
+pub mod Turns
+pub mod Filling
+pub mod Folding
+pub mod Tidying
+pub mod Known
+pub mod Spotting
+pub mod Taking
+pub mod Removing
