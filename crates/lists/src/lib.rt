@@ -18,7 +18,7 @@ ghost use Rattle.rules.specs.Link.{ends};
 ghost use Rattle.rules.specs.Force.{endsOf, endsRange};
 ghost use Rattle.lists.specs.Checks.{inRange, pairCheck, pairsCheck, coordinatesCheck, velocitiesCheck, firstOf};
 
-// What refusal 1 allows beside `Quadtree::MOST_PARTICLES`: links of one Link force, ticks of one step, iterations of one force, corners of one outline.
+// What refusal 1 allows beside `Quadtree::MOST_PARTICLES`: links of one Link force, ticks of one step, iterations of one force, corners of one outline, edits of one list.
 pub const MOST_LINKS: usize = 8192;
 
 pub const MOST_TICKS: usize = 4096;
@@ -26,6 +26,8 @@ pub const MOST_TICKS: usize = 4096;
 pub const MOST_ITERATIONS: usize = 64;
 
 pub const MOST_CORNERS: usize = 4096;
+
+pub const MOST_EDITS: usize = 4096;
 
 // What a number of a list is to be.
 enum Range {

@@ -21,8 +21,10 @@ use Rattle.rules.specs.Flow.{Flow}
 use Rattle.rules.specs.Calls.{TreeInput, ForceInput}
 use Rattle.rules.specs.Tick.{SheetInput}
 use Rattle.rules.specs.Outline.{OutlineInput}
+use Rattle.rules.specs.Edits.{EditsInput}
 use Rattle.tree.specs.Tree.{AfterTree}
 use Rattle.outline.specs.Unwrap.{Unwrapped}
+use Rattle.edits.specs.Call.{AfterEdits}
 use Rattle.force_call.specs.Calls as Force
 use Rattle.tick_call.specs.Tick.{AfterTick}
 use Rattle.step_call.specs.Step.{AfterStep}
@@ -72,3 +74,9 @@ step-unique l s least budget r r' sheet sheet' alpha alpha' work work' e f =
 -- An outline: the answer and the output.
 pub unwrap-unique : (l : OutlineInput) (r r' : Refusal) (after after' : List ℤ) → Unwrapped l r after → Unwrapped l r' after' → (r ≡ r') × (after ≡ after')
 unwrap-unique l r r' after after' e f = (same (e .answer) (f .answer), same (e .written) (f .written))
+
+-- A list of edits: the answer, both lists and the work slots.
+pub edits-unique : (l : EditsInput) (r r' : TreeAnswer) (rows chains work rows' chains' work' : List ℕ)
+    → AfterEdits l r rows chains work → AfterEdits l r' rows' chains' work' → (r ≡ r') × (rows ≡ rows') × (chains ≡ chains') × (work ≡ work')
+edits-unique l r r' rows chains work rows' chains' work' e f =
+    (same (e .answer) (f .answer), same (e .listed) (f .listed), same (e .chained) (f .chained), same (e .worked) (f .worked))

@@ -1,22 +1,26 @@
--- Names for what is lent to the tree call, bounds for a force and a tick, how a force refuses a tree, and an outline that is checked, in the theorems about the entries. Definitions only.
+-- Names for what is lent to the tree call, bounds for a force and a tick, how a force refuses a tree, an outline that is checked, and what a list of edits comes to, in the theorems about the entries. Definitions only.
 use mathlib.Core.Path.{_≡_}
 use mathlib.Core.Logic.{_⊎_, _↔_}
-use mathlib.Core.List.{List}
+use mathlib.Core.List.{List, [], _∷_, _++_}
 use Prim.Native.Nat.{ℕ, _*_}
 use lib.ListN.{length}
 use lib.Ieee.{Float}
 use Rattle.rules.specs.declared.Extent.{Extent}
+use Rattle.rules.specs.declared.Particle.{Particle}
 use Rattle.rules.specs.declared.Refusal.{Refusal}
 use Rattle.rules.specs.Plain.{upTo}
 use Rattle.rules.specs.Outcome.{fine}
+use Rattle.rules.specs.Number.{0·}
 use Rattle.rules.specs.Refusal.{mostParticles, mostIterations}
-use Rattle.rules.specs.Sheet.{countOf, particlesOf, placesOf}
+use Rattle.rules.specs.Sheet.{countOf, particle, particlesOf, sheetOf, placesOf}
 use Rattle.rules.specs.Cover.{coverFirst, extentOf}
 use Rattle.rules.specs.Tree.{Tree, treeOf}
 use Rattle.rules.specs.Calls.{TreeInput, treeLengths, inputCheck}
 use Rattle.rules.specs.Tick.{forceSlots}
 use Rattle.rules.specs.Outline.{outlineCheck, OutlineInput}
+use Rattle.rules.specs.Edits.{editsOf, pointsOf, insertions, Present, presentAfter, extentNow, treeNow, EditsInput, editList, editInputCheck}
 use Rattle.rules.specs.Terms.{Oversized, Earliest, IsTree, distinct, mostNodes}
+use Rattle.tree.specs.Tree.{lent}
 
 -- ---- the tree call
 
@@ -65,3 +69,40 @@ pub record TreeRefused (at : List Float) (n slots : ℕ) (r : Refusal) : Type 0 
 -- none of 1, 2 and 5
 abbrev pub OutlineFine : OutlineInput → Type 0
 OutlineFine l = outlineCheck (l .corners) (l .centre) (length (l .unwrapped)) ≡ fine
+
+-- ---- the call on edits
+
+-- particles at these points, at rest and with no flag
+abbrev pub resting : List Float → List Particle
+resting [] = []
+resting (x ∷ []) = []
+resting (x ∷ y ∷ at) = particle x y 0· 0· 0 ∷ resting at
+
+-- these words, then an insertion and its removal: its number is how many insertions there are before it, and v isn't looked at
+abbrev pub undone : List ℕ → ℕ → ℕ → ℕ → List ℕ
+undone w x y v = w ++ (0 ∷ x ∷ y ∷ 1 ∷ insertions (editsOf w) ∷ v ∷ [])
+
+module _ (l : EditsInput) where
+  -- all points inserted, in pairs
+  abbrev pub pointsMade : List Float
+  pointsMade = pointsOf (editList l)
+
+  -- what is there after the last edit
+  abbrev pub presentLast : Present
+  presentLast = presentAfter (editList l)
+
+  -- the extent of all points inserted, reached by covering them in order
+  abbrev pub extentLast : Extent
+  extentLast = extentNow pointsMade presentLast
+
+  -- the cell rule's tree of what is there in that extent, cut off below level 65
+  abbrev pub treeLast : Tree Extent
+  treeLast = treeNow pointsMade presentLast
+
+  -- none of 1, 2, 4 and 5
+  abbrev pub EditsFine : Type 0
+  EditsFine = editInputCheck l ≡ fine
+
+  -- what the tree call is lent instead: the sheet of all points inserted, at rest and with no flag, and the same lists
+  abbrev pub onSheet : TreeInput
+  onSheet = lent (sheetOf (resting pointsMade)) (l .rows) (l .chains) (l .work)

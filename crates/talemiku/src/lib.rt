@@ -22,6 +22,7 @@ ghost use Rattle.checks.specs.Input.{lentSheet};
 ghost use Rattle.tick_call.specs.Tick.{AfterTick};
 ghost use Rattle.step_call.specs.Step.{AfterStep};
 ghost use Rattle.tree.specs.Tree as Tree;
+ghost use Rattle.edits.specs.Call as Edits;
 ghost use Rattle.outline.specs.Unwrap.{lentOutline, Unwrapped};
 ghost use Rattle.force_call.specs.Calls.{lent, Answered};
 
@@ -200,4 +201,17 @@ pub extern "C" fn talemiku_unwrap(corners: &[i64], centre: i64, unwrapped: &mut 
     ensures { λ r. ⌜ Unwrapped (lentOutline (now (corners .entry)) centre (now (unwrapped .entry))) r (now (unwrapped .exit)) ⌝ }
 {
     outline::unwrap(corners, centre, unwrapped)
+}
+
+// The tree that a list of edits leaves: an edit is three words, 0 and the bits of a point to insert, or 1, the number of an earlier insertion to remove and a word that isn't looked at. `rows` and `work` are as for a tree, `chains` has one number for each insertion.
+#[no_mangle]
+pub extern "C" fn talemiku_edits(
+    edits: &[u64],
+    rows: &mut [u32],
+    chains: &mut [u32],
+    work: &mut [u64],
+) -> TreeAnswer
+    ensures { λ r. ⌜ Edits.AfterEdits (Edits.lent (now (edits .entry)) (now (rows .entry)) (now (chains .entry)) (now (work .entry))) r (now (rows .exit)) (now (chains .exit)) (now (work .exit)) ⌝ }
+{
+    edits::edits(edits, rows, chains, work)
 }

@@ -1,2 +1,2 @@
 pub mod TreeChecks
-mod TreeEnds
+pub mod TreeEnds

@@ -1,68 +1,74 @@
--- What the tree call leaves, by what it comes to.
-use mathlib.Core.Path.{_≡_, refl, sym, ap, subst, _∙_}
+-- What a call that builds a tree answers and leaves, by what building came to.
+use mathlib.Core.Path.{_≡_, refl, sym, ap, _∙_}
+use mathlib.Core.Bool.{Bool, true, false, cond, not, _&&_, _||_}
 use mathlib.Core.List.{List}
-use Prim.Native.Nat.{ℕ, _/_, _≤_, _<_}
+use Prim.Native.Nat.{ℕ, _/_}
 use native.Mathlib.Omega.{arith}
-use borrow.Author.Tests.{ne-eqb, le-leb, lt-leb}
+use borrow.Author.Tests.{ne-eqb, not-true, not-false}
+use lib.Dec.{leb, eqb}
 use lib.ListN.{length, replicate}
 use lib.Ieee.{Float}
 use Rattle.rules.specs.declared.Extent.{Extent}
 use Rattle.rules.specs.declared.Refusal.{Refusal}
 use Rattle.rules.specs.declared.TreeAnswer.{TreeAnswer}
 use Rattle.rules.specs.Plain.{padded}
-use Rattle.rules.specs.Outcome.{Outcome, done, refused, refusal, fine, zeroesWork}
+use Rattle.rules.specs.Outcome.{Outcome, done, refused, refusal, fine, refusalOf, ifDone, zeroesWork, workAfter}
 use Rattle.rules.specs.Sheet.{countOf, particlesOf, placesOf, pairsFrom}
+use Rattle.rules.specs.Cell.{nowhere}
 use Rattle.rules.specs.Cover.{coverFirst, extentOf}
 use Rattle.rules.specs.Tree.{Tree, nodes, treeOf, treeCheck, rowsOf, flat, chainsOf}
 use Rattle.rules.specs.Calls.{slotsOf, TreeInput, treeAnswer, rowsAfter, chainsAfter, treeWorkAfter}
 use Rattle.sheet.proofs.Checked.{all-ranged, records-sound}
 use Rattle.sheet.proofs.Columns.{places-of}
 use Rattle.slots.specs.declared.Quadtree.{Quadtree}
-use Rattle.rows.specs.List.{Whole}
-use Rattle.tree.specs.Tree.{AfterTree, refusedTree, refusedWork, built, Ready}
+use Rattle.slots.specs.Trees.{Stands}
+use Rattle.rows.proofs.ListWhole.{chains-all}
+use Rattle.tree.specs.Tree.{AfterTree, refusedTree, refusedWork, Comes, extentBuilt, Answers, built, Ready}
 use Rattle.quadtree.specs.declared.build.Built.{Built}
-use Rattle.quadtree.specs.declared.build.Built.the-variants.{Refused}
+use Rattle.quadtree.specs.declared.build.Built.the-variants as Built
 use Rattle.quadtree.specs.Build.{particles, Lent, Builds}
-use Rattle.slots.proofs.Trees.{cells-nodes}
+use Rattle.slots.proofs.Trees.{lays-levels}
 use Rattle.quadtree.proofs.Refusals.{tree-clears}
 
 -- ---- which refusals clear the work slots
 
-pub refusal-keeps : (r : Refusal) (work : List ℕ) → (r .number ≡ 0 → ⊥) → r .number < 6 → work ≡ refusedWork r work
-unfolding zeroesWork
-refusal-keeps r work h l = rw (ne-eqb (r .number) 0 h, lt-leb 6 (r .number) l)
+-- met is whether it was met while working
+module _ (r : Refusal) (work : List ℕ) (h : r .number ≡ 0 → ⊥) (met : Bool) (e : met ≡ (leb 6 (r .number) && leb (r .number) 9 || eqb (r .number) 15)) where
+  work-is : refusedWork r work ≡ cond met (replicate (length work) 0) work
+  unfolding zeroesWork
+  work-is = rw (ne-eqb (r .number) 0 h, ← e)
 
-pub refusal-above : (r : Refusal) (work : List ℕ) → 9 < r .number → work ≡ refusedWork r work
-unfolding zeroesWork
-refusal-above r work l = rw (ne-eqb (r .number) 0 (λ z. omega arith), le-leb 6 (r .number) (omega arith), lt-leb (r .number) 9 l)
+  pub refusal-keeps : not met ≡ true → work ≡ refusedWork r work
+  refusal-keeps z = sym (work-is ∙ ap (λ (b : Bool). cond b (replicate (length work) 0) work) (not-true met z))
 
-pub refusal-clears : (r : Refusal) (work : List ℕ) → 6 ≤ r .number → r .number ≤ 9 → replicate (length work) 0 ≡ refusedWork r work
-unfolding zeroesWork
-refusal-clears r work a b = rw (ne-eqb (r .number) 0 (λ z. omega arith), le-leb 6 (r .number) a, le-leb (r .number) 9 b)
+  pub refusal-clears : not met ≡ false → replicate (length work) 0 ≡ refusedWork r work
+  refusal-clears z = sym (work-is ∙ ap (λ (b : Bool). cond b (replicate (length work) 0) work) (not-false met z))
 
--- ---- what it comes to
+-- of what is cleared only the length matters
+pub work-cleared : {A : Type 0} (o : Outcome A) (m work : List ℕ) → zeroesWork (refusalOf o) ≡ true → length m ≡ length work → workAfter o m ≡ workAfter o work
+work-cleared o m work z k = rw z (ap (λ (i : ℕ). replicate i 0) k)
+
+-- ---- what building came to
+
+-- a refusal leaves the lists
+pub answers-refused : (o : Outcome (Tree Extent)) (b : Built) (q : Refusal) (r : TreeAnswer) (rows chains work work′ : List ℕ) → b ≡ Built.Refused q → o ≡ refused q → r ≡ refusedTree q → work′ ≡ refusedWork q work
+    → Answers o b r rows chains work rows chains work′
+answers-refused o b q r rows chains work work′ eb eo er ew = rw (eb, eo) (record { answer = er; listed = refl; chained = refl; worked = ew })
+
+-- a tree is listed
+pub answers-listed : (o : Outcome (Tree Extent)) (b : Built) (q : Quadtree) (t : Tree Extent) (r : TreeAnswer) (rows chains work rows′ chains′ work′ : List ℕ) → b ≡ Built.Tree q → o ≡ done t → nodes t ≡ q .nodes
+    → r ≡ record { refusal = refusal 0 0; nodes = q .nodes; extent = q .extent } → rows′ ≡ padded (length rows) 0 (flat (rowsOf t)) → chains′ ≡ padded (length chains) 0 (chainsOf t) → work′ ≡ replicate (length work) 0
+    → Answers o b r rows chains work rows′ chains′ work′
+unfolding zeroesWork
+answers-listed o b q t r rows chains work rows′ chains′ work′ eb eo en er el ec ew =
+    rw (eb, eo) (record { answer = er ∙ ap (λ (n : ℕ). record { refusal = refusal 0 0; nodes = n; extent = q .extent }) (sym en); listed = el; chained = ec; worked = ew })
+
+-- ---- the call's own checks
 
 module _ {l : TreeInput} {o : Outcome (Tree Extent)} {a : TreeAnswer} where
-  -- a refusal leaves the lists
   pub ends-refused : {r : Refusal} {work : List ℕ} → o ≡ refused r → a ≡ refusedTree r → work ≡ refusedWork r (l .work) → AfterTree l o a (l .rows) (l .chains) work
   unfolding treeAnswer rowsAfter chainsAfter treeWorkAfter
   ends-refused e h w = rw e (record { answer = h; listed = refl; chained = refl; worked = w })
-
-  -- accepted
-  pub ends-listed : {t : Tree Extent} {rows chains work : List ℕ} → o ≡ done t
-      → a ≡ record { refusal = refusal 0 0; nodes = nodes t; extent = extentOf (coverFirst (placesOf (particlesOf (l .sheet))) (countOf (l .sheet))) }
-      → rows ≡ padded (length (l .rows)) 0 (flat (rowsOf t)) → chains ≡ padded (length (l .chains)) 0 (chainsOf t) → work ≡ replicate (length (l .work)) 0
-      → AfterTree l o a rows chains work
-  unfolding treeAnswer rowsAfter chainsAfter treeWorkAfter zeroesWork
-  ends-listed e h r c w = rw e (record { answer = h; listed = r; chained = c; worked = w })
-
--- ---- what building answered
-
-pub told-refused : (at : List Float) (m next : List ℕ) {b : Built} {r : Refusal} → b ≡ Refused r → Builds at m next b → treeCheck at (particles at) (length m / 8) ≡ refused r
-told-refused at m next e h = subst (Builds at m next) e h
-
-pub told-tree : (at : List Float) (m next : List ℕ) {b : Built} {q : Quadtree} → b ≡ Built.Tree q → Builds at m next b → Builds at m next (Built.Tree q)
-told-tree at m next e h = subst (Builds at m next) e h
 
 -- ---- the call on a sheet that passed every check
 
@@ -93,32 +99,42 @@ module _ {l : TreeInput} {size : ℕ} {at : List Float} {links tails : ℕ} (d :
       slots : length m / 8 ≡ slotsOf (l .work)
       slots = omega arith
 
-      -- refused on the way
-      pub build-refused : {r : Refusal} {a : TreeAnswer} {work : List ℕ} → treeCheck at (particles at) (length m / 8) ≡ refused r → a ≡ refusedTree r
-          → work ≡ refusedWork r m → AfterTree l (built l) a (l .rows) (l .chains) work
-      build-refused {r} c f w =
-          let g : treeCheck (placesOf (particlesOf (l .sheet))) n (slotsOf (l .work)) ≡ refused r = rw (← read, ← half, ← slots) c in
-          ends-refused (rw g) f (w ∙ rw (tree-clears at (particles at) (length m / 8) r c .1, k))
+      -- what building came to
+      pub sheet-comes : (next : List ℕ) → length next ≡ links → (b : Built) → Builds at m next b → Comes (built l) b m next (length (l .rows)) (length (l .chains))
+      sheet-comes next j (Built.Refused r) s =
+          let g : treeCheck (placesOf (particlesOf (l .sheet))) n (slotsOf (l .work)) ≡ refused r = rw (← read, ← half, ← slots) s in
+          (rw g, tree-clears at (particles at) (length m / 8) r s .0)
+      sheet-comes next j (Built.Tree q) s =
+          let g : treeCheck (placesOf (particlesOf (l .sheet))) n (slotsOf (l .work)) ≡ fine = rw (← read, ← half, ← slots) (s .0) in
+          let own : length next ≡ n = omega (arith, d .links) in
+          let stood : Stands at n m next q = rw (← half) (s .1 .0) in
+          let a = chains-all at n (lays-levels stood) in (
+            treeOf at n,
+            rw (g, ← read),
+            record {
+              stands = stood;
+              below = rw own (a .1);
+              space = omega (arith, a .0, d .passed .chains);
+              few = (omega (arith, d .passed .few), omega (arith, d .passed .chains, d .passed .few));
+              room = omega (arith, s .1 .0 .room, d .passed .rows);
+            },
+          )
 
-      module _ {next : List ℕ} {q : Quadtree} (s : Builds at m next (Built.Tree q)) where
-        -- built, it can be listed
-        pub can-list : length next ≡ links → Whole at n m next q (length (l .rows)) (length (l .chains))
-        can-list j = record {
-          stands = rw (← half) (s .1 .0);
-          links = omega (arith, d .links);
-          places = d .passed .chains;
-          few = d .passed .few;
-          room = omega (arith, s .1 .0 .room, d .passed .rows);
-        }
+      -- the extent is that of the sheet
+      pub sheet-after : (next : List ℕ) (b : Built) → Builds at m next b → (a : TreeAnswer) (rows chains work : List ℕ) → Answers (built l) b a (l .rows) (l .chains) m rows chains work → AfterTree l (built l) a rows chains work
+      unfolding treeAnswer rowsAfter chainsAfter treeWorkAfter zeroesWork
+      sheet-after next b s a rows chains work w =
+          record {
+            answer = w .answer ∙ ap (λ (e : Extent). record { refusal = refusalOf (built l); nodes = ifDone (built l) nodes 0; extent = e }) (extent-is b s);
+            listed = w .listed;
+            chained = w .chained;
+            worked = w .worked ∙ work-cleared (built l) m (l .work) (clears b s) k;
+          }
+        where
+          extent-is : (b : Built) → Builds at m next b → extentBuilt b ≡ ifDone (built l) (λ _. extentOf (coverFirst (placesOf (particlesOf (l .sheet))) (countOf (l .sheet)))) nowhere
+          extent-is (Built.Refused r) s = let g : treeCheck (placesOf (particlesOf (l .sheet))) n (slotsOf (l .work)) ≡ refused r = rw (← read, ← half, ← slots) s in rw g
+          extent-is (Built.Tree q) s = let g : treeCheck (placesOf (particlesOf (l .sheet))) n (slotsOf (l .work)) ≡ fine = rw (← read, ← half, ← slots) (s .0) in rw g (s .1 .1 ∙ rw (half, read))
 
-        -- and is
-        pub build-listed : {a : TreeAnswer} {rows chains work : List ℕ} → a ≡ record { refusal = refusal 0 0; nodes = q .nodes; extent = q .extent }
-            → rows ≡ padded (length (l .rows)) 0 (flat (rowsOf (treeOf at n))) → chains ≡ padded (length (l .chains)) 0 (chainsOf (treeOf at n))
-            → work ≡ replicate (length m) 0 → AfterTree l (built l) a rows chains work
-        build-listed f r c w =
-            let places = placesOf (particlesOf (l .sheet)) in
-            let g : treeCheck places n (slotsOf (l .work)) ≡ fine = rw (← read, ← half, ← slots) (s .0) in
-            let count : q .nodes ≡ nodes (treeOf places n) =
-            sym (s .1 .0 .count) ∙ sym (cells-nodes (q .extent) (s .1 .0 .tree)) ∙ ap (λ (t : Tree Extent). nodes t) (s .1 .0 .is) ∙ rw (half, read) in
-            let extent : q .extent ≡ extentOf (coverFirst places n) = s .1 .1 ∙ rw (half, read) in
-            ends-listed {t = treeOf places n} (rw g) (rw (← count, ← extent) f) (rw (← read) r) (rw (← read) c) (rw (← k) w)
+          clears : (b : Built) → Builds at m next b → zeroesWork (refusalOf (built l)) ≡ true
+          clears (Built.Refused r) s = let g : treeCheck (placesOf (particlesOf (l .sheet))) n (slotsOf (l .work)) ≡ refused r = rw (← read, ← half, ← slots) s in rw g (tree-clears at (particles at) (length m / 8) r s .1)
+          clears (Built.Tree q) s = let g : treeCheck (placesOf (particlesOf (l .sheet))) n (slotsOf (l .work)) ≡ fine = rw (← read, ← half, ← slots) (s .0) in rw g

@@ -8,12 +8,15 @@ use Rattle.rules.specs.declared.Extent.{Extent}
 use Rattle.rules.specs.declared.Refusal.{Refusal}
 use Rattle.rules.specs.declared.TreeAnswer.{TreeAnswer}
 use Rattle.rules.specs.Plain.{zeros}
-use Rattle.rules.specs.Outcome.{Outcome, done, fine, _>>=_, zeroesWork}
+use Rattle.rules.specs.Outcome.{Outcome, done, refused, fine, _>>=_, refusalOf, ifDone, zeroesWork, workAfter}
 use Rattle.rules.specs.Refusal.{mostParticles}
 use Rattle.rules.specs.Sheet.{countOf, particlesOf, recordsCheck, placesOf}
 use Rattle.rules.specs.Cell.{nowhere}
-use Rattle.rules.specs.Tree.{Tree, treeOf, treeCheck}
-use Rattle.rules.specs.Calls.{slotsOf, TreeInput, treeAnswer, rowsAfter, chainsAfter, treeWorkAfter}
+use Rattle.rules.specs.Tree.{Tree, nodes, treeOf, treeCheck}
+use Rattle.rules.specs.Calls.{slotsOf, rowsIn, chainsIn, TreeInput, treeAnswer, rowsAfter, chainsAfter, treeWorkAfter}
+use Rattle.rows.specs.List.{Whole}
+use Rattle.quadtree.specs.declared.build.Built.{Built}
+use Rattle.quadtree.specs.declared.build.Built.the-variants as Built
 
 -- what is lent to the call
 abbrev pub lent : List ℕ → List ℕ → List ℕ → List ℕ → TreeInput
@@ -33,6 +36,27 @@ refusedTree r = record { refusal = r; nodes = 0; extent = nowhere }
 -- the work slots after a refusal
 abbrev pub refusedWork : Refusal → List ℕ → List ℕ
 refusedWork r work = cond (zeroesWork r) (zeros work) work
+
+-- ---- what building came to, of a sheet or of edits
+
+-- a tree, which stands in the slots and can be listed, or a refusal
+abbrev pub Comes : Outcome (Tree Extent) → Built → List ℕ → List ℕ → ℕ → ℕ → Type 0
+Comes o (Built.Tree q) m next rows chains = (t : Tree Extent) × (o ≡ done t) × Whole t m next q rows chains
+Comes o (Built.Refused r) m next rows chains = (o ≡ refused r) × (r .number ≡ 0 → ⊥)
+
+-- the extent of what was built
+abbrev pub extentBuilt : Built → Extent
+extentBuilt (Built.Tree q) = q .extent
+extentBuilt (Built.Refused r) = nowhere
+
+-- the answer and every lent list then
+pub record Answers (o : Outcome (Tree Extent)) (b : Built) (r : TreeAnswer) (rows chains work rows′ chains′ work′ : List ℕ) : Type 0 where
+  pub answer : r ≡ record { refusal = refusalOf o; nodes = ifDone o nodes 0; extent = extentBuilt b }
+  pub listed : rows′ ≡ rowsIn rows o
+  pub chained : chains′ ≡ chainsIn chains o
+  pub worked : work′ ≡ workAfter o work
+
+-- ---- the call on a sheet
 
 -- past its checks of the count, of the lengths and of the records
 pub record Passed (l : TreeInput) : Type 0 where

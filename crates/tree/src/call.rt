@@ -1,15 +1,13 @@
 // The tree call: every check in its order, then the tree is built in the lent slots and listed.
-use quadtree::build::Built;
+use crate::answer::answer;
+use crate::answer::refuse;
 use quadtree::build::build;
-use rows::list;
-use rules::Extent;
 use rules::Refusal;
 use rules::TreeAnswer;
 use sheet::read_pairs;
 use sheet::records_check;
 use sheet::whole_records;
 use slots::Quadtree;
-use slots::store::clear;
 ghost use mathlib.Core.Path.{_≡_};
 ghost use mathlib.Core.Bool.{_&&_};
 ghost use Prim.Native.Nat.{_*_, _≤_, _<_, _^_};
@@ -18,33 +16,7 @@ ghost use lib.ListN.{length};
 ghost use Rattle.rules.specs.Outcome.{refusalOf, _then_};
 ghost use Rattle.rules.specs.Refusal.{mostParticles, countCheck, lengthsCheck};
 ghost use Rattle.rules.specs.Calls.{treeResult};
-ghost use Rattle.tree.specs.Tree.{lent, AfterTree, refusedTree, refusedWork, Passed, built, Ready};
-
-// Counts zero and no extent. 6 to 9 clear the work slots, any other refusal leaves them as they were.
-fn refuse(work: &mut [u64], refusal: Refusal) -> TreeAnswer
-    requires { ⌜ (refusal .number ≡ 0 → ⊥) ⌝ }
-    ensures { λ r. ⌜ (r ≡ refusedTree refusal) × (now (work .exit) ≡ refusedWork refusal (now (work .entry))) ⌝ }
-{
-    let number = refusal.number;
-    let answer = TreeAnswer {
-        refusal,
-        nodes: 0,
-        extent: Extent {
-            x0: 0.0,
-            y0: 0.0,
-            x1: 0.0,
-            y1: 0.0,
-        },
-    };
-    if number < 6 {
-        return answer;
-    }
-    if 9 < number {
-        return answer;
-    }
-    clear(work);
-    answer
-}
+ghost use Rattle.tree.specs.Tree.{lent, AfterTree, Passed, built, Ready};
 
 // Four numbers a slot, one a particle.
 fn agree(rows: usize, slots: usize, chains: usize, n: usize) -> bool
@@ -91,23 +63,8 @@ fn tree_with(
         AfterTree l (built l) r (now (rows .exit)) (now (chains .exit)) (now (work .exit))) ⌝ }
 {
     read_pairs(records, 40, 0, places);
-    match build(places, next, tail, work) {
-        Built::Refused(refusal) => refuse(work, refusal),
-        Built::Tree(q) => {
-            let nodes = q.nodes;
-            let extent = q.extent;
-            list(q, work, next, rows, chains);
-            clear(work);
-            TreeAnswer {
-                refusal: Refusal {
-                    number: 0,
-                    place: 0,
-                },
-                nodes: nodes as u64,
-                extent,
-            }
-        }
-    }
+    let built = build(places, next, tail, work);
+    answer(built, next, rows, chains, work)
 }
 
 // The same with memory of its own for places, links and tails.

@@ -1,4 +1,5 @@
 // The tree call: a sheet's tree, listed parent first with its chains.
+pub mod answer;
 mod call;
 
 pub use call::tree;

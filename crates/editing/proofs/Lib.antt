@@ -1,0 +1,4 @@
+mod Told
+mod Inserting
+mod Removals
+mod Turns

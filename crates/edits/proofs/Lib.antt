@@ -1,0 +1,2 @@
+mod Checks
+mod Ends
