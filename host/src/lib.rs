@@ -9,12 +9,14 @@
 //! - [`center`], [`apply_velocities`]: Center and the closing move on particles.
 //! - [`tick()`], [`step`]: a whole sheet, with up to eight forces ([`Forces`]).
 //! - [`unwrap`]: an outline in longitudes, unwrapped the short way round, across 180 degrees too.
+//! - [`edits()`]: the quadtree that points inserted and removed leave ([`Edits`]).
 //!
 //! Nothing is allocated by the archive: a tree's nodes live in lent work slots ([`SLOT_WORDS`]), jiggles come from a lent list of draws, and a call's own lists stand on the
 //! stack (some 400 KB for a tick). [`raw`] has the same calls with their answers as they come.
 #![deny(missing_docs, unsafe_code)]
 #![warn(clippy::missing_errors_doc, clippy::must_use_candidate, clippy::undocumented_unsafe_blocks)]
 
+mod edits;
 mod force;
 mod forces;
 mod number;
@@ -26,6 +28,7 @@ mod sheet;
 mod tick;
 mod tree;
 
+pub use edits::{edits, Edits, EDIT_WORDS};
 pub use force::{collide, link, many_body, velocities_of, velocity_bytes, Counts, Lent, Links, Points};
 pub use forces::{Force, Forces, FORCE_SLOTS};
 pub use number::{floor, root};

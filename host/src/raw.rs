@@ -15,7 +15,7 @@
 #[repr(C)]
 #[derive(Clone, Copy, Debug, PartialEq, Eq)]
 pub struct Refusal {
-    /// 1 to 10, 16, or 0.
+    /// 1 to 10, 15, 16, or 0.
     pub number: u64,
     /// An index, or 0.
     pub place: u64,
@@ -268,6 +268,17 @@ mod entry {
         ) -> StepAnswer;
 
         pub fn talemiku_unwrap(corners: *const i64, corners_len: usize, centre: i64, unwrapped: *mut i64, unwrapped_len: usize) -> Refusal;
+
+        pub fn talemiku_edits(
+            edits: *const u64,
+            edits_len: usize,
+            rows: *mut u32,
+            rows_len: usize,
+            chains: *mut u32,
+            chains_len: usize,
+            work: *mut u64,
+            work_len: usize,
+        ) -> TreeAnswer;
     }
 }
 
@@ -488,4 +499,21 @@ pub fn step(
 pub fn unwrap(corners: &[i64], centre: i64, unwrapped: &mut [i64]) -> Refusal {
     // SAFETY: each pointer is followed by the length of its own slice, and what is `&mut` overlaps no other; the entry stays within them.
     unsafe { entry::talemiku_unwrap(corners.as_ptr(), corners.len(), centre, unwrapped.as_mut_ptr(), unwrapped.len()) }
+}
+
+/// The tree that a list of edits leaves, three words each.
+pub fn edits(edits: &[u64], rows: &mut [u32], chains: &mut [u32], work: &mut [u64]) -> TreeAnswer {
+    // SAFETY: each pointer is followed by the length of its own slice, and what is `&mut` overlaps no other; the entry stays within them.
+    unsafe {
+        entry::talemiku_edits(
+            edits.as_ptr(),
+            edits.len(),
+            rows.as_mut_ptr(),
+            rows.len(),
+            chains.as_mut_ptr(),
+            chains.len(),
+            work.as_mut_ptr(),
+            work.len(),
+        )
+    }
 }

@@ -3,7 +3,7 @@ use crate::raw;
 use std::error::Error;
 use std::fmt;
 
-/// Why a call was refused. 1 to 5, 10 and 16 change no buffer; 6 to 9 leave particles and alpha as they were and zero all lent work slots.
+/// Why a call was refused. 1 to 5, 10 and 16 change no buffer; 6 to 9 and 15 leave particles, alpha and results as they were and zero all lent work slots.
 ///
 /// ```
 /// use talemiku::Refusal;
@@ -16,13 +16,13 @@ use std::fmt;
 ///
 /// ```
 /// # use talemiku::Refusal;
-/// assert_eq!(Refusal::TooMany.to_string(), "refused 1: too many particles, links, ticks, iterations or corners");
+/// assert_eq!(Refusal::TooMany.to_string(), "refused 1: too many particles, links, ticks, iterations, corners or edits");
 /// assert_eq!(Refusal::Coordinate { particle: 7 }.to_string(), "refused 4 at 7: a coordinate is out of range");
 /// ```
 #[derive(Clone, Copy, Debug, PartialEq, Eq, Hash)]
 #[non_exhaustive]
 pub enum Refusal {
-    /// 1: over 4,096 particles, 8,192 links, 4,096 ticks of one step, 64 iterations of one force, or 4,096 corners of one outline.
+    /// 1: over 4,096 particles, 8,192 links, 4,096 ticks of one step, 64 iterations of one force, 4,096 corners of one outline, or 4,096 edits.
     TooMany,
     /// 2: lent lengths disagree with the counts, a part reaches past its buffer, or an output is too short.
     Lengths,
@@ -33,22 +33,22 @@ pub enum Refusal {
     },
     /// 4: a coordinate is NaN, infinite or beyond 2^40 from zero.
     Coordinate {
-        /// The particle's index; 0 for a floor alone.
+        /// The particle's index, or the edit's; 0 for a floor alone.
         particle: usize,
     },
-    /// 5: another number is out of its range, or there is no such kind of force.
+    /// 5: another number is out of its range, or there is no such kind of force or of edit.
     Number {
-        /// The index in its list; 0 for a setting or an outline's centre.
+        /// The index in its list, of a kind the edit's; 0 for a setting or an outline's centre.
         place: usize,
     },
     /// 6: the tree would pass level 64.
     Level {
-        /// The particle that would take it there.
+        /// The particle that would take it there, or the edit.
         particle: usize,
     },
     /// 7: more nodes than lent slots.
     Slots {
-        /// The particle that finds no slot.
+        /// The particle that finds no slot, or the edit.
         particle: usize,
     },
     /// 8: more jiggles needed than draws lent.
@@ -59,6 +59,11 @@ pub enum Refusal {
     Record {
         /// The record's index; 0 for a bad length.
         record: usize,
+    },
+    /// 15: an edit removes what isn't there: no insertion before it has that number, or that one is already removed.
+    Absent {
+        /// The edit's index.
+        edit: usize,
     },
     /// 16: the outline doesn't close, as one round a pole doesn't.
     Unclosed,
@@ -86,6 +91,7 @@ impl Refusal {
             Refusal::Draws => 8,
             Refusal::Result => 9,
             Refusal::Record { .. } => 10,
+            Refusal::Absent { .. } => 15,
             Refusal::Unclosed => 16,
             Refusal::Other { number, .. } => number,
         }
@@ -99,14 +105,15 @@ impl Refusal {
             Refusal::Coordinate { particle } | Refusal::Level { particle } | Refusal::Slots { particle } => particle,
             Refusal::Number { place } | Refusal::Other { place, .. } => place,
             Refusal::Record { record } => record,
+            Refusal::Absent { edit } => edit,
             Refusal::TooMany | Refusal::Lengths | Refusal::Draws | Refusal::Result | Refusal::Unclosed => 0,
         }
     }
 
-    /// Whether it leaves the lent work slots zero: 6 to 9, met while working.
+    /// Whether it leaves the lent work slots zero: 6 to 9 and 15, met while working.
     #[must_use]
     pub fn clears_work(self) -> bool {
-        (6..=9).contains(&self.number())
+        matches!(self.number(), 6..=9 | 15)
     }
 
     /// The refusal of an answer, or none for number 0.
@@ -125,6 +132,7 @@ impl Refusal {
             8 => Refusal::Draws,
             9 => Refusal::Result,
             10 => Refusal::Record { record: place },
+            15 => Refusal::Absent { edit: place },
             16 => Refusal::Unclosed,
             number => Refusal::Other { number, place },
         })
@@ -142,7 +150,7 @@ impl Refusal {
 impl fmt::Display for Refusal {
     fn fmt(&self, f: &mut fmt::Formatter<'_>) -> fmt::Result {
         let (named, why) = match self {
-            Refusal::TooMany => (false, "too many particles, links, ticks, iterations or corners"),
+            Refusal::TooMany => (false, "too many particles, links, ticks, iterations, corners or edits"),
             Refusal::Lengths => (false, "lent lengths disagree with the counts"),
             Refusal::LinkEnd { .. } => (true, "a link's end is not a particle"),
             Refusal::Coordinate { .. } => (true, "a coordinate is out of range"),
@@ -154,6 +162,7 @@ impl fmt::Display for Refusal {
             Refusal::Result => (false, "a result out of range"),
             Refusal::Record { record: 0 } => (false, "the length is no multiple of 40, or the first record has an unknown flag"),
             Refusal::Record { .. } => (true, "an unknown flag"),
+            Refusal::Absent { .. } => (true, "what it removes isn't there"),
             Refusal::Unclosed => (false, "the outline doesn't close"),
             Refusal::Other { .. } => (true, "a refusal that is not known here"),
         };

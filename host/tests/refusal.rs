@@ -8,11 +8,11 @@ fn refusal(number: u64, place: u64) -> Refusal {
 #[test]
 fn every_number() {
     assert_eq!(Refusal::of(raw::Refusal { number: 0, place: 0 }), None);
-    for number in (1..=10).chain([16]) {
+    for number in (1..=10).chain([15, 16]) {
         let place = if [1, 2, 8, 9, 16].contains(&number) { 0 } else { 7 };
         let refusal = refusal(number, place);
         assert_eq!((refusal.number(), refusal.place() as u64), (number, place));
-        assert_eq!(refusal.clears_work(), (6..=9).contains(&number));
+        assert_eq!(refusal.clears_work(), [6, 7, 8, 9, 15].contains(&number));
     }
 }
 
@@ -29,7 +29,7 @@ fn a_number_that_no_call_gives() {
 #[test]
 fn a_place_is_shown_where_there_is_one() {
     let shown = [
-        (1, 0, "refused 1: too many particles, links, ticks, iterations or corners"),
+        (1, 0, "refused 1: too many particles, links, ticks, iterations, corners or edits"),
         (2, 0, "refused 2: lent lengths disagree with the counts"),
         (3, 0, "refused 3 at 0: a link's end is not a particle"),
         (4, 0, "refused 4 at 0: a coordinate is out of range"),
@@ -41,6 +41,7 @@ fn a_place_is_shown_where_there_is_one() {
         (9, 0, "refused 9: a result out of range"),
         (10, 0, "refused 10: the length is no multiple of 40, or the first record has an unknown flag"),
         (10, 4095, "refused 10 at 4095: an unknown flag"),
+        (15, 0, "refused 15 at 0: what it removes isn't there"),
         (16, 0, "refused 16: the outline doesn't close"),
     ];
     for (number, place, text) in shown {

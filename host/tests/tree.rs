@@ -1,53 +1,18 @@
 //! The tree call through the archive: T1 to T8, refusals, and every lent byte.
 mod fence;
+mod listed;
 
-use fence::Fenced;
+use listed::{lend, Listed};
 use talemiku::{sheet_of, tree, Particle, Refusal, ROW_NUMBERS, SLOT_WORDS};
 
 const LIMIT: f64 = 1_099_511_627_776.0; // 2^40
-const RUBBISH: u32 = 0xdead_beef;
-const WORK: u64 = 0x7ff4_0000_dead_beef;
-
-/// What a tree call says and leaves.
-#[derive(Debug, PartialEq)]
-struct Listed {
-    extent: [f64; 4],
-    rows: Vec<[u32; 4]>,
-    chains: Vec<u32>,
-}
 
 fn still(points: &[[f64; 2]]) -> Vec<u8> {
     sheet_of(&points.iter().map(|p| Particle::at(p[0], p[1])).collect::<Vec<_>>())
 }
 
-/// Calls, and looks at all that was lent. The words left over after whole slots are zeroed with the rest.
 fn list_with(slots: usize, sheet: &[u8], rows: usize, chains: usize) -> Result<Listed, Refusal> {
-    let (rows, chains, work) = (vec![RUBBISH; rows], vec![RUBBISH; chains], vec![WORK; slots * SLOT_WORDS + 3]);
-    let mut lent_rows = Fenced::new(&rows, RUBBISH);
-    let mut lent_chains = Fenced::new(&chains, RUBBISH);
-    let mut lent_work = Fenced::new(&work, WORK);
-    let answer = tree(sheet, lent_rows.part(), lent_chains.part(), lent_work.part());
-    let rows_now = lent_rows.now().expect("beside the rows");
-    let chains_now = lent_chains.now().expect("beside the chains");
-    let work_now = lent_work.now().expect("beside the work");
-    let zero = vec![0; work.len()];
-    let tree = match answer {
-        Ok(tree) => tree,
-        Err(refusal) => {
-            assert_eq!((rows_now, chains_now), (&rows[..], &chains[..]), "results after {refusal}");
-            assert_eq!(work_now, if refusal.clears_work() { &zero } else { &work }, "work after {refusal}");
-            return Err(refusal);
-        }
-    };
-    assert_eq!(work_now, zero);
-    let (used, rest) = rows_now.split_at(tree.nodes * ROW_NUMBERS);
-    assert!(rest.iter().all(|&word| word == 0), "unused rows");
-    let e = tree.extent;
-    Ok(Listed {
-        extent: [e.x0, e.y0, e.x1, e.y1],
-        rows: used.chunks(4).map(|r| [r[0], r[1], r[2], r[3]]).collect(),
-        chains: chains_now.to_vec(),
-    })
+    lend(slots, rows, chains, |rows, chains, work| tree(sheet, rows, chains, work))
 }
 
 fn list(slots: usize, points: &[[f64; 2]]) -> Result<Listed, Refusal> {
