@@ -1,10 +1,10 @@
 //! The archive's side, through the crate of host/. What is lent is laid out before; work slots hold rubbish.
 
-use crate::input::{Input, COOLING, DECAY, LEAST, TICKS};
-use crate::meter::Meter;
+use crate::input::{Edit, Input, COOLING, DECAY, LEAST, TICKS};
+use crate::meter::{Cost, Meter};
 use crate::Done;
 use talemiku::raw;
-use talemiku::{Force, Forces, Links, SLOT_WORDS};
+use talemiku::{Edits, Force, Forces, Links, RECORD_BYTES, ROW_NUMBERS, SLOT_WORDS};
 
 const RUBBISH: u64 = 0x7ff4_0000_dead_beef;
 
@@ -59,18 +59,108 @@ fn whole(draws: u64, alpha: u64, sheet: &[u8]) -> Vec<u64> {
     bits
 }
 
-pub fn tree(input: &Input, meter: &mut Meter) -> Done {
-    let (sheet, mut work) = (sheet(input), work(input));
-    let mut rows = vec![0; input.slots() * talemiku::ROW_NUMBERS];
-    let mut chains = vec![0; input.particles.len()];
-    let (cost, answer) = meter.measure(|| raw::tree(&sheet, &mut rows, &mut chains, &mut work));
+/// How many nodes, the extent, then the nodes and the chains; what was left over of these lists isn't in them.
+fn listed(answer: raw::TreeAnswer, rows: &[u32], chains: &[u32]) -> Vec<u64> {
     accepted(answer.refusal);
     let e = answer.extent;
-    rows.truncate(answer.nodes as usize * talemiku::ROW_NUMBERS);
     let mut bits = vec![answer.nodes];
     bits.extend([e.x0, e.y0, e.x1, e.y1].map(f64::to_bits));
-    bits.extend(rows.iter().chain(&chains).map(|&n| u64::from(n)));
-    Done { cost, bits, nodes: answer.nodes }
+    bits.extend(rows[..answer.nodes as usize * ROW_NUMBERS].iter().chain(chains).map(|&n| u64::from(n)));
+    bits
+}
+
+pub fn tree(input: &Input, meter: &mut Meter) -> Done {
+    let (sheet, mut work) = (sheet(input), work(input));
+    let mut rows = vec![0; input.slots() * ROW_NUMBERS];
+    let mut chains = vec![0; input.particles.len()];
+    let (cost, answer) = meter.measure(|| raw::tree(&sheet, &mut rows, &mut chains, &mut work));
+    Done { cost, bits: listed(answer, &rows, &chains), nodes: answer.nodes }
+}
+
+/// What a list of edits gave.
+struct Edited {
+    cost: Cost,
+    answer: raw::TreeAnswer,
+    rows: Vec<u32>,
+    chains: Vec<u32>,
+}
+
+/// The call on so many edits.
+fn edited(input: &Input, count: usize, meter: &mut Meter) -> Edited {
+    let mut list = Edits::new();
+    for &edit in &input.edits[..count] {
+        match edit {
+            Edit::In(i) => assert_eq!(list.insert(input.particles[i][0], input.particles[i][1]), i),
+            Edit::Out(i) => list.remove(i),
+        }
+    }
+    let mut rows = vec![0; input.slots() * ROW_NUMBERS];
+    let mut chains = vec![0; list.insertions()];
+    let mut work = work(input);
+    let (cost, answer) = meter.measure(|| raw::edits(list.words(), &mut rows, &mut chains, &mut work));
+    accepted(answer.refusal);
+    chains.truncate(input.there(count).len());
+    Edited { cost, answer, rows, chains }
+}
+
+/// Measures the call on all edits; `bits_of` says what is compared of the trees that so many edits leave. The nodes are the most that one of these has.
+fn all_edits(input: &Input, meter: &mut Meter, bits_of: impl Fn(Edited) -> Vec<u64>) -> Done {
+    let cost = edited(input, input.edits.len(), meter).cost;
+    let (mut bits, mut nodes) = (Vec::new(), 0);
+    for edits in input.looks() {
+        let made = edited(input, edits, &mut Meter::seconds());
+        nodes = nodes.max(made.answer.nodes);
+        bits.extend(bits_of(made));
+    }
+    Done { cost, bits, nodes }
+}
+
+fn numbers(mut chains: Vec<u32>) -> impl Iterator<Item = u64> {
+    chains.sort_unstable();
+    chains.into_iter().map(u64::from)
+}
+
+pub fn edits(input: &Input, meter: &mut Meter) -> Done {
+    all_edits(input, meter, |made| listed(made.answer, &made.rows, &made.chains))
+}
+
+/// The same, where all that is compared is which points the trees have.
+pub fn edits_for_each(input: &Input, meter: &mut Meter) -> Done {
+    all_edits(input, meter, |made| numbers(made.chains).collect())
+}
+
+/// The call on a sheet after each edit: a record is added at its end, or is taken out. It is lent four slots a point that is there, and 64.
+pub fn tree_at_each(input: &Input, meter: &mut Meter) -> Done {
+    let all = sheet(input);
+    let looks: Vec<usize> = input.looks().collect();
+    let mut work = work(input);
+    let mut rows = vec![0; input.slots() * ROW_NUMBERS];
+    let mut chains = vec![0; input.particles.len()];
+    let (mut sheet, mut there) = (Vec::new(), Vec::new());
+    let (cost, bits) = meter.measure(|| {
+        let mut bits = Vec::new();
+        for (k, &edit) in input.edits.iter().enumerate() {
+            match edit {
+                Edit::In(i) => {
+                    there.push(i as u32);
+                    sheet.extend_from_slice(&all[i * RECORD_BYTES..(i + 1) * RECORD_BYTES]);
+                }
+                Edit::Out(i) => {
+                    let place = there.binary_search(&(i as u32)).expect("a point that is there");
+                    there.remove(place);
+                    sheet.drain(place * RECORD_BYTES..(place + 1) * RECORD_BYTES);
+                }
+            }
+            let slots = 4 * there.len() + 64;
+            let chains = &mut chains[..there.len()];
+            accepted(raw::tree(&sheet, &mut rows[..slots * ROW_NUMBERS], chains, &mut work[..slots * SLOT_WORDS]).refusal);
+            if looks.contains(&(k + 1)) {
+                bits.extend(numbers(chains.iter().map(|&c| there[c as usize]).collect()));
+            }
+        }
+        bits
+    });
+    Done { cost, bits, nodes: 0 }
 }
 
 pub fn many_body(input: &Input, meter: &mut Meter) -> Done {

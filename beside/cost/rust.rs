@@ -1,6 +1,6 @@
 //! The Rust's side. A force is initialized and applied, as a call is lent its lists; of a tick and a step the forces are initialized before.
 
-use crate::input::{Input, COOLING, DECAY, LEAST, TICKS};
+use crate::input::{Edit, Input, COOLING, DECAY, LEAST, TICKS};
 use crate::meter::Meter;
 use crate::Done;
 use fjadra::force::jiggle::{apply, lend, ran_dry, used, Force, Particle, ParticleIndex};
@@ -65,18 +65,75 @@ fn simulation(input: &Input) -> Simulation {
         .add_force("3", Center::new().x(500.0).y(500.0))
 }
 
+type Tree = Quadtree<(), usize>;
+
+/// A point, and its number.
+fn point(input: &Input, i: usize) -> (f64, f64, usize) {
+    let [x, y, ..] = input.particles[i];
+    (x, y, i)
+}
+
+/// How many nodes, the extent, then the nodes and the chains as they were listed.
+fn listed((rows, chains): &(Vec<u32>, Vec<u32>), extent: ([i64; 2], [i64; 2])) -> Vec<u64> {
+    let mut bits = vec![rows.len() as u64 / 4];
+    bits.extend([extent.0[0], extent.0[1], extent.1[0], extent.1[1]].map(|end| (end as f64).to_bits()));
+    bits.extend(rows.iter().chain(chains).map(|&n| u64::from(n)));
+    bits
+}
+
 pub fn tree(input: &Input, meter: &mut Meter) -> Done {
-    let (mut rows, mut chains) = (Vec::new(), Vec::new());
+    let mut lists = (Vec::new(), Vec::new());
     let points = input.particles.iter().enumerate().map(|(i, p)| (p[0], p[1], i));
     let (cost, extent) = meter.measure(|| {
-        let tree = Quadtree::<(), usize>::from_particles(points);
-        tree.list_flat(&mut rows, &mut chains);
+        let tree = Tree::from_particles(points);
+        tree.list_flat(&mut lists.0, &mut lists.1);
         tree.extent()
     });
-    let ends = [extent.0[0], extent.0[1], extent.1[0], extent.1[1]].map(|end| (end as f64).to_bits());
-    let mut bits = vec![rows.len() as u64 / 4];
-    bits.extend(ends);
-    bits.extend(rows.iter().chain(&chains).map(|&n| u64::from(n)));
+    Done { cost, bits: listed(&lists, extent), nodes: 0 }
+}
+
+/// Measures the tree of all points, edits aside. What is compared is the tree that so many edits leave: all points that were in are covered, and those that are there go in.
+pub fn tree_beside_edits(input: &Input, meter: &mut Meter) -> Done {
+    let cost = tree(input, meter).cost;
+    let mut bits = Vec::new();
+    for edits in input.looks() {
+        let mut tree = Tree::default();
+        for edit in &input.edits[..edits] {
+            if let Edit::In(i) = *edit {
+                let (x, y, _) = point(input, i);
+                tree.cover(x, y);
+            }
+        }
+        for (x, y, i) in input.there(edits).iter().map(|&i| point(input, i)) {
+            tree.insert(x, y, i);
+        }
+        let mut lists = (Vec::new(), Vec::new());
+        tree.list_flat(&mut lists.0, &mut lists.1);
+        bits.extend(listed(&lists, tree.extent()));
+    }
+    Done { cost, bits, nodes: 0 }
+}
+
+/// A tree afresh after each edit, of what is then there. What is compared is which points it has.
+pub fn tree_at_each(input: &Input, meter: &mut Meter) -> Done {
+    let looks: Vec<usize> = input.looks().collect();
+    let mut there: Vec<(f64, f64, usize)> = Vec::new();
+    let (cost, bits) = meter.measure(|| {
+        let mut bits = Vec::new();
+        for (k, &edit) in input.edits.iter().enumerate() {
+            match edit {
+                Edit::In(i) => there.push(point(input, i)),
+                Edit::Out(i) => there.retain(|p| p.2 != i),
+            }
+            let (mut rows, mut chains) = (Vec::new(), Vec::new());
+            Tree::from_particles(there.iter().copied()).list_flat(&mut rows, &mut chains);
+            if looks.contains(&(k + 1)) {
+                chains.sort_unstable();
+                bits.extend(chains.iter().map(|&i| u64::from(i)));
+            }
+        }
+        bits
+    });
     Done { cost, bits, nodes: 0 }
 }
 

@@ -2,7 +2,6 @@
 
 use crate::fence::Fenced;
 use crate::random::Random;
-use std::collections::BTreeMap;
 use std::fmt;
 use talemiku::raw::{self, Refusal};
 
@@ -122,37 +121,16 @@ impl fmt::Display for Answer {
     }
 }
 
-/// How many were answered by each number.
-fn counts(cases: u64, numbers: &BTreeMap<u64, u64>) -> String {
-    let refused: String =
-        numbers.iter().filter(|(&number, _)| number != 0).map(|(number, count)| format!(", refused {number}: {count}")).collect();
-    format!("unwrap: {cases} cases, {} accepted{refused}", numbers.get(&0).unwrap_or(&0))
-}
-
-/// Whether the archive answers all cases as the reading does; the first that it doesn't is told with both answers.
+/// With other rubbish lent for each case.
 fn hold(all: impl Iterator<Item = Case>) -> bool {
-    let mut cases = 0;
-    let mut numbers = BTreeMap::new();
-    for case in all {
-        cases += 1;
-        // other rubbish for each case
+    crate::hold("unwrap", all, |cases, case: &Case| {
         let mut rubbish = Random::new(!cases);
         let beside = rubbish.any();
         let before: Vec<i64> = (0..case.room).map(|_| rubbish.any()).collect();
-        let read = reading(&case, &before);
-        let told = match archive(&case, &before, beside) {
-            Ok(answer) if answer == read => None,
-            Ok(answer) => Some(answer.to_string()),
-            Err(wrong) => Some(wrong.to_string()),
-        };
-        if let Some(told) = told {
-            println!("case {cases}: {case}\nreading: {read}\narchive: {told}\n{cases} cases, 1 differ");
-            return false;
-        }
-        *numbers.entry(read.refusal.number).or_default() += 1;
-    }
-    println!("{}\n{cases} cases, 0 differ", counts(cases, &numbers));
-    true
+        let read = reading(case, &before);
+        let number = read.refusal.number;
+        ((read, number), archive(case, &before, beside))
+    })
 }
 
 // ---- every small case
