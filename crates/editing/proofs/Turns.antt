@@ -15,7 +15,6 @@ use Rattle.rules.specs.Cell.{nowhere}
 use Rattle.rules.specs.Tree.{chainsOf, treeIn}
 use Rattle.rules.specs.Edits.{Edit, editOf, editsOf, insertions, Present, present, edited, presentAfter, extentNow, treeNow, editCheck, editsFrom}
 use Rattle.slots.specs.declared.Quadtree.{Quadtree}
-use Rattle.quadtree.specs.declared.build.Built.{Built}
 use Rattle.quadtree.specs.declared.build.Built.the-variants as Built
 use Rattle.quadtree.specs.Build.{particles}
 use Rattle.rules.proofs.CellRule.{tree-whole, chains-in, chains-length}

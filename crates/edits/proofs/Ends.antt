@@ -11,11 +11,11 @@ use Rattle.rules.specs.declared.Extent.{Extent}
 use Rattle.rules.specs.declared.Refusal.{Refusal}
 use Rattle.rules.specs.declared.TreeAnswer.{TreeAnswer}
 use Rattle.rules.specs.Number.{within, xAt, yAt}
-use Rattle.rules.specs.Outcome.{done, refused, refusal, fine, _then_, _>>=_, refusalOf, ifDone, zeroesWork}
+use Rattle.rules.specs.Outcome.{done, refused, refusal, fine, refusalOf, ifDone, zeroesWork}
 use Rattle.rules.specs.Cell.{nowhere}
 use Rattle.rules.specs.Tree.{Tree, nodes, depth, fitsCheck, greatestLevel}
 use Rattle.rules.specs.Calls.{slotsOf}
-use Rattle.rules.specs.Edits.{Edit, pointsOf, insertions, Present, present, edited, presentAfter, there, extentNow, treeNow, editCheck, editsFrom, EditsInput, editList, editInputCheck, editsResult, editsAnswer, editRowsAfter, editChainsAfter, editWorkAfter}
+use Rattle.rules.specs.Edits.{Edit, pointsOf, insertions, Present, present, edited, presentAfter, removable, extentNow, treeNow, editCheck, editsFrom, EditsInput, editList, editInputCheck, editsResult, editsAnswer, editRowsAfter, editChainsAfter, editWorkAfter}
 use Rattle.quadtree.specs.declared.build.Built.{Built}
 use Rattle.quadtree.specs.declared.build.Built.the-variants as Built
 use Rattle.quadtree.specs.Build.{particles}
@@ -40,7 +40,7 @@ fits-met slots k t = of-require (leb (depth t) (greatestLevel + 1)) 6 k (λ z. o
 edits-met : (at : List Float) (slots k : ℕ) (s : Present) (es : List Edit) → Refuses Met (editsFrom at slots k s es)
 unfolding editsFrom editCheck zeroesWork
 edits-met at slots k s [] = of-done
-edits-met at slots k s (e ∷ es) = of-require (there s e) 15 k (λ z. omega arith, refl) then· fits-met slots k (treeNow at (edited s e)) >>=· λ _. edits-met at slots (k + 1) (edited s e) es
+edits-met at slots k s (e ∷ es) = of-require (removable s e) 15 k (λ z. omega arith, refl) then· fits-met slots k (treeNow at (edited s e)) >>=· λ _. edits-met at slots (k + 1) (edited s e) es
 
 -- ---- past the checks
 

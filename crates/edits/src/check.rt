@@ -41,5 +41,7 @@ pub fn input_check(edits: &[u64], rows: &[u32], chains: &[u32], work: &[u64]) ->
         chains.len(),
         insertions(edits),
     );
-    first(lengths_check(agreed), words_check(edits))
+    let lengths = lengths_check(agreed);
+    let bad = words_check(edits);
+    first(lengths, bad)
 }

@@ -8,9 +8,8 @@ use native.Mathlib.Omega.{arith}
 use lib.ListN.{length, getD, set}
 use lib.Seq.{getD-set-same, getD-set-other}
 use lib.Ieee.{Float}
-use Rattle.rules.specs.Plain.{keep}
 use Rattle.rules.specs.Tree.{same}
-use Rattle.rules.proofs.CellList.{In, in-some, in-keep, keep-in, keep-append}
+use Rattle.rules.proofs.CellList.{In, in-some, in-keep, keep-in, keep-append, keep-agree}
 use Rattle.rules.proofs.CellPoints.{same-sym, same-trans}
 use Rattle.rules.proofs.CellChain.{Chain}
 use Rattle.slots.specs.Trees.{Follows, first, Trails, Rises, lastOr}
@@ -39,10 +38,6 @@ pub none-in : (l : List ℕ) → ((i : ℕ) → In i l → ⊥) → l ≡ []
 none-in [] f = refl
 none-in (j ∷ l) f = absurd (f j (inl refl))
 
-keep-agree : (p r : ℕ → Bool) (l : List ℕ) → ((i : ℕ) → p i ≡ r i) → keep p l ≡ keep r l
-keep-agree p r [] f = refl
-keep-agree p r (j ∷ l) f = rw (f j, keep-agree p r l f)
-
 module _ (at : List Float) where
   -- points that are numerically equal have the same others at their point
   pub same-point : (i j : ℕ) → same at i j ≡ true → (k : ℕ) → same at i k ≡ same at j k
@@ -55,7 +50,7 @@ module _ (at : List Float) where
       go false true f g = absurd (true≢false (sym (same-trans at i j k e g) ∙ f))
 
   pub chain-point : (is : List ℕ) (i j : ℕ) → same at i j ≡ true → atPoint at is i ≡ atPoint at is j
-  chain-point is i j e = keep-agree (same at i) (same at j) is (same-point i j e)
+  chain-point is i j e = keep-agree (same at i) (same at j) is (λ k _. same-point i j e k)
 
   -- no particle is in two chains
   pub apart : (is : List ℕ) (i j k : ℕ) → same at i j ≡ false → In k (atPoint at is i) → In k (atPoint at is j) → ⊥

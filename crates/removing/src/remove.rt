@@ -23,9 +23,11 @@ pub fn remove(
 {
     let spot = take::leaf_of(m, at, q, i);
     let tag = store::tag(m, spot.leaf);
-    let link = leave(next, tail, (tag - 1) as usize, i);
+    let first = (tag - 1) as usize;
+    let link = leave(next, tail, first, i);
     if link != 0 {
-        store::put_leaf(m, spot.leaf, link - 1);
+        let remaining = link - 1;
+        store::put_leaf(m, spot.leaf, remaining);
         return q;
     }
     take::cut(m, at, q, i, spot)

@@ -1,11 +1,11 @@
 -- Laws of the rule of edits: which numbers are there after some edits, and that trees and extents look only at the points that they are given.
-use mathlib.Core.Path.{_≡_, refl, sym, ap, ap₂, _∙_}
-use mathlib.Core.Logic.{_≢_, inl, inr, _↔_}
-use mathlib.Core.Bool.{Bool, true, false, not, cond, _&&_, _||_, true≢false}
+use mathlib.Core.Path.{_≡_, refl, sym, ap, _∙_}
+use mathlib.Core.Logic.{_⊎_, _≢_, inl, inr, ⊎-elim, _↔_}
+use mathlib.Core.Bool.{Bool, true, false, not, cond, _||_, true≢false}
 use mathlib.Core.List.{List, [], _∷_, _++_}
 use Prim.Native.Nat.{ℕ, zero, suc, _+_, _*_, _≤_, _<_}
 use native.Mathlib.Omega.{arith}
-use native.Mathlib.Decide.{ℕ-discrete}
+use native.Mathlib.Decide.{ℕ-discrete, decLt}
 use native.Mathlib.Numerals.{add-one}
 use lib.Dec.{eqb}
 use lib.ListN.{length, getD, take, length-append}
@@ -13,15 +13,15 @@ use lib.Seq.{take-suc, take-take, length-take-le, getD-take}
 use lib.Ieee.{Float}
 use borrow.Author.Tests.{eqb-true, eq-eqb, ne-eqb}
 use Rattle.rules.specs.declared.Extent.{Extent}
-use Rattle.rules.specs.Plain.{keep, all, foldl}
+use Rattle.rules.specs.Plain.{keep, foldl}
 use Rattle.rules.specs.Number.{xAt, yAt}
 use Rattle.rules.specs.Floor.{floor}
 use Rattle.rules.specs.Cell.{quarter}
 use Rattle.rules.specs.Cover.{Covered, nothing, coverPoint, coverAll}
 use Rattle.rules.specs.Tree.{same, alike, inQuarter, pointsIn, grow, treeIn}
-use Rattle.rules.specs.Edits.{Edit, insertion, removal, unknown, editOf, editsOf, pointsOf, insertions, Present, others, edited, presentAfter, among, there}
+use Rattle.rules.specs.Edits.{Edit, insertion, removal, unknown, editOf, editsOf, pointsOf, insertions, Present, others, edited, presentAfter, among, removable}
 use Rattle.rules.specs.Terms.{times}
-use Rattle.rules.proofs.CellList.{In, in-keep}
+use Rattle.rules.proofs.CellList.{In, in-keep, keep-agree, all-agree}
 use Rattle.rules.proofs.CellIs.{grow-none, grow-leaf, grow-node, grow-stop}
 
 -- ---- members
@@ -196,7 +196,7 @@ comes-from i s (removal j ∷ es) l m h = comes-from i (edited s (removal j)) es
 comes-from i s (unknown ∷ es) l m h = comes-from i s es l m (λ k l. h (suc k) (omega arith))
 
 -- where every edit removes only what is there, nothing that is left was removed
-unremoved-from : (i : ℕ) (s : Present) (es : List Edit) → Kept s → ((k : ℕ) → k < length es → there (foldl edited s (take k es)) (getD es k unknown) ≡ true) → among i (foldl edited s es .left) ≡ true
+unremoved-from : (i : ℕ) (s : Present) (es : List Edit) → Kept s → ((k : ℕ) → k < length es → removable (foldl edited s (take k es)) (getD es k unknown) ≡ true) → among i (foldl edited s es .left) ≡ true
     → (k : ℕ) → k < length es → getD es k unknown ≢ removal i
 unremoved-from i s [] h t e k l r = omega arith
 unremoved-from i s (f ∷ es) h t e zero l r =
@@ -209,14 +209,14 @@ module _ (i : ℕ) (es : List Edit) where
   left-made : among i (presentAfter es .left) ≡ true → i < insertions es
   left-made e = omega (arith, kept-after es .earlier i (among-in i (presentAfter es .left) e), made-after es)
 
-  left-unremoved : ((k : ℕ) → k < length es → there (presentAfter (take k es)) (getD es k unknown) ≡ true) → among i (presentAfter es .left) ≡ true → (k : ℕ) → k < length es → getD es k unknown ≢ removal i
+  left-unremoved : ((k : ℕ) → k < length es → removable (presentAfter (take k es)) (getD es k unknown) ≡ true) → among i (presentAfter es .left) ≡ true → (k : ℕ) → k < length es → getD es k unknown ≢ removal i
   left-unremoved t e = unremoved-from i (presentAfter []) es (kept-after []) t e
 
   left-still : i < insertions es → ((k : ℕ) → k < length es → getD es k unknown ≢ removal i) → among i (presentAfter es .left) ≡ true
   left-still l h = comes-from i (presentAfter []) es (omega arith) (omega arith) h
 
 -- after the first k edits
-pub left-at : (es : List Edit) (k i : ℕ) → k ≤ length es → ((j : ℕ) → j < k → there (presentAfter (take j es)) (getD es j unknown) ≡ true)
+pub left-at : (es : List Edit) (k i : ℕ) → k ≤ length es → ((j : ℕ) → j < k → removable (presentAfter (take j es)) (getD es j unknown) ≡ true)
     → (among i (presentAfter (take k es) .left) ≡ true) ↔ ((i < insertions (take k es)) × ((j : ℕ) → j < k → getD es j unknown ≢ removal i))
 left-at es k i l t =
     let n = length-take-le k es l in (
@@ -226,6 +226,54 @@ left-at es k i l t =
       ),
       λ (m, h). left-still i (take k es) m (λ j o. rw (getD-take k es j unknown (omega arith)) (h j (omega arith))),
     )
+
+-- ---- what isn't there
+
+-- a removal's number and one more, 0 for any other edit
+abbrev taken : Edit → ℕ
+taken (insertion x y) = 0
+taken (removal i) = suc i
+taken unknown = 0
+
+-- one of the first k edits removes i, or none does
+removed-or-not : (es : List Edit) (i k : ℕ) → ((j : ℕ) × (j < k) × (getD es j unknown ≡ removal i)) ⊎ ((j : ℕ) → j < k → getD es j unknown ≢ removal i)
+removed-or-not es i zero = inr (λ j l. absurd (omega arith))
+removed-or-not es i (suc k) = ⊎-elim (λ (j, l, e). inl (j, omega arith, e)) (λ n. go (getD es k unknown) refl n) (removed-or-not es i k)
+  where
+    none : getD es k unknown ≢ removal i → ((j : ℕ) → j < k → getD es j unknown ≢ removal i) → (j : ℕ) → j < suc k → getD es j unknown ≢ removal i
+    none m n j l = elim (decLt j k) [ yes o ↦ n j o | no o ↦ let z : j ≡ k = omega arith in rw z m ]
+
+    go : (e : Edit) → getD es k unknown ≡ e → ((j : ℕ) → j < k → getD es j unknown ≢ removal i)
+        → ((j : ℕ) × (j < suc k) × (getD es j unknown ≡ removal i)) ⊎ ((j : ℕ) → j < suc k → getD es j unknown ≢ removal i)
+    go (insertion x y) z n = inr (none (λ w. let e = ap taken (sym z ∙ w) in omega arith) n)
+    go (removal p) z n = elim (ℕ-discrete p i) [
+      | yes q ↦ inl (k, omega arith, z ∙ ap removal q)
+      | no q ↦ inr (none (λ w. let e = ap taken (sym z ∙ w) in q (omega arith)) n)
+    ]
+    go unknown z n = inr (none (λ w. let e = ap taken (sym z ∙ w) in omega arith) n)
+
+-- What edit k removes isn't there exactly where it is a removal, and no insertion before it has that number or an earlier edit removes that one.
+pub absent-at : (es : List Edit) (k : ℕ) → k ≤ length es → ((j : ℕ) → j < k → removable (presentAfter (take j es)) (getD es j unknown) ≡ true)
+    → (removable (presentAfter (take k es)) (getD es k unknown) ≡ false)
+    ↔ ((i : ℕ) × (getD es k unknown ≡ removal i) × ((insertions (take k es) ≤ i) ⊎ ((j : ℕ) × (j < k) × (getD es j unknown ≡ removal i))))
+absent-at es k l t = (λ f. forth (getD es k unknown) refl f, λ (i, z, w). rw z (back i w (among i (presentAfter (take k es) .left)) refl))
+  where
+    forth : (e : Edit) → getD es k unknown ≡ e → removable (presentAfter (take k es)) e ≡ false
+        → (i : ℕ) × (getD es k unknown ≡ removal i) × ((insertions (take k es) ≤ i) ⊎ ((j : ℕ) × (j < k) × (getD es j unknown ≡ removal i)))
+    forth (insertion x y) z f = absurd (true≢false f)
+    forth (removal i) z f = (
+      i,
+      z,
+      elim (decLt i (insertions (take k es))) [
+        | yes m ↦ ⊎-elim (λ r. inr r) (λ n. absurd (true≢false (sym (left-at es k i l t .1 (m, n)) ∙ f))) (removed-or-not es i k)
+        | no m ↦ inl (omega arith)
+      ],
+    )
+    forth unknown z f = absurd (true≢false f)
+
+    back : (i : ℕ) → (insertions (take k es) ≤ i) ⊎ ((j : ℕ) × (j < k) × (getD es j unknown ≡ removal i)) → (b : Bool) → among i (presentAfter (take k es) .left) ≡ b → among i (presentAfter (take k es) .left) ≡ false
+    back i w true e = let (m, n) = left-at es k i l t .0 e in absurd (⊎-elim (λ o. omega arith) (λ (j, o, q). n j o q) w)
+    back i w false e = e
 
 -- ---- more edits at the end
 
@@ -254,14 +302,6 @@ insertions-append (unknown ∷ es) fs = insertions-append es fs
 -- the points with these numbers are the same in both lists
 abbrev pub Agree : List Float → List Float → List ℕ → Type 0
 Agree at at′ is = (i : ℕ) → In i is → (xAt at i ≡ xAt at′ i) × (yAt at i ≡ yAt at′ i)
-
-keep-agree : (p r : ℕ → Bool) (l : List ℕ) → ((i : ℕ) → In i l → p i ≡ r i) → keep p l ≡ keep r l
-keep-agree p r [] h = refl
-keep-agree p r (j ∷ l) h = ap₂ (λ (b : Bool) (m : List ℕ). cond b (j ∷ m) m) (h j (inl refl)) (keep-agree p r l (λ i m. h i (inr m)))
-
-all-agree : (p r : ℕ → Bool) (l : List ℕ) → ((i : ℕ) → In i l → p i ≡ r i) → all p l ≡ all r l
-all-agree p r [] h = refl
-all-agree p r (j ∷ l) h = ap₂ _&&_ (h j (inl refl)) (all-agree p r l (λ i m. h i (inr m)))
 
 module _ (at at′ : List Float) where
   same-agree : (is : List ℕ) → Agree at at′ is → (i j : ℕ) → In i is → In j is → same at i j ≡ same at′ i j

@@ -89,20 +89,20 @@ module _ (at : List Float) (s : Present) where
   unfoldable pub extentNow : Extent
   extentNow = extentOf (coverFirst at (s .made))
 
-  -- by the cell rule, of the points still there
+  -- By the cell rule, of the points still there. A leaf's bits are those of its chain's first, so they become those of the first that remains.
   unfoldable pub treeNow : Tree Extent
   treeNow = treeIn at extentNow (s .left)
 
--- removing what isn't there: no such insertion yet, or already removed
-abbrev pub there : Present → Edit → Bool
-there s (insertion x y) = true
-there s (removal i) = among i (s .left)
-there s unknown = true
+-- whether what it removes is there: that insertion was made, and isn't removed yet; an insertion removes nothing
+abbrev pub removable : Present → Edit → Bool
+removable s (insertion x y) = true
+removable s (removal i) = among i (s .left)
+removable s unknown = true
 
 module _ (at : List Float) (slots : ℕ) where
-  -- edit k of what is there: 15, then 6 and 7 of the tree at that edit
+  -- edit k, with s there before it: 15, then 6 and 7 of the tree at that edit
   unfoldable pub editCheck : ℕ → Present → Edit → Check
-  editCheck k s e = require (there s e) 15 k then fitsCheck slots k (treeNow at (edited s e))
+  editCheck k s e = require (removable s e) 15 k then fitsCheck slots k (treeNow at (edited s e))
 
   -- one after the other, from edit k on: the first that refuses
   unfoldable pub editsFrom : ℕ → Present → List Edit → Check

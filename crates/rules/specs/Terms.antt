@@ -1,4 +1,4 @@
--- The words in which the theorems about the public calls are put (talemiku/proofs/Theorems): what makes a tree that of the cell rule, its leaves, distinct points, chains, points in cells, what single walks, forces and ticks count, and the earliest edit that can't be made. Definitions only.
+-- The words in which the theorems about the public calls are put (talemiku/proofs/Theorems and EditTheorems): what makes a tree that of the cell rule, its leaves, distinct points, chains, points in cells, what single walks, forces and ticks count, and the earliest edit that can't be made. Definitions only.
 use mathlib.Core.Path.{_≡_}
 use mathlib.Core.Logic.{_⊎_, _≢_}
 use mathlib.Core.Bool.{Bool, true, false, cond, not, _&&_}
@@ -25,7 +25,7 @@ use Rattle.rules.specs.ManyBody.{standard, chargedTree, manyBodyStep}
 use Rattle.rules.specs.Collide.{radiusTree, collideStep}
 use Rattle.rules.specs.Force.{manyBody, collide, link}
 use Rattle.rules.specs.Tick.{Force, empty, push, center, unknown, State, state, forceStage, tick}
-use Rattle.rules.specs.Edits.{Edit, pointsOf, Present, presentAfter, among, extentNow, treeNow, there}
+use Rattle.rules.specs.Edits.{Edit, pointsOf, Present, presentAfter, among, extentNow, treeNow, removable}
 use Rattle.rules.specs.Edits as Edits
 
 -- ---- trees
@@ -53,7 +53,7 @@ Fits slots t = (depth t ≤ greatestLevel + 1) × (nodes t ≤ slots)
 -- The earliest of n particles whose prefix can't be built, in this many slots: every shorter prefix can; 6 is answered where its tree goes below level 64, else 7 where it has more nodes than slots.
 pub record Earliest (at : List Float) (n slots : ℕ) (r : Refusal) : Type 0 where
   pub among : r .place < n
-  pub before : (i : ℕ) → i < r .place → (depth (treeOf at (i + 1)) ≤ greatestLevel + 1) × (nodes (treeOf at (i + 1)) ≤ slots)
+  pub before : (i : ℕ) → i < r .place → Fits slots (treeOf at (i + 1))
   pub number : let t = treeOf at (r .place + 1) in ((r .number ≡ 6) × (greatestLevel + 1 < depth t)) ⊎ ((r .number ≡ 7) × (depth t ≤ greatestLevel + 1) × (slots < nodes t))
 
 -- neither 6 nor 7, by which a tree is refused
@@ -197,14 +197,14 @@ module _ (es : List Edit) where
   treeAt k = treeNow (pointsOf es) (presentAt k)
 
   -- edit k can be made, in this many slots: it removes only what is there, and the tree at it fits
-  abbrev pub Makes : ℕ → ℕ → Type 0
-  Makes slots k = (there (presentAt k) (nthEdit k) ≡ true) × Fits slots (treeAt (k + 1))
+  abbrev pub CanBeMade : ℕ → ℕ → Type 0
+  CanBeMade slots k = (removable (presentAt k) (nthEdit k) ≡ true) × Fits slots (treeAt (k + 1))
 
 -- The earliest edit that can't be made, in this many slots: every edit before it can; 15 is answered where what it removes isn't there, else 6 where the tree at it goes below level 64, else 7 where that has more nodes than slots.
 pub record EarliestEdit (es : List Edit) (slots : ℕ) (r : Refusal) : Type 0 where
   pub among : r .place < length es
-  pub before : (k : ℕ) → k < r .place → Makes es slots k
+  pub before : (k : ℕ) → k < r .place → CanBeMade es slots k
   pub number :
       let t = treeAt es (r .place + 1) in
-      let removable = there (presentAt es (r .place)) (nthEdit es (r .place)) in
-      ((r .number ≡ 15) × (removable ≡ false)) ⊎ ((r .number ≡ 6) × (removable ≡ true) × (greatestLevel + 1 < depth t)) ⊎ ((r .number ≡ 7) × (removable ≡ true) × (depth t ≤ greatestLevel + 1) × (slots < nodes t))
+      let ok = removable (presentAt es (r .place)) (nthEdit es (r .place)) in
+      ((r .number ≡ 15) × (ok ≡ false)) ⊎ ((r .number ≡ 6) × (ok ≡ true) × (greatestLevel + 1 < depth t)) ⊎ ((r .number ≡ 7) × (ok ≡ true) × (depth t ≤ greatestLevel + 1) × (slots < nodes t))

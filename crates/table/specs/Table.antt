@@ -605,7 +605,7 @@ edits l ends n rows chains =
     && sameBits (e .x0 ∷ e .y0 ∷ e .x1 ∷ e .y1 ∷ []) ends
     && equals (editRowsAfter l) rows
     && equals (editChainsAfter l) chains
-    && all (eqb 0) (editWorkAfter l)
+    && equals (editWorkAfter l) (replicate (length (l .work)) 0)
 
 nought : List Float
 nought = 0· ∷ 0· ∷ 0· ∷ 0· ∷ []
@@ -618,9 +618,9 @@ refusesEdits l number place w =
     isRefusal number place (a .refusal)
     && eqb (a .nodes) 0
     && sameBits (e .x0 ∷ e .y0 ∷ e .x1 ∷ e .y1 ∷ []) nought
-    && all (eqb 9) (editRowsAfter l)
-    && all (eqb 9) (editChainsAfter l)
-    && all (eqb w) (editWorkAfter l)
+    && equals (editRowsAfter l) (l .rows)
+    && equals (editChainsAfter l) (l .chains)
+    && equals (editWorkAfter l) (replicate (length (l .work)) w)
 
 -- 2 ^ 41
 beyond : Float
@@ -666,7 +666,7 @@ lapses =
     ∷ edits (editing 3 (origin ∷ on (plus 5) (plus 5) ∷ off 0 ∷ off 1 ∷ on 1· 1· ∷ [])) eight 1 (tip 0 0 1 ++ replicate 8 0) (2 ∷ 0 ∷ 0 ∷ [])
     -- it holds a later point as covering all in order does, not as covering those that are left would
     ∷ edits (editing 3 (origin ∷ on (minus 1) 0· ∷ off 0 ∷ off 1 ∷ on 0· 2· ∷ [])) (minus 1 ∷ 0· ∷ plus 3 ∷ plus 4 ∷ []) 1 (tip 0 0 1 ++ replicate 8 0) (2 ∷ 0 ∷ 0 ∷ [])
-    -- the first of two coincident labels goes: the leaf takes the other's bits; or the second, or the middle one of three
+    -- the first of two coincident labels goes: the other is then the first of the chain, whose bits are the leaf's; or the second goes, or the middle one of three
     ∷ edits (editing 1 (origin ∷ on −0· −0· ∷ off 0 ∷ [])) unit 1 (tip 0 0 1) (1 ∷ 0 ∷ [])
     ∷ edits (editing 1 (origin ∷ on −0· −0· ∷ off 1 ∷ [])) unit 1 (tip 0 0 1) (0 ∷ 0 ∷ [])
     ∷ edits (editing 1 (origin ∷ origin ∷ origin ∷ off 1 ∷ [])) unit 1 (tip 0 0 2) (0 ∷ 2 ∷ 0 ∷ [])
@@ -675,7 +675,7 @@ lapses =
     ∷ edits (editing 5 (origin ∷ on eighth 0· ∷ [])) unit 5 (inner 0 0 ++ inner 1 0 ++ inner 2 0 ++ tip 3 0 1 ++ tip 3 1 1) (0 ∷ 1 ∷ [])
     ∷ edits (editing 5 (origin ∷ on eighth 0· ∷ off 1 ∷ [])) unit 1 (tip 0 0 1 ++ replicate 16 0) (0 ∷ 0 ∷ [])
     ∷ edits (editing 5 (origin ∷ on eighth 0· ∷ off 0 ∷ [])) unit 1 (tip 0 0 1 ++ replicate 16 0) (1 ∷ 0 ∷ [])
-    ∷ edits (editing 6 (origin ∷ on eighth 0· ∷ on threeQuarters threeQuarters ∷ off 1 ∷ [])) unit 3 (inner 0 0 ++ tip 1 0 1 ++ tip 1 3 1 ++ replicate 12 0) (0 ∷ 2 ∷ 0 ∷ [])
+    ∷ edits (editing 7 (origin ∷ on (tiny 4) 0· ∷ on threeQuarters threeQuarters ∷ off 1 ∷ [])) unit 3 (inner 0 0 ++ tip 1 0 1 ++ tip 1 3 1 ++ replicate 16 0) (0 ∷ 2 ∷ 0 ∷ [])
     -- one internal child alone: it stays internal
     ∷ edits (editing 5 (origin ∷ on quarter· 0· ∷ on threeQuarters threeQuarters ∷ off 2 ∷ [])) unit 4 (inner 0 0 ++ inner 1 0 ++ tip 2 0 1 ++ tip 2 1 1 ++ replicate 4 0) (0 ∷ 1 ∷ 0 ∷ [])
     -- and two leaves left of three stay under their node
@@ -686,7 +686,7 @@ lapses =
     ∷ edits (editing 3 (origin ∷ on (half 1·) 0· ∷ off 0 ∷ origin ∷ off 1 ∷ on 0· (half 1·) ∷ [])) unit 3 (inner 0 0 ++ tip 1 0 1 ++ tip 1 2 1) (2 ∷ 3 ∷ 0 ∷ 0 ∷ [])
     ∷ refusesEdits (editing 2 (origin ∷ on (half 1·) 0· ∷ off 0 ∷ origin ∷ off 1 ∷ on 0· (half 1·) ∷ [])) 7 1 0
     ∷ refusesEdits (editing 0 (origin ∷ off 0 ∷ [])) 7 0 0
-    -- 15: not inserted yet, removed twice, no number that there could be, and the numbers of removals aren't counted
+    -- 15: not inserted yet, removed twice, no number that there could be
     ∷ refusesEdits (editing 1 (off 0 ∷ [])) 15 0 0
     ∷ refusesEdits (editing 1 (off 0 ∷ origin ∷ [])) 15 0 0
     ∷ refusesEdits (editing 1 (origin ∷ off 1 ∷ origin ∷ [])) 15 1 0
@@ -694,9 +694,14 @@ lapses =
     ∷ refusesEdits (editing 1 (origin ∷ off 0 ∷ origin ∷ off 0 ∷ [])) 15 3 0
     ∷ refusesEdits (editing 1 (origin ∷ off (2 ^ 64 - 1) ∷ [])) 15 1 0
     ∷ refusesEdits (editing 1 (origin ∷ off (2 ^ 32) ∷ [])) 15 1 0
-    -- whichever comes first of 7 and 15
+    -- numbers count insertions, not edits
+    ∷ edits (editing 1 (origin ∷ off 0 ∷ origin ∷ off 1 ∷ [])) unit 0 (replicate 4 0) (0 ∷ 0 ∷ [])
+    ∷ refusesEdits (editing 1 (origin ∷ off 0 ∷ origin ∷ off 2 ∷ [])) 15 3 0
+    -- whichever comes first of 7 and 15, and of 6 and 15
     ∷ refusesEdits (editing 1 (origin ∷ on (half 1·) 0· ∷ off 5 ∷ [])) 7 1 0
     ∷ refusesEdits (editing 1 (origin ∷ off 5 ∷ on (half 1·) 0· ∷ [])) 15 1 0
+    ∷ refusesEdits (editing 99 (origin ∷ on (tiny 65) 0· ∷ off 5 ∷ [])) 6 1 0
+    ∷ refusesEdits (editing 99 (origin ∷ off 5 ∷ on (tiny 65) 0· ∷ [])) 15 1 0
     -- 6 at an insertion, also one that widens the extent, after removals; none where what was deep is gone
     ∷ refusesEdits (editing 99 (origin ∷ on (tiny 65) 0· ∷ [])) 6 1 0
     ∷ refusesEdits (editing 99 (origin ∷ on threeQuarters 0· ∷ on (tiny 62) 0· ∷ off 1 ∷ on (plus 7) (plus 7) ∷ [])) 6 4 0
@@ -705,7 +710,7 @@ lapses =
     (inner 0 0 ++ inner 1 0 ++ inner 2 0 ++ inner 3 0 ++ tip 4 0 1 ++ tip 4 1 1 ++ tip 1 3 1 ++ replicate 236 0) (0 ∷ 2 ∷ 3 ∷ 0 ∷ [])
     -- 6 if both
     ∷ refusesEdits (editing 1 (origin ∷ on (tiny 65) 0· ∷ [])) 6 1 0
-    -- 1 before 2; 4,096 edits are let through
+    -- 1 before 2; 4,096 edits are let through (so many that are all made are too many to compute here: host/tests/edits.rs and beside/second make them)
     ∷ refusesEdits (editing 1 (map off (replicate 4096 0))) 15 0 0
     ∷ refusesEdits (editing 1 (map off (replicate 4097 0))) 1 0 7
     ∷ refusesEdits (lending 3 3 (editing 1 (map off (replicate 4097 0)))) 1 0 7
@@ -720,9 +725,14 @@ lapses =
     -- 4 at the first bad insertion, before 5 at the first unknown kind, before 15 and 7; a removal's words are no coordinates
     ∷ refusesEdits (editing 0 (odd ∷ off 0 ∷ origin ∷ on 0· beyond ∷ on beyond 0· ∷ [])) 4 3 7
     ∷ refusesEdits (editing 0 (off 0 ∷ origin ∷ odd ∷ odd ∷ [])) 5 2 7
+    ∷ refusesEdits (editing 2 (origin ∷ odd ∷ [])) 5 1 7
     ∷ refusesEdits (editing 0 (((2 ^ 64 - 1) ∷ 0 ∷ 0 ∷ []) ∷ [])) 5 0 7
     ∷ refusesEdits (editing 1 ((0 ∷ (2 ^ 64 - 1) ∷ 0 ∷ []) ∷ [])) 4 0 7
     ∷ edits (editing 1 (origin ∷ (1 ∷ 0 ∷ (2 ^ 64 - 1) ∷ []) ∷ [])) unit 0 (replicate 4 0) (0 ∷ [])
+    -- nor are those of an unknown kind, which has no place in the chains either
+    ∷ refusesEdits (lending 4 1 (editing 1 (origin ∷ (2 ∷ (2 ^ 64 - 1) ∷ (2 ^ 64 - 1) ∷ []) ∷ []))) 5 1 7
+    ∷ refusesEdits (lending 4 2 (editing 1 (origin ∷ odd ∷ []))) 2 0 7
+    -- the farthest point
     ∷ edits (editing 1 (on limit (neg limit) ∷ [])) (limit ∷ neg limit ∷ (limit ⊖ minus 1) ∷ minus (2 ^ 40 - 1) ∷ []) 1 (tip 0 0 1) (0 ∷ [])
     ∷ []
 

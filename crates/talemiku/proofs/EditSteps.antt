@@ -17,14 +17,14 @@ use Rattle.rules.specs.declared.Refusal.{Refusal}
 use Rattle.rules.specs.Plain.{keep, foldl}
 use Rattle.rules.specs.Outcome.{done, refused, refusal, Check, fine, require, _then_, _>>=_}
 use Rattle.rules.specs.Tree.{Tree, none, depth, nodes, greatestLevel, same, treeIn, fitsCheck}
-use Rattle.rules.specs.Edits.{Edit, insertion, removal, unknown, pointsOf, insertions, Present, present, edited, presentAfter, among, extentNow, treeNow, there, editCheck, editsFrom}
-use Rattle.rules.specs.Terms.{Oversized, Fits, times, IsTree, Ruled, nthEdit, presentAt, extentAt, treeAt, Makes, EarliestEdit}
+use Rattle.rules.specs.Edits.{Edit, insertion, removal, unknown, pointsOf, insertions, Present, present, edited, presentAfter, among, extentNow, treeNow, removable, editCheck, editsFrom}
+use Rattle.rules.specs.Terms.{Oversized, Fits, times, IsTree, Ruled, nthEdit, presentAt, extentAt, treeAt, CanBeMade, EarliestEdit}
 use Rattle.rules.proofs.CellList.{In}
 use Rattle.rules.proofs.CellCount.{times-in}
 use Rattle.rules.proofs.CellChain.{each-map, Chain}
-use Rattle.rules.proofs.CellRule.{grow-none, unique, points, tree-whole, tree-deep, tree-large, tree-fits, leaves-distinct, nodes-distinct, chains-times, chains as chains-of}
+use Rattle.rules.proofs.CellRule.{grow-none, unique, points, tree-whole, tree-deep, tree-fits, leaves-distinct, nodes-distinct, chains-times, chains as chains-of}
 use Rattle.rules.proofs.CellWithout.{without-fits}
-use Rattle.rules.proofs.EditLaws.{Kept, among-in, kept-after, made-after, present-next, insertions-append}
+use Rattle.rules.proofs.EditLaws.{Kept, among-in, kept-after, made-after, present-next, absent-at, insertions-append}
 use Rattle.lists.proofs.Checks.{then-both, bind-both, require-true}
 use Rattle.cells.proofs.Prefix.{InRange, fits-fine, fits-deep, fits-full}
 use Rattle.cells.proofs.WholeTree.{leaves-within}
@@ -64,23 +64,23 @@ module _ (at : List Float) (slots k : ℕ) (s : Present) (e : Edit) where
   abbrev u : Tree Extent
   u = treeNow at (edited s e)
 
-  edit-fine : editCheck at slots k s e ≡ fine → (there s e ≡ true) × Fits slots u
+  edit-fine : editCheck at slots k s e ≡ fine → (removable s e ≡ true) × Fits slots u
   unfolding editCheck
-  edit-fine h = let b = then-both (require (there s e) 15 k) (fitsCheck slots k u) h in (require-true (there s e) 15 k (b .0), fits-fine slots k u .0 (b .1))
+  edit-fine h = let b = then-both (require (removable s e) 15 k) (fitsCheck slots k u) h in (require-true (removable s e) 15 k (b .0), fits-fine slots k u .0 (b .1))
 
-  fine-edit : (there s e ≡ true) × Fits slots u → editCheck at slots k s e ≡ fine
+  fine-edit : (removable s e ≡ true) × Fits slots u → editCheck at slots k s e ≡ fine
   unfolding editCheck
   fine-edit (h, f) = rw h (fits-fine slots k u .1 f)
 
   -- by which number it is refused
   abbrev Number : ℕ → Type 0
-  Number n = ((n ≡ 15) × (there s e ≡ false)) ⊎ ((n ≡ 6) × (there s e ≡ true) × (greatestLevel + 1 < depth u)) ⊎ ((n ≡ 7) × (there s e ≡ true) × (depth u ≤ greatestLevel + 1) × (slots < nodes u))
+  Number n = ((n ≡ 15) × (removable s e ≡ false)) ⊎ ((n ≡ 6) × (removable s e ≡ true) × (greatestLevel + 1 < depth u)) ⊎ ((n ≡ 7) × (removable s e ≡ true) × (depth u ≤ greatestLevel + 1) × (slots < nodes u))
 
   edit-refused : (q : Refusal) → editCheck at slots k s e ≡ refused q → (q .place ≡ k) × Number (q .number)
   unfolding editCheck
-  edit-refused q h = go (there s e) refl h
+  edit-refused q h = go (removable s e) refl h
     where
-      fits : there s e ≡ true → fitsCheck slots k u ≡ refused q → (q .place ≡ k) × Number (q .number)
+      fits : removable s e ≡ true → fitsCheck slots k u ≡ refused q → (q .place ≡ k) × Number (q .number)
       fits p h = elim (decLt (greatestLevel + 1) (depth u)) [
         | yes d ↦ let z : q ≡ refusal 6 k = cc (fits-deep slots k u d) in rw z (refl, inr (inl (refl, p, d)))
         | no d ↦ elim (decLt slots (nodes u)) [
@@ -89,7 +89,7 @@ module _ (at : List Float) (slots k : ℕ) (s : Present) (e : Edit) where
         ]
       ]
 
-      go : (b : Bool) → there s e ≡ b → (require b 15 k then fitsCheck slots k u) ≡ refused q → (q .place ≡ k) × Number (q .number)
+      go : (b : Bool) → removable s e ≡ b → (require b 15 k then fitsCheck slots k u) ≡ refused q → (q .place ≡ k) × Number (q .number)
       go true p h = fits p h
       go false p h = let z : q ≡ refusal 15 k = cc in rw z (refl, inl (refl, p))
 
@@ -101,7 +101,7 @@ module _ (at : List Float) (slots : ℕ) where
   Goes s es j =
       let v = foldl edited s (take j es) in
       let e = getD es j unknown in
-      (there v e ≡ true) × Fits slots (treeNow at (edited v e))
+      (removable v e ≡ true) × Fits slots (treeNow at (edited v e))
 
   from-fine : (k : ℕ) (s : Present) (es : List Edit) → editsFrom at slots k s es ≡ fine → (j : ℕ) → j < length es → Goes s es j
   unfolding editsFrom
@@ -166,16 +166,16 @@ module _ (es : List Edit) (slots : ℕ) where
   abbrev places : List Float
   places = pointsOf es
 
-  goes-makes : (k : ℕ) → k < length es → Goes places slots (presentAfter []) es k → Makes es slots k
+  goes-makes : (k : ℕ) → k < length es → Goes places slots (presentAfter []) es k → CanBeMade es slots k
   goes-makes k l (h, f) = (h, subst (λ (s : Present). Fits slots (treeNow places s)) (sym (present-next es k l)) f)
 
-  makes-goes : (k : ℕ) → k < length es → Makes es slots k → Goes places slots (presentAfter []) es k
+  makes-goes : (k : ℕ) → k < length es → CanBeMade es slots k → Goes places slots (presentAfter []) es k
   makes-goes k l (h, f) = (h, subst (λ (s : Present). Fits slots (treeNow places s)) (present-next es k l) f)
 
-  pub each-makes : editsFrom places slots 0 (present 0 []) es ≡ fine → (k : ℕ) → k < length es → Makes es slots k
+  pub each-makes : editsFrom places slots 0 (present 0 []) es ≡ fine → (k : ℕ) → k < length es → CanBeMade es slots k
   each-makes h k l = goes-makes k l (from-fine places slots 0 (present 0 []) es h k l)
 
-  pub makes-each : ((k : ℕ) → k < length es → Makes es slots k) → editsFrom places slots 0 (present 0 []) es ≡ fine
+  pub makes-each : ((k : ℕ) → k < length es → CanBeMade es slots k) → editsFrom places slots 0 (present 0 []) es ≡ fine
   makes-each h = fine-from places slots 0 (present 0 []) es (λ k l. makes-goes k l (h k l))
 
   pub first-edit : (q : Refusal) → editsFrom places slots 0 (present 0 []) es ≡ refused q → EarliestEdit es slots q
@@ -188,12 +188,18 @@ module _ (es : List Edit) (slots : ℕ) where
         number = rw (z, present-next es (w .j) (w .among)) (w .number);
       }
 
+  -- where it is 15, edit k removes what isn't there
+  pub absent-named : (k : ℕ) → EarliestEdit es slots (refusal 15 k) → (i : ℕ) × (nthEdit es k ≡ removal i) × ((insertions (take k es) ≤ i) ⊎ ((j : ℕ) × (j < k) × (nthEdit es j ≡ removal i)))
+  absent-named k w =
+      let f : removable (presentAt es k) (nthEdit es k) ≡ false = ⊎-elim (λ n. n .1) (⊎-elim (λ n. absurd (omega arith)) (λ n. absurd (omega arith))) (w .number) in
+      absent-at es k (omega (arith, w .among)) (λ j m. w .before j m .0) .0 f
+
   -- there is one such refusal at most: the edit can't be made, and its number is told by what is there and by its tree
-  unmade : (q : Refusal) → EarliestEdit es slots q → Makes es slots (q .place) → ⊥
+  unmade : (q : Refusal) → EarliestEdit es slots q → CanBeMade es slots (q .place) → ⊥
   unmade q w (h, f) = ⊎-elim (λ n. true≢false (sym h ∙ n .1)) (⊎-elim (λ n. omega arith) (λ n. omega arith)) (w .number)
 
   abbrev numberAt : ℕ → ℕ
-  numberAt k = cond (there (presentAt es k) (nthEdit es k)) (cond (leb (depth (treeAt es (k + 1))) 65) 7 6) 15
+  numberAt k = cond (removable (presentAt es k) (nthEdit es k)) (cond (leb (depth (treeAt es (k + 1))) 65) 7 6) 15
 
   number-is : (q : Refusal) → EarliestEdit es slots q → q .number ≡ numberAt (q .place)
   number-is q w =
@@ -213,11 +219,11 @@ module _ (es : List Edit) (slots : ℕ) where
       ]
 
   -- where all edits can be made, there is none
-  pub none-unmade : (q : Refusal) → EarliestEdit es slots q → ((k : ℕ) → k < length es → Makes es slots k) → ⊥
+  pub none-unmade : (q : Refusal) → EarliestEdit es slots q → ((k : ℕ) → k < length es → CanBeMade es slots k) → ⊥
   none-unmade q w h = unmade q w (h (q .place) (w .among))
 
   -- what was made so far fits, also before the first edit
-  pub fits-at : (n : ℕ) → ((k : ℕ) → k < n → Makes es slots k) → (k : ℕ) → k ≤ n → Fits slots (treeAt es k)
+  pub fits-at : (n : ℕ) → ((k : ℕ) → k < n → CanBeMade es slots k) → (k : ℕ) → k ≤ n → Fits slots (treeAt es k)
   unfolding treeNow
   fits-at n h zero l = rw (tree-none places (extentNow places (presentAfter []))) (omega arith, omega arith)
   fits-at n h (suc k) l = subst (λ (i : ℕ). Fits slots (treeAt es i)) (add-one k) (h k (omega arith) .1)
@@ -239,7 +245,7 @@ module _ (es : List Edit) (slots : ℕ) where
         large : Fits slots (treeAt es (q .place + 1)) → ⊥
         large f = ⊎-elim (λ h. ⊎-elim (λ z. omega arith) (λ z. omega arith) n) (λ h. ⊎-elim (λ h. omega arith) (λ h. omega arith) h) (w .number)
 
-        present-is : there (presentAt es (q .place)) (nthEdit es (q .place)) ≡ true
+        present-is : removable (presentAt es (q .place)) (nthEdit es (q .place)) ≡ true
         present-is = ⊎-elim (λ h. absurd (⊎-elim (λ z. omega arith) (λ z. omega arith) n)) (λ h. ⊎-elim (λ h. h .1) (λ h. h .1) h) (w .number)
 
         own : (i : ℕ) → In i (presentAt es (q .place) .left) → same places i i ≡ true
@@ -260,13 +266,14 @@ module _ (es : List Edit) (slots : ℕ) where
 module _ (es : List Edit) (slots : ℕ) where
   -- what is said of the earliest edit holds of every tree at it by the cell rule
   pub earliest-named : (q : Refusal) → EarliestEdit es slots q → (q .number ≡ 6) ⊎ (q .number ≡ 7) → (t : Tree Extent)
-      → IsTree (pointsOf es) (extentAt es (q .place + 1)) t (presentAt es (q .place + 1) .left) → Oversized slots t × (q .number ≡ 6 → greatestLevel + 1 < depth t)
+      → IsTree (pointsOf es) (extentAt es (q .place + 1)) t (presentAt es (q .place + 1) .left)
+      → ((q .number ≡ 6) × (greatestLevel + 1 < depth t)) ⊎ ((q .number ≡ 7) × (depth t ≤ greatestLevel + 1) × (slots < nodes t))
   unfolding treeNow
   earliest-named q w n t g =
       let c = extentAt es (q .place + 1) in
       let is = presentAt es (q .place + 1) .left in
-      let deep = tree-deep (pointsOf es) t c is g in
-      ⊎-elim (λ h. absurd (⊎-elim (λ z. omega arith) (λ z. omega arith) n)) (⊎-elim (λ h. (inl (deep (h .2)), λ _. deep (h .2))) (λ h. (tree-large (pointsOf es) t c is slots g (inr (h .3)), λ z. absurd (omega arith)))) (w .number)
+      let same : depth (treeAt es (q .place + 1)) ≤ greatestLevel + 1 → t ≡ treeAt es (q .place + 1) = λ d. unique (pointsOf es) t (treeAt es (q .place + 1)) c is g (tree-whole (pointsOf es) c is d) in
+      ⊎-elim (λ h. absurd (⊎-elim (λ z. omega arith) (λ z. omega arith) n)) (⊎-elim (λ h. inl (h .0, tree-deep (pointsOf es) t c is g (h .2))) (λ h. inr (rw (same (h .2)) (h .0, h .2, h .3)))) (w .number)
 
   -- where one of them is not too large, the tree that the rules compute fits
   pub fits-named : (k : ℕ) (t : Tree Extent) → IsTree (pointsOf es) (extentAt es k) t (presentAt es k .left) → (Oversized slots t → ⊥) → Fits slots (treeAt es k)

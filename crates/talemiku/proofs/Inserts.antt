@@ -15,7 +15,7 @@ use Rattle.rules.specs.Plain.{foldl, countFrom, upTo}
 use Rattle.rules.specs.Outcome.{Check, fine, require, _>>=_, checkFrom}
 use Rattle.rules.specs.Number.{0·, floatOf, finite}
 use Rattle.rules.specs.Refusal.{mostParticles, coordinateCheck}
-use Rattle.rules.specs.Sheet.{countOf, particle, particlesOf, placesOf, wholeRecords, recordCheck, recordsCheck}
+use Rattle.rules.specs.Sheet.{countOf, particle, particlesOf, sheetOf, placesOf, wholeRecords, recordCheck, recordsCheck}
 use Rattle.rules.specs.Opened.{opened}
 use Rattle.rules.specs.Cover.{extentOf}
 use Rattle.rules.specs.Tree.{treeOf, fitsCheck, treeCheck}
@@ -27,7 +27,7 @@ use Rattle.sheet.proofs.Sheets.{Held, AllHeld, sheet-length, particles-of-sheet
 use Rattle.edit_words.proofs.Words.{insertions-few}
 use Rattle.edits.specs.Call.{AfterEdits}
 use Rattle.tree.specs.Tree.{AfterTree}
-use Rattle.talemiku.specs.Told.{resting, onSheet}
+use Rattle.talemiku.specs.Told.{resting, pointsMade, PointsSheet, onSheet}
 
 -- ---- the points' sheet
 
@@ -109,21 +109,21 @@ present-all es i = last-from 0 es i ∙ ap (λ (n : ℕ). present n (upTo n)) (z
 
 -- ---- the call
 
-module _ (l : EditsInput) (whole : length (l .edits) ≡ length (editList l) * 3) (i : Inserts (editList l)) where
+-- the sheet of the points is one
+pub points-sheet : (l : EditsInput) → PointsSheet l (sheetOf (resting (pointsMade l)))
+points-sheet l =
+    let at = pointsMade l in
+    record { records = sheet-length (resting at) ∙ ap (λ (n : ℕ). n * 40) (resting-length (editList l)); particles = particles-of-sheet (resting at) (resting-held (l .edits)) }
+
+module _ (l : EditsInput) (sheet : List ℕ) (p : PointsSheet l sheet) (whole : length (l .edits) ≡ length (editList l) * 3) (i : Inserts (editList l)) where
   abbrev es : List Edit
   es = editList l
 
-  abbrev sheet : List ℕ
-  sheet = onSheet l .sheet
-
-  particles-are : particlesOf sheet ≡ resting (pointsOf es)
-  particles-are = particles-of-sheet (resting (pointsOf es)) (resting-held (l .edits))
-
   places-are : placesOf (particlesOf sheet) ≡ pointsOf es
-  places-are = ap placesOf particles-are ∙ resting-places es
+  places-are = ap placesOf (p .particles) ∙ resting-places es
 
   sheet-is : length sheet ≡ length es * 40
-  sheet-is = sheet-length (resting (pointsOf es)) ∙ ap (λ (n : ℕ). n * 40) (resting-length es ∙ i)
+  sheet-is = p .records ∙ ap (λ (n : ℕ). n * 40) i
 
   count-is : countOf sheet ≡ length es
   count-is = omega (arith, sheet-is)
@@ -132,15 +132,15 @@ module _ (l : EditsInput) (whole : length (l .edits) ≡ length (editList l) * 3
   unfolding wholeRecords
   whole-is = rw (eq-eqb (length sheet % 40) 0 (omega (arith, sheet-is)))
 
-  checks-are : inputCheck mostParticles (treeLengths (onSheet l)) sheet ≡ editInputCheck l
+  checks-are : inputCheck mostParticles (treeLengths (onSheet l sheet)) sheet ≡ editInputCheck l
   unfolding editInputCheck recordsCheck
-  checks-are = rw (whole-is, count-is, particles-are, records-are 0 es i, eq-eqb (length (l .edits)) (length es * 3) whole, i, kinds-fine 0 es i) (sym (then-fine _))
+  checks-are = rw (whole-is, count-is, p .particles, records-are 0 es i, eq-eqb (length (l .edits)) (length es * 3) whole, i, kinds-fine 0 es i) (sym (then-fine _))
 
   tree-is : treeOf (pointsOf es) (length es) ≡ treeNow (pointsOf es) (presentAfter es)
   unfolding treeNow extentNow treeOf
   tree-is = rw (present-all es i)
 
-  result-is : treeResult mostParticles (onSheet l) ≡ editsResult l
+  result-is : treeResult mostParticles (onSheet l sheet) ≡ editsResult l
   unfolding treeResult treeOfSheet editsResult treeCheck
   result-is = rw (checks-are, places-are, count-is, ← from-are (pointsOf es) (slotsOf (l .work)) 0 es i, tree-is)
 
@@ -148,8 +148,8 @@ module _ (l : EditsInput) (whole : length (l .edits) ≡ length (editList l) * 3
   unfolding extentNow
   extent-is = rw (places-are, count-is, present-all es i)
 
-  pub as-tree : {r r' : TreeAnswer} {rows chains work rows' chains' work' : List ℕ} → AfterEdits l r rows chains work → AfterTree (onSheet l) (treeResult mostParticles (onSheet l)) r' rows' chains' work'
-      → (r ≡ r') × (rows ≡ rows') × (chains ≡ chains') × (work ≡ work')
+  pub as-tree : {r r' : TreeAnswer} {rows chains work rows' chains' work' : List ℕ} → AfterEdits l r rows chains work
+      → AfterTree (onSheet l sheet) (treeResult mostParticles (onSheet l sheet)) r' rows' chains' work' → (r ≡ r') × (rows ≡ rows') × (chains ≡ chains') × (work ≡ work')
   unfolding editsAnswer editRowsAfter editChainsAfter editWorkAfter treeAnswer rowsAfter chainsAfter treeWorkAfter
   as-tree a b =
       (a .answer ∙ sym (b .answer ∙ rw (result-is, extent-is)), a .listed ∙ sym (b .listed ∙ rw result-is), a .chained ∙ sym (b .chained ∙ rw result-is), a .worked ∙ sym (b .worked ∙ rw result-is))

@@ -6,7 +6,7 @@ use mathlib.Core.List.{List, []}
 use Prim.Native.Nat.{ℕ, _*_, _≤_, _<_}
 use native.Mathlib.Omega.{arith}
 use native.Mathlib.Decide.{ℕ-discrete}
-use borrow.Author.Tests.{eqb-true, leb-true}
+use borrow.Author.Tests.{eqb-true, eq-eqb, ne-eqb, leb-true}
 use lib.Dec.{leb, eqb}
 use lib.ListN.{length}
 use lib.Seq.{take-length}
@@ -20,14 +20,14 @@ use Rattle.rules.specs.Refusal.{mostEdits, countCheck, lengthsCheck}
 use Rattle.rules.specs.Tree.{Tree, nodes, rowsOf, flat, chainsOf}
 use Rattle.rules.specs.Calls.{slotsOf}
 use Rattle.rules.specs.Edits.{Edit, editWords, insertions, present, editsFrom, pointCheck, known, EditsInput, editList, editLengths, editInputCheck, editsResult, editsAnswer, editRowsAfter, editChainsAfter}
-use Rattle.rules.specs.Terms.{Ruled, presentAt, extentAt, treeAt, Makes, EarliestEdit}
+use Rattle.rules.specs.Terms.{Ruled, presentAt, extentAt, treeAt, CanBeMade, EarliestEdit}
 use Rattle.rules.proofs.RefusalLaws.{done-of, weaker}
 use Rattle.rules.proofs.Places.{edits-placed, edits-numbered}
 use Rattle.lists.proofs.Checks.{then-both, require-true}
 use Rattle.cells.proofs.Prefix.{InRange}
 use Rattle.edit_words.proofs.Words.{points-ranged}
 use Rattle.edits.specs.Call.{AfterEdits}
-use Rattle.talemiku.specs.Told.{pointsMade, presentLast, extentLast, treeLast, EditsFine}
+use Rattle.talemiku.specs.Told.{pointsMade, presentLast, extentLast, treeLast, EditsFine, editsMade}
 use Rattle.talemiku.proofs.EditSteps.{each-makes, makes-each, first-edit, earliest-only, none-unmade, fits-at, ruled-at}
 
 module _ (l : EditsInput) where
@@ -73,7 +73,7 @@ module _ (l : EditsInput) where
   pub record Accepted : Type 0 where
     pub result : editsResult l ≡ done (treeLast l)
     pub input : EditsFine l
-    pub each : (k : ℕ) → k < length (editList l) → Makes (editList l) (slotsOf (l .work)) k
+    pub each : (k : ℕ) → k < length (editList l) → CanBeMade (editList l) (slotsOf (l .work)) k
 
   abbrev made : Check
   made = editsFrom (pointsMade l) (slotsOf (l .work)) 0 (present 0 []) es
@@ -87,7 +87,7 @@ module _ (l : EditsInput) where
       go (done u) (refused r) p q e = absurd (let z : _≡_ {A = ℕ} 0 1 = cc in omega arith)
       go (refused r) b p q e = absurd (let z : _≡_ {A = ℕ} 0 1 = cc in omega arith)
 
-  pub edits-fine : EditsFine l → ((k : ℕ) → k < length es → Makes es (slotsOf (l .work)) k) → editsResult l ≡ done (treeLast l)
+  pub edits-fine : EditsFine l → ((k : ℕ) → k < length es → CanBeMade es (slotsOf (l .work)) k) → editsResult l ≡ done (treeLast l)
   unfolding editsResult
   edits-fine h m = rw (h, makes-each es (slotsOf (l .work)) m)
 
@@ -106,14 +106,13 @@ module _ (l : EditsInput) where
       go (done t) e = inr (record { result = rw (h, e); input = h; each = each-makes es (slotsOf (l .work)) e })
       go (refused q) e = inl (q, rw (h, e), first-edit es (slotsOf (l .work)) q e)
 
-  -- ---- the tree at each edit, where it is accepted
+  -- ---- the tree after edits that can be made
 
-  module _ (ok : Accepted) where
-    pub ruled-each : (k : ℕ) → k ≤ length es → Ruled (pointsMade l) (extentAt es k) (treeAt es k) (presentAt es k .left) (slotsOf (l .work))
-    ruled-each k m = ruled-at es (slotsOf (l .work)) (input-fine (ok .input) .ranged) k (fits-at es (slotsOf (l .work)) (length es) (ok .each) k m)
+  pub ruled-each : EditsFine l → (n : ℕ) → ((k : ℕ) → k < n → CanBeMade es (slotsOf (l .work)) k) → (k : ℕ) → k ≤ n → Ruled (pointsMade l) (extentAt es k) (treeAt es k) (presentAt es k .left) (slotsOf (l .work))
+  ruled-each h n made k m = ruled-at es (slotsOf (l .work)) (input-fine h .ranged) k (fits-at es (slotsOf (l .work)) n made k m)
 
-    pub ruled-last : Ruled (pointsMade l) (extentLast l) (treeLast l) (presentLast l .left) (slotsOf (l .work))
-    ruled-last = rw (take-length es) at (ruled-each (length es) (omega arith))
+  pub ruled-last : Accepted → Ruled (pointsMade l) (extentLast l) (treeLast l) (presentLast l .left) (slotsOf (l .work))
+  ruled-last ok = rw (take-length es) at (ruled-each (ok .input) (length es) (ok .each) (length es) (omega arith))
 
 module _ {l : EditsInput} {r : TreeAnswer} {rows chains work : List ℕ} (a : AfterEdits l r rows chains work) where
   pub refusal-is : r .refusal ≡ refusalOf (editsResult l)
@@ -152,3 +151,17 @@ module _ {l : EditsInput} {r : TreeAnswer} {rows chains work : List ℕ} (a : Af
         | yes z ↦ absurd (none-unmade (editList l) (slotsOf (l .work)) q w (accepts z .each))
         | no n ↦ earliest-only (editList l) (slotsOf (l .work)) (r .refusal) q (earliest-is h n) w
       ]
+
+  -- ---- which edits were made
+
+  made-all : r .refusal .number ≡ 0 → editsMade l r ≡ length (editList l)
+  made-all z = rw (eq-eqb (r .refusal .number) 0 z)
+
+  made-some : (r .refusal .number ≡ 0 → ⊥) → editsMade l r ≡ r .refusal .place
+  made-some n = rw (ne-eqb (r .refusal .number) 0 n)
+
+  pub made-few : EditsFine l → editsMade l r ≤ length (editList l)
+  made-few h = elim (ℕ-discrete (r .refusal .number) 0) [ yes z ↦ omega (arith, made-all z) | no n ↦ omega (arith, made-some n, earliest-is h n .among) ]
+
+  pub made-each : EditsFine l → (k : ℕ) → k < editsMade l r → CanBeMade (editList l) (slotsOf (l .work)) k
+  made-each h k m = elim (ℕ-discrete (r .refusal .number) 0) [ yes z ↦ accepts z .each k (omega (arith, made-all z)) | no n ↦ earliest-is h n .before k (omega (arith, made-some n)) ]

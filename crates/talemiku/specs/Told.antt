@@ -1,18 +1,21 @@
 -- Names for what is lent to the tree call, bounds for a force and a tick, how a force refuses a tree, an outline that is checked, and what a list of edits comes to, in the theorems about the entries. Definitions only.
 use mathlib.Core.Path.{_≡_}
 use mathlib.Core.Logic.{_⊎_, _↔_}
+use mathlib.Core.Bool.{cond}
 use mathlib.Core.List.{List, [], _∷_, _++_}
 use Prim.Native.Nat.{ℕ, _*_}
+use lib.Dec.{eqb}
 use lib.ListN.{length}
 use lib.Ieee.{Float}
 use Rattle.rules.specs.declared.Extent.{Extent}
 use Rattle.rules.specs.declared.Particle.{Particle}
 use Rattle.rules.specs.declared.Refusal.{Refusal}
+use Rattle.rules.specs.declared.TreeAnswer.{TreeAnswer}
 use Rattle.rules.specs.Plain.{upTo}
 use Rattle.rules.specs.Outcome.{fine}
 use Rattle.rules.specs.Number.{0·}
 use Rattle.rules.specs.Refusal.{mostParticles, mostIterations}
-use Rattle.rules.specs.Sheet.{countOf, particle, particlesOf, sheetOf, placesOf}
+use Rattle.rules.specs.Sheet.{recordSize, countOf, particle, particlesOf, placesOf}
 use Rattle.rules.specs.Cover.{coverFirst, extentOf}
 use Rattle.rules.specs.Tree.{Tree, treeOf}
 use Rattle.rules.specs.Calls.{TreeInput, treeLengths, inputCheck}
@@ -103,6 +106,15 @@ module _ (l : EditsInput) where
   abbrev pub EditsFine : Type 0
   EditsFine = editInputCheck l ≡ fine
 
-  -- what the tree call is lent instead: the sheet of all points inserted, at rest and with no flag, and the same lists
-  abbrev pub onSheet : TreeInput
-  onSheet = lent (sheetOf (resting pointsMade)) (l .rows) (l .chains) (l .work)
+  -- a sheet of all points inserted: whole records, at rest and with no flag
+  pub record PointsSheet (sheet : List ℕ) : Type 0 where
+    pub records : length sheet ≡ insertions (editList l) * recordSize
+    pub particles : particlesOf sheet ≡ resting pointsMade
+
+  -- what the tree call is lent instead: a sheet, and the same lists
+  abbrev pub onSheet : List ℕ → TreeInput
+  onSheet sheet = lent sheet (l .rows) (l .chains) (l .work)
+
+  -- how many edits were made: all, or those before the one that is refused
+  abbrev pub editsMade : TreeAnswer → ℕ
+  editsMade r = cond (eqb (r .refusal .number) 0) (length (editList l)) (r .refusal .place)

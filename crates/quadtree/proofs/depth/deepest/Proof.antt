@@ -1,4 +1,4 @@
-use Prim.Native.Nat.{_-_, _<_}
+use Prim.Native.Nat.{_<_}
 use native.Mathlib.Omega.{arith}
 use Rattle.quadtree.proofs.Levels.{goes-positive}
 use Rattle.quadtree.proofs.depth.deepest.Statement.{statement}

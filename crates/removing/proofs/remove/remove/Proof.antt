@@ -102,7 +102,7 @@ remove-spec =
     (tie.spec
     (λ c κs. let p = c .before .before .before .before .before .pre in (p .0, finds _ (p .0) _ _ _ _ _ (p .1)))
     (λ c κs. let f = c .before in let p = start f .pre in spot-leaf _ (p .0) _ _ _ (finds _ (p .0) _ _ _ _ _ (p .1)) _ (spotted f (p .0) (p .1)) .0)
-    (λ c. let t = c .before .before in let p = start (t .before .before) .pre in first-is t (p .0) (p .1) .0)
+    (λ t. let p = start (t .before .before) .pre in first-is t (p .0) (p .1) .0)
     leave-requires
     (λ c. search needs)
     put-leaf-requires
