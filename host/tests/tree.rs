@@ -3,7 +3,7 @@ mod fence;
 mod listed;
 
 use listed::{lend, Listed};
-use talemiku::{sheet_of, tree, Particle, Refusal, ROW_NUMBERS, SLOT_WORDS};
+use talemiku::{sheet_of, tree, Particle, Refusal, ROW_NUMBERS};
 
 const LIMIT: f64 = 1_099_511_627_776.0; // 2^40
 
