@@ -535,11 +535,46 @@ fn limits() -> impl Iterator<Item = Case> {
     })
 }
 
-/// Every list of at most five edits, with each number of slots from none to eight, which are enough for all five points; and those at the limit.
-fn every() -> impl Iterator<Item = Case> {
+/// Every list of at most so many edits, with each number of slots from none to eight, which are enough for all five points; and those at the limit.
+fn every(most: u32) -> impl Iterator<Item = Case> {
     let some: Vec<[u64; EDIT]> = SMALL.iter().map(|&point| insertion(point)).chain(NUMBERS.iter().map(|&number| removal(number))).collect();
-    let small = (0..6).flat_map(move |length| lists(some.clone(), length));
+    let small = (0..=most).flat_map(move |length| lists(some.clone(), length));
     small.flat_map(|list| (0..9).map(move |slots| lent(&list, slots, (slots + list.len()) % SLOT))).chain(limits())
+}
+
+// ---- long lists
+
+/// Most of them accepted: as many edits as are taken, long chains, many nodes, all places of a walk, and ends that are refused at the last edit; and more slots and edits than 16 bits count.
+fn long() -> Vec<Case> {
+    let grid = |k: usize| ((k % 64) as f64, (k / 64) as f64);
+    let list = |point: &dyn Fn(usize) -> Point| -> Vec<[u64; EDIT]> { (0..MOST).map(|k| insertion(point(k))).collect() };
+    let spread = list(&grid);
+    let one_place = list(&|_| SMALL[0]);
+    let pairs = list(&|k| (grid(k / 2).0 + (k % 2) as f64 * part(5), grid(k / 2).1));
+    // at every level down to 64 the three other quarters hold a point each
+    let around = |k| [insertion((part(k), 0.0)), insertion((0.0, part(k))), insertion((part(k), part(k)))];
+    let nested: Vec<[u64; EDIT]> = [insertion(SMALL[0])].into_iter().chain((1..=64).flat_map(around)).collect();
+    // two thirds of the edits are insertions, and then every second one goes
+    let come = MOST * 2 / 3;
+    let gone: Vec<[u64; EDIT]> = (0..come as u64).step_by(2).map(removal).collect();
+    let thinned = |list: &[[u64; EDIT]]| [&list[..come], &gone].concat();
+    let ends = [removal(MOST as u64 - 1), removal(0), [0, f64::NAN.to_bits(), 0], [2, 0, 0], insertion((part(50), 0.0))];
+    let mut cases: Vec<Case> = ends.iter().map(|&end| lent(&[&spread[..MOST - 1], &[end]].concat(), 9000, 0)).collect();
+    for (edits, slots, left_over) in [
+        (&spread, 5461, 3),
+        (&spread, 5460, 3),
+        (&thinned(&spread), 5461, 0),
+        (&one_place, 1, 0),
+        (&thinned(&one_place), 1, 0),
+        (&pairs, 20_000, 5),
+        (&thinned(&pairs), 20_000, 5),
+        (&nested, 300, 0),
+        (&spread[..3].to_vec(), (1 << 16) + 1, 7),
+        (&vec![insertion(SMALL[0]); (1 << 16) + 1], 1, 0),
+    ] {
+        cases.push(lent(edits, slots, left_over));
+    }
+    cases
 }
 
 // ---- random cases, the same for a seed on every machine
@@ -793,10 +828,12 @@ fn case(r: &mut Random, number: usize, max: usize) -> Case {
     case
 }
 
-/// `every`, or `SEED COUNT MAX`; whether nothing differs, and none for other words.
+/// `every`, which is `every 5`, `every MOST`, `long`, or `SEED COUNT MAX`; whether nothing differs, and none for other words.
 pub fn run(words: &[&str]) -> Option<bool> {
     match *words {
-        ["every"] => Some(hold(every())),
+        ["every"] => Some(hold(every(5))),
+        ["every", most] => Some(hold(every(most.parse().ok().filter(|&most| most < 10)?))),
+        ["long"] => Some(hold(long().into_iter())),
         [seed, count, max] => {
             let mut random = Random::new(seed.parse().ok()?);
             let count: usize = count.parse().ok()?;

@@ -1,5 +1,5 @@
 //! Second readings of the requests: each is written from the words of document 02, not from the crates, and the archive's answers are held to its own, through the crate of host/.
-//! The first word names the entry: `second edits every`, `second edits SEED COUNT MAX`, and the same with `unwrap`. Status 0 where nothing differs, 1 where something does, 2 for other words.
+//! The first word names the entry: `second edits every [MOST]`, `edits long`, `edits SEED COUNT MAX`, `unwrap every`, `unwrap SEED COUNT MAX`. Status 0 where nothing differs, 1 where something does, 2 for other words.
 //! Stays within Rust 1.63, as host/ does.
 
 mod edits;
@@ -54,7 +54,7 @@ fn main() {
         Some(true) => {}
         Some(false) => exit(1),
         None => {
-            eprintln!("second edits every | edits SEED COUNT MAX | unwrap every | unwrap SEED COUNT MAX");
+            eprintln!("second edits every [MOST] | edits long | edits SEED COUNT MAX | unwrap every | unwrap SEED COUNT MAX");
             exit(2)
         }
     }
