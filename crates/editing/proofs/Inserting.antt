@@ -11,17 +11,17 @@ use lib.ListN.{length, getD, set}
 use lib.Seq.{getD-set-same, getD-set-other}
 use lib.Ieee.{Float}
 use Rattle.rules.specs.declared.Extent.{Extent}
+use Rattle.rules.specs.Cover.{coverFirst, extentOf}
 use Rattle.rules.specs.Outcome.{Check, done, fine, refused, refusal, require, _then_}
 use Rattle.rules.specs.Tree.{Tree, depth, nodes, treeIn, fitsCheck, greatestLevel}
 use Rattle.rules.specs.Edits.{Edit, insertion, Present, edited, among, extentNow, treeNow, editCheck}
 use Rattle.rules.proofs.CellList.{In}
 use Rattle.slots.specs.declared.Quadtree.{Quadtree}
 use Rattle.slots.proofs.Links.{rises-snoc}
-use Rattle.cells.specs.declared.cover.Covered.{Covered}
 use Rattle.placing.specs.declared.Inserted.the-variants.{Done}
-use Rattle.placing.specs.Add.{moreCheck, Placed, Inserts}
+use Rattle.placing.specs.Add.{Puts, moreCheck, Placed}
 use Rattle.placing.proofs.AddChain.{none-in, in-snoc}
-use Rattle.quadtree.specs.Build.{particles, Follows, Extends}
+use Rattle.quadtree.specs.Build.{particles, Follows}
 use Rattle.quadtree.proofs.AddBuild.{empty-root}
 use Rattle.editing.specs.Editing.{Now, Room}
 use Rattle.rules.proofs.EditLaws.{among-new, among-old}
@@ -55,60 +55,59 @@ module _ (at : List Float) (s : Present) (there m next tail : List ℕ) (q : Qua
   unfolding extentNow
   insert-follows = record { extent = h .extent; empty = first-empty; ranged = λ i l. room .lent .ranged i (omega (arith, less)); read = omega (arith, less) }
 
-  module _ (c : Covered) (x : Extends at q p c) where
-    pub insert-asks : Inserts at is m next tail q c p
-    insert-asks =
-        record {
-          puts =
-              record {
-                seeks = record { holds = h .holds; rises = h .rises; earlier = h .earlier; ranged = λ i l. room .lent .ranged i (omega (arith, less)); few = omega (arith, less, room .lent .few); read = omega (arith, less) };
-                linked = h .linked;
-                in-next = omega (arith, less, room .lent .links);
-                in-tail = omega (arith, less, room .lent .tails);
-              };
-          covers = x .covers;
-        }
+  pub insert-puts : Puts at is m next tail q p
+  insert-puts =
+      record {
+        seeks = record { holds = h .holds; rises = h .rises; earlier = h .earlier; ranged = λ i l. room .lent .ranged i (omega (arith, less)); few = omega (arith, less, room .lent .few); read = omega (arith, less) };
+        linked = h .linked;
+        in-next = omega (arith, less, room .lent .links);
+        in-tail = omega (arith, less, room .lent .tails);
+      }
 
-    module _ (k : ℕ) (u v : Float) (m′ : List ℕ) (size : length m′ ≡ length m) where
-      abbrev e : Edit
-      e = insertion u v
+  -- the extent with p
+  abbrev wide : Extent
+  wide = extentOf (coverFirst at (p + 1))
 
-      tree-is : treeIn at (c .extent) (is ++ (p ∷ [])) ≡ treeNow at (edited s e)
-      unfolding treeNow extentNow
-      tree-is = ap (λ (d : Extent). treeIn at d (is ++ (p ∷ []))) (x .extent)
+  module _ (k : ℕ) (u v : Float) (m′ : List ℕ) (size : length m′ ≡ length m) where
+    abbrev e : Edit
+    e = insertion u v
 
-      -- the rules' check of this edit is that of the tree with p, at the edit's place
-      check-is : editCheck at (length m / 8) k s e ≡ atPlace k (moreCheck at is m′ (c .extent) p)
-      unfolding editCheck
-      check-is =
-          ap (λ (t : Tree Extent). fitsCheck (length m / 8) k t) (sym tree-is)
-          ∙ ap (λ (n : ℕ). fitsCheck (n / 8) k (treeIn at (c .extent) (is ++ (p ∷ [])))) (sym size)
-          ∙ fits-place (length m′ / 8) p k (treeIn at (c .extent) (is ++ (p ∷ [])))
+    tree-is : treeIn at wide (is ++ (p ∷ [])) ≡ treeNow at (edited s e)
+    unfolding treeNow extentNow
+    tree-is = refl
 
-      pub insert-refused : (n : ℕ) → moreCheck at is m′ (c .extent) p ≡ refused (refusal n p) → editCheck at (length m / 8) k s e ≡ refused (refusal n k)
-      insert-refused n f = check-is ∙ ap (atPlace k) f
+    -- the rules' check of this edit is that of the tree with p, at the edit's place
+    check-is : editCheck at (length m / 8) k s e ≡ atPlace k (moreCheck at is m′ wide p)
+    unfolding editCheck
+    check-is =
+        ap (λ (t : Tree Extent). fitsCheck (length m / 8) k t) (sym tree-is)
+        ∙ ap (λ (n : ℕ). fitsCheck (n / 8) k (treeIn at wide (is ++ (p ∷ [])))) (sym size)
+        ∙ fits-place (length m′ / 8) p k (treeIn at wide (is ++ (p ∷ [])))
 
-      pub insert-fine : moreCheck at is m′ (c .extent) p ≡ fine → editCheck at (length m / 8) k s e ≡ fine
-      insert-fine f = check-is ∙ ap (atPlace k) f
+    pub insert-refused : (n : ℕ) → moreCheck at is m′ wide p ≡ refused (refusal n p) → editCheck at (length m / 8) k s e ≡ refused (refusal n k)
+    insert-refused n f = check-is ∙ ap (atPlace k) f
 
-      module _ (there′ next′ tail′ : List ℕ) (flag : there′ ≡ set there p 1) (r : Quadtree) (d : Placed at is m′ next′ tail′ (c .extent) p (Done r)) where
-        earlier′ : (i : ℕ) → In i (is ++ (p ∷ [])) → i < p + 1
-        earlier′ i n = ⊎-elim (λ l. omega (arith, h .earlier i l)) (λ z. omega arith) (in-snoc i p is n)
+    pub insert-fine : moreCheck at is m′ wide p ≡ fine → editCheck at (length m / 8) k s e ≡ fine
+    insert-fine f = check-is ∙ ap (atPlace k) f
 
-        flags′ : (i : ℕ) → i < p + 1 → getD there′ i 0 ≡ cond (among i (is ++ (p ∷ []))) 1 0
-        flags′ i l = elim (ℕ-discrete p i) [
-          | yes z ↦ rw (← z) (ap (λ (f : List ℕ). getD f p 0) flag ∙ getD-set-same there p 1 0 (omega (arith, less, room .flags)) ∙ ap (λ (b : Bool). cond b 1 0) (sym (among-new p is)))
-          | no n ↦ ap (λ (f : List ℕ). getD f i 0) flag ∙ getD-set-other there p i 1 0 (λ z. n (sym z)) ∙ h .flags i (omega arith) ∙ ap (λ (b : Bool). cond b 1 0) (sym (among-old i p is n))
-        ]
+    module _ (there′ next′ tail′ : List ℕ) (flag : there′ ≡ set there p 1) (r : Quadtree) (d : Placed at is m′ next′ tail′ wide p (Done r)) where
+      earlier′ : (i : ℕ) → In i (is ++ (p ∷ [])) → i < p + 1
+      earlier′ i n = ⊎-elim (λ l. omega (arith, h .earlier i l)) (λ z. omega arith) (in-snoc i p is n)
 
-        pub insert-now : Now at (edited s e) there′ m′ next′ tail′ r
-        unfolding extentNow
-        insert-now =
-            record {
-              holds = d .1 .0;
-              linked = d .1 .2;
-              rises = rises-snoc 0 p is (omega arith) (h .earlier) (h .rises);
-              earlier = earlier′;
-              extent = d .1 .1 ∙ x .extent;
-              flags = flags′;
-            }
+      flags′ : (i : ℕ) → i < p + 1 → getD there′ i 0 ≡ cond (among i (is ++ (p ∷ []))) 1 0
+      flags′ i l = elim (ℕ-discrete p i) [
+        | yes z ↦ rw (← z) (ap (λ (f : List ℕ). getD f p 0) flag ∙ getD-set-same there p 1 0 (omega (arith, less, room .flags)) ∙ ap (λ (b : Bool). cond b 1 0) (sym (among-new p is)))
+        | no n ↦ ap (λ (f : List ℕ). getD f i 0) flag ∙ getD-set-other there p i 1 0 (λ z. n (sym z)) ∙ h .flags i (omega arith) ∙ ap (λ (b : Bool). cond b 1 0) (sym (among-old i p is n))
+      ]
+
+      pub insert-now : Now at (edited s e) there′ m′ next′ tail′ r
+      unfolding extentNow
+      insert-now =
+          record {
+            holds = d .1 .0;
+            linked = d .1 .2;
+            rises = rises-snoc 0 p is (omega arith) (h .earlier) (h .rises);
+            earlier = earlier′;
+            extent = d .1 .1;
+            flags = flags′;
+          }

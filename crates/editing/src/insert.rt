@@ -8,9 +8,8 @@ ghost use Rattle.quadtree.specs.Build.{particles};
 ghost use Rattle.editing.specs.Editing.{Now, Room, Changed};
 use crate::refuse::refused;
 use placing::Inserted;
-use quadtree::add;
 use quadtree::build::Built;
-use quadtree::build::extend;
+use quadtree::build::add_next;
 use slots::Quadtree;
 
 // Edit k inserts the point whose number is `made`.
@@ -28,8 +27,7 @@ pub fn insert_next(
     ensures { λ r. ⌜ ((is : List ℕ) (x y : Float) → Now (now (at .entry)) (present made is) (now (there .entry)) (now (m .entry)) (now (next .entry)) (now (tail .entry)) q
         → Changed (now (at .entry)) (length (now (m .entry)) / 8) k (present made is) (insertion x y) (now (there .exit)) (now (m .exit)) (now (next .exit)) (now (tail .exit)) r) ⌝ }
 {
-    let covered = extend(at, q, made);
-    let answer = add::insert(m, at, next, tail, q, covered, made);
+    let answer = add_next(at, next, tail, m, q, made);
     match answer {
         Inserted::Done(more) => {
             there[made] = 1;

@@ -27,7 +27,7 @@ use Rattle.placing.specs.declared.Inserted.the-variants.{Done}
 use Rattle.slots.specs.Trees.{inCells, Follows as Chained, Lays, Stands}
 use Rattle.cells.specs.Cover.{squareOf, Reachable, Near, CoveredTo}
 use Rattle.leaves.specs.Chain.{Linked}
-use Rattle.placing.specs.Add.{lead, Holds, Ranged, moreCheck, Placed, Inserts}
+use Rattle.placing.specs.Add.{lead, Holds, Ranged, Puts, moreCheck, Placed}
 use Rattle.quadtree.specs.declared.build.Built.the-variants as Built
 use Rattle.quadtree.specs.Build.{particles, Builds, Follows, Extends}
 use Rattle.cells.proofs.CoverLaws as Laws
@@ -113,14 +113,14 @@ module _ (at : List Float) where
     pub left-end : (p : ℕ) → n ≤ p → left p ≡ fine
     left-end p l = let z : n - p ≡ 0 = omega arith in rw z
 
-    -- the tree of the particles below p + 1, in an extent that is theirs
-    tree-is : (c : Extent) (p : ℕ) → c ≡ extentOf (coverFirst at (p + 1)) → treeIn at c (upTo (p + 1)) ≡ treeOf at (p + 1)
+    -- the tree of the particles below p + 1, in their extent
+    tree-is : (p : ℕ) → treeIn at (extentOf (coverFirst at (p + 1))) (upTo (p + 1)) ≡ treeOf at (p + 1)
     unfolding treeOf
-    tree-is c p e = ap (λ (c : Extent). treeIn at c (upTo (p + 1))) e
+    tree-is p = refl
 
     -- what the check of p's prefix is, decides
-    turn : (c : Extent) (p : ℕ) → p < n → c ≡ extentOf (coverFirst at (p + 1)) → (k : Check) → fitsCheck slots p (treeIn at c (upTo (p + 1))) ≡ k → left p ≡ (k >>= λ _. left (p + 1))
-    turn c p l e k f = left-turn p l ∙ ap (λ (k : Check). k >>= λ _. left (p + 1)) (ap (fitsCheck slots p) (sym (tree-is c p e)) ∙ f)
+    turn : (p : ℕ) → p < n → (k : Check) → fitsCheck slots p (treeIn at (extentOf (coverFirst at (p + 1))) (upTo (p + 1))) ≡ k → left p ≡ (k >>= λ _. left (p + 1))
+    turn p l k f = left-turn p l ∙ ap (λ (k : Check). k >>= λ _. left (p + 1)) (ap (fitsCheck slots p) (sym (tree-is p)) ∙ f)
 
   -- a tree of no points has no root
   pub empty-root : (is m : List ℕ) (q : Quadtree) → Holds at is m q → is ≡ [] → q .root ≡ 0
@@ -167,35 +167,34 @@ module _ (at : List Float) where
     pub build-follows : Follows at q p
     build-follows = record { extent = b .extent; empty = first-empty; ranged = λ i k. ranged i (omega arith); read = omega arith }
 
-    pub build-inserts : (c : Covered) → Extends at q p c → particles at ≤ 4096 → length next ≡ particles at → length tail ≡ particles at → Inserts at (upTo p) m next tail q c p
-    build-inserts c x few links tails =
+    pub build-puts : particles at ≤ 4096 → length next ≡ particles at → length tail ≡ particles at → Puts at (upTo p) m next tail q p
+    build-puts few links tails =
         record {
-          puts =
-              record {
-                seeks = record { holds = b .holds; rises = rises-upTo p; earlier = in-upTo p; ranged = λ i k. ranged i (omega arith); few = omega arith; read = omega arith };
-                linked = b .linked;
-                in-next = omega arith;
-                in-tail = omega arith;
-              };
-          covers = x .covers;
+          seeks = record { holds = b .holds; rises = rises-upTo p; earlier = in-upTo p; ranged = λ i k. ranged i (omega arith); few = omega arith; read = omega arith };
+          linked = b .linked;
+          in-next = omega arith;
+          in-tail = omega arith;
         }
 
-    module _ (c : Covered) (x : Extends at q p c) (w a d : List ℕ) (s : length w / 8 ≡ slots) where
-      decided : (k : Check) → moreCheck at (upTo p) w (c .extent) p ≡ k → treeCheck at (particles at) slots ≡ (k >>= λ _. left (particles at) slots (p + 1))
-      decided k f =
-          b .check ∙ turn (particles at) slots (c .extent) p l (x .extent) k
-          (subst (λ (n : ℕ). fitsCheck n p (treeIn at (c .extent) (upTo (p + 1))) ≡ k) s (subst (λ (is : List ℕ). fitsCheck (length w / 8) p (treeIn at (c .extent) is) ≡ k) (sym (upTo-snoc p)) f))
+    module _ (w a d : List ℕ) (s : length w / 8 ≡ slots) where
+      abbrev wide : Extent
+      wide = extentOf (coverFirst at (p + 1))
 
-      pub build-done : (r : Quadtree) → Placed at (upTo p) w a d (c .extent) p (Done r) → Building slots w a d r (p + 1)
+      decided : (k : Check) → moreCheck at (upTo p) w wide p ≡ k → treeCheck at (particles at) slots ≡ (k >>= λ _. left (particles at) slots (p + 1))
+      decided k f =
+          b .check ∙ turn (particles at) slots p l k
+          (subst (λ (n : ℕ). fitsCheck n p (treeIn at wide (upTo (p + 1))) ≡ k) s (subst (λ (is : List ℕ). fitsCheck (length w / 8) p (treeIn at wide is) ≡ k) (sym (upTo-snoc p)) f))
+
+      pub build-done : (r : Quadtree) → Placed at (upTo p) w a d wide p (Done r) → Building slots w a d r (p + 1)
       build-done r (f, (h, e, k)) =
           record {
             holds = subst (λ (is : List ℕ). Holds at is w r) (sym (upTo-snoc p)) h;
             linked = subst (λ (is : List ℕ). Linked at is a d) (sym (upTo-snoc p)) k;
-            extent = e ∙ x .extent;
+            extent = e;
             check = decided fine f;
           }
 
-      pub build-refused : (r : Refusal) → moreCheck at (upTo p) w (c .extent) p ≡ refused r → Builds at w a (Built.Refused r)
+      pub build-refused : (r : Refusal) → moreCheck at (upTo p) w wide p ≡ refused r → Builds at w a (Built.Refused r)
       build-refused r f = ap (treeCheck at (particles at)) s ∙ decided (refused r) f
 
   leaves-map : (P Q : List ℕ → Type 0) → ((js : List ℕ) → P js → Q js) → (t : Tree ℕ) → EachLeaf (λ _. P) t → EachLeaf (λ _. Q) t

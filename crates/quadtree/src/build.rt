@@ -1,4 +1,8 @@
 // mod.rs: the tree of all particles, one after the other. The earliest whose prefix passes the greatest level or wants more slots than are lent is refused.
+ghost use mathlib.Core.List.{List};
+ghost use Prim.Native.Nat.{ℕ, _+_};
+ghost use Rattle.rules.specs.Cover.{coverFirst, extentOf};
+ghost use Rattle.placing.specs.Add.{Puts, Placed};
 ghost use Rattle.quadtree.specs.Build.{Lent, Builds, Follows, Extends};
 use crate::add;
 use cells::cover;
@@ -16,7 +20,7 @@ pub enum Built {
 }
 
 // The extent with p, and how many doublings lead to it.
-pub fn extend(at: &[f64], q: Quadtree, p: usize) -> Covered
+fn extend(at: &[f64], q: Quadtree, p: usize) -> Covered
     requires { ⌜ Follows (now at) q p ⌝ }
     ensures { λ r. ⌜ Extends (now (at .entry)) q p r ⌝ }
 {
@@ -29,6 +33,23 @@ pub fn extend(at: &[f64], q: Quadtree, p: usize) -> Covered
         };
     }
     cover::cover(q.extent, x, y)
+}
+
+// p goes into the tree of some of the particles before it, in the extent of all of those and p.
+pub fn add_next(
+    at: &[f64],
+    next: &mut [u32],
+    tail: &mut [u32],
+    m: &mut [u64],
+    q: Quadtree,
+    p: usize,
+) -> Inserted
+    requires { ⌜ ((is : List ℕ) × Follows (now at) q p × Puts (now at) is (now m) (now next) (now tail) q p) ⌝ }
+    ensures { λ r. ⌜ ((is : List ℕ) → Puts (now (at .entry)) is (now (m .entry)) (now (next .entry)) (now (tail .entry)) q p
+        → Placed (now (at .entry)) is (now (m .exit)) (now (next .exit)) (now (tail .exit)) (extentOf (coverFirst (now (at .entry)) (p + 1))) p r) ⌝ }
+{
+    let covered = extend(at, q, p);
+    add::insert(m, at, next, tail, q, covered, p)
 }
 
 pub fn build(at: &[f64], next: &mut [u32], tail: &mut [u32], m: &mut [u64]) -> Built
@@ -50,8 +71,7 @@ pub fn build(at: &[f64], next: &mut [u32], tail: &mut [u32], m: &mut [u64]) -> B
     };
     let mut p: usize = 0;
     while p < n {
-        let covered = extend(at, q, p);
-        let answer = add::insert(m, at, next, tail, q, covered, p);
+        let answer = add_next(at, next, tail, m, q, p);
         match answer {
             Inserted::Done(more) => {
                 q = more;
