@@ -6,17 +6,9 @@ use native.Mathlib.Numerals.{add-one}
 use native.Mathlib.Omega.{arith}
 use lib.ListN.{length, getD}
 use Rattle.slots.specs.Trees.{Follows, first}
+pub use Rattle.slots.specs.Trees.{Trails}
+use Rattle.slots.proofs.Links.{follows-trails}
 use Rattle.chains.specs.Chain.{Few, Chain}
-
--- the members that come from a link on
-abbrev pub Trails : List ℕ → ℕ → List ℕ → Type 0
-Trails next l [] = l ≡ 0
-Trails next l (i ∷ is) = (l ≡ i + 1) × Trails next (getD next i 0) is
-
-pub follows-trails : (next is : List ℕ) → Follows next is → Trails next (first is + 1) is
-follows-trails next [] h = absurd h
-follows-trails next (i ∷ []) h = (refl, h)
-follows-trails next (i ∷ j ∷ is) h = (refl, (h .0, follows-trails next (j ∷ is) (h .1) .1))
 
 -- how many come from a link on, of at most k
 unfoldable pub linksLeft : List ℕ → ℕ → ℕ → ℕ

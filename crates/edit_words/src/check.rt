@@ -1,4 +1,5 @@
 // What is wrong with the words: 4 at an insertion with a bad coordinate, then 5 at an unknown kind. The place is the number of the edit.
+use crate::EDIT_WORDS;
 use lists::first;
 use number::float_of;
 use rules::Refusal;
@@ -24,10 +25,10 @@ fn point_check(k: u64, kind: u64, x: u64, y: u64) -> Refusal
 fn points_check(edits: &[u64]) -> Refusal
     ensures { λ r. ⌜ r ≡ refusalOf (checkEach pointCheck (editsOf (now (edits .entry)))) ⌝ }
 {
-    let n = edits.len() / 3;
+    let n = edits.len() / EDIT_WORDS;
     let mut k: usize = 0;
     while k < n {
-        let j = k * 3;
+        let j = k * EDIT_WORDS;
         let r = point_check(k as u64, edits[j], edits[j + 1], edits[j + 2]);
         let number = r.number;
         if number != 0 {
@@ -45,10 +46,10 @@ fn points_check(edits: &[u64]) -> Refusal
 fn kinds_check(edits: &[u64]) -> Refusal
     ensures { λ r. ⌜ r ≡ refusalOf (checkEach (λ k e. require (known e) 5 k) (editsOf (now (edits .entry)))) ⌝ }
 {
-    let n = edits.len() / 3;
+    let n = edits.len() / EDIT_WORDS;
     let mut k: usize = 0;
     while k < n {
-        if edits[k * 3] > 1 {
+        if edits[k * EDIT_WORDS] > 1 {
             return Refusal {
                 number: 5,
                 place: k as u64,

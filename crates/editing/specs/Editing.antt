@@ -9,7 +9,7 @@ use Rattle.rules.specs.Outcome.{DoneUnless}
 use Rattle.rules.specs.declared.Extent.{Extent}
 use Rattle.rules.specs.Refusal.{mostEdits}
 use Rattle.rules.specs.Tree.{Tree, chainsOf}
-use Rattle.rules.specs.Edits.{Edit, Present, present, edited, presentAfter, among, extentNow, treeNow, editCheck, editsFrom, editsOf, insertions}
+use Rattle.rules.specs.Edits.{Edit, editWords, Present, present, edited, presentAfter, among, extentNow, treeNow, editCheck, editsFrom, editsOf, insertions}
 use Rattle.rules.proofs.CellList.{In}
 use Rattle.slots.specs.declared.Quadtree.{Quadtree}
 use Rattle.slots.specs.Trees.{Rises, Below, Lays}
@@ -38,9 +38,9 @@ Changed at slots k s e there m next tail b = DoneUnless (editCheck at slots k s 
 
 -- the words are edits of known kinds, not too many, and the points those of their insertions
 pub record Edits (words : List ℕ) (at : List Float) : Type 0 where
-  pub few : length words / 3 ≤ mostEdits
-  pub whole : length words ≡ length words / 3 * 3
-  pub known : (k : ℕ) → k * 3 + 3 ≤ length words → getD words (k * 3) 0 < 2
+  pub few : length words / editWords ≤ mostEdits
+  pub whole : length words ≡ length words / editWords * editWords
+  pub known : (k : ℕ) → k * editWords + editWords ≤ length words → getD words (k * editWords) 0 < 2
   pub points : insertions (editsOf words) ≡ particles at
 
 -- t stands in the slots, in this extent, of no more particles than there are points

@@ -8,6 +8,7 @@ ghost use Rattle.quadtree.specs.Build.{particles};
 ghost use Rattle.editing.specs.Editing.{Now, Room, Changed, Edits, AllDone};
 use crate::insert::insert_next;
 use crate::remove::remove_one;
+use edit_words::EDIT_WORDS;
 use quadtree::build::Built;
 use rules::Extent;
 use slots::Quadtree;
@@ -47,7 +48,7 @@ pub fn edit_all(
     requires { ⌜ Edits (now edits) (now at) × Room (now at) (now there) (now next) (now tail) ⌝ }
     ensures { λ r. ⌜ AllDone (now (edits .entry)) (now (at .entry)) (now (m .exit)) (now (next .exit)) r ⌝ }
 {
-    let n = edits.len() / 3;
+    let n = edits.len() / EDIT_WORDS;
     let nowhere = Extent {
         x0: 0.0,
         y0: 0.0,
@@ -63,8 +64,8 @@ pub fn edit_all(
     let mut made: usize = 0;
     let mut k: usize = 0;
     while k < n {
-        let kind = edits[k * 3];
-        let number = edits[k * 3 + 1];
+        let kind = edits[k * EDIT_WORDS];
+        let number = edits[k * EDIT_WORDS + 1];
         let answer = edit_one(at, there, next, tail, m, q, made, kind, number, k);
         match answer {
             Built::Refused(refusal) => {

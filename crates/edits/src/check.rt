@@ -1,4 +1,5 @@
 // What is lent, checked in its order: 1, 2, then 4 and 5 for the words.
+use edit_words::EDIT_WORDS;
 use edit_words::insertions;
 use edit_words::words_check;
 use lists::MOST_EDITS;
@@ -11,15 +12,15 @@ ghost use mathlib.Core.Bool.{_&&_};
 ghost use Prim.Native.Nat.{_*_, _/_, _^_, _<_};
 ghost use lib.Dec.{eqb};
 ghost use Rattle.rules.specs.Outcome.{refusalOf};
-ghost use Rattle.rules.specs.Edits.{editInputCheck};
+ghost use Rattle.rules.specs.Edits.{editWords, editInputCheck};
 ghost use Rattle.edits.specs.Call.{lent};
 
 // Whole edits, four numbers a slot, one an insertion.
 fn agree(words: usize, rows: usize, slots: usize, chains: usize, made: usize) -> bool
     requires { ⌜ slots < 2 ^ 61 ⌝ }
-    ensures { λ r. ⌜ r ≡ (eqb words (words / 3 * 3) && eqb rows (slots * 4) && eqb chains made) ⌝ }
+    ensures { λ r. ⌜ r ≡ (eqb words (words / editWords * editWords) && eqb rows (slots * 4) && eqb chains made) ⌝ }
 {
-    if words != words / 3 * 3 {
+    if words != words / EDIT_WORDS * EDIT_WORDS {
         return false;
     }
     rows == slots * 4 && chains == made
@@ -29,7 +30,7 @@ pub fn input_check(edits: &[u64], rows: &[u32], chains: &[u32], work: &[u64]) ->
     ensures { λ r. ⌜ r ≡ refusalOf (editInputCheck (lent (now (edits .entry)) (now (rows .entry)) (now (chains .entry)) (now (work .entry)))) ⌝ }
 {
     let words = edits.len();
-    let many = count_check(MOST_EDITS, words / 3);
+    let many = count_check(MOST_EDITS, words / EDIT_WORDS);
     let number = many.number;
     if number != 0 {
         return many;

@@ -1,4 +1,4 @@
-// The ways down a tree that removing takes, by reading alone.
+// The ways down a tree that removing takes, by reading alone. `l` is how far down a way is: it ends within the greatest level.
 ghost use mathlib.Core.Path.{_≡_};
 ghost use Prim.Native.Nat.{ℕ};
 ghost use Rattle.rules.specs.Tree.{Tree};

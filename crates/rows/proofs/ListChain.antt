@@ -7,15 +7,8 @@ use lib.ListN.{length, getD, set, length-set}
 use Rattle.rules.specs.Plain.{overwritten}
 use Rattle.sheet.proofs.Lists.{overwritten-none, store-first}
 use Rattle.slots.proofs.Links.{trails-unique}
-use Rattle.slots.specs.Trees.{Follows, Trails, first}
+use Rattle.slots.specs.Trees.{Trails}
 use Rattle.rows.specs.List.{Chain}
-
--- a chain, from its first particle's number on
-pub follows-trails : (next is : List ℕ) → Follows next is → Trails next (first is + 1) is
-follows-trails next [] f = absurd f
-follows-trails next (i ∷ []) f = (refl, f)
-follows-trails next (i ∷ j ∷ is) f =
-    (refl, rw (f .0) (follows-trails next (j ∷ is) (f .1)))
 
 module _ (next before : List ℕ) (p at : ℕ) where
   -- The chain from p on is being written behind the first `at`: it is left to write the one from `link` on at `end`.

@@ -10,7 +10,7 @@ use Rattle.rules.specs.Plain.{overwritten}
 use Rattle.slots.specs.Trees.{word, kids, first, Follows, Trails, Below}
 use Rattle.rows.specs.List.{Leaf, Lies, Listable, Wrote}
 use Rattle.rows.specs.declared.Cursor.{Cursor}
-use Rattle.rows.proofs.ListChain.{follows-trails}
+use Rattle.slots.proofs.Links.{follows-trails}
 use Rattle.rows.proofs.ListRows.{rows-count, wrote-internal, wrote-next, wrote-rows, wrote-chains}
 
 -- ---- numbers below a bound

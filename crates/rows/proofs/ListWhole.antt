@@ -1,7 +1,6 @@
 -- The listing of a whole tree.
 use mathlib.Core.Path.{_≡_, refl, sym, ap, _∙_}
-use mathlib.Core.Logic.{inl, inr}
-use mathlib.Core.List.{List, [], _∷_, _++_, append-nil}
+use mathlib.Core.List.{List, [], _++_, append-nil}
 use Prim.Native.Nat.{ℕ, suc, _+_, _-_, _*_, _≤_, _<_}
 use native.Mathlib.Nat.{zero-add}
 use native.Mathlib.Omega.{arith}
@@ -12,13 +11,13 @@ use Rattle.rules.specs.Plain.{upTo, overwritten, padded}
 use Rattle.rules.specs.Cell.{quarter}
 use Rattle.rules.specs.Cover.{coverFirst, extentOf}
 use Rattle.rules.specs.Tree.{Tree, none, leaf, node, depth, Row, rowsFrom, rowsOf, flat, chainsOf, treeOf}
-use Rattle.rules.proofs.CellList.{In}
 use Rattle.rules.proofs.CellIs.{Is}
 use Rattle.rules.proofs.CellCount.{length-upTo, in-count}
 use Rattle.rules.proofs.CellRule as Rule
 use Rattle.sheet.proofs.Lists.{overwritten-none, overwritten-next, overwritten-length, store-first}
 use Rattle.slots.specs.Trees.{inCells, Lays, Below}
 use Rattle.slots.proofs.Trees.{each-map}
+use Rattle.slots.proofs.Links.{in-below}
 use Rattle.rows.specs.List.{Listable, Wrote, Whole}
 use Rattle.slots.specs.declared.Quadtree.{Quadtree}
 use Rattle.rows.specs.declared.Cursor.{Cursor}
@@ -131,10 +130,6 @@ module _ {t : Tree Extent} {m next : List ℕ} {q : Quadtree} {rows chains : ℕ
           e ∙ rw (← k, v .chained) (zeros-behind chains₀ f fits) ∙ ap (padded (length chains₀) 0) chains-same
 
 -- ---- the tree of the first n points, for those who list it
-
-in-below : (n : ℕ) (is : List ℕ) → ((i : ℕ) → In i is → i < n) → Below n is
-in-below n [] f = tt
-in-below n (i ∷ is) f = (f i (inl refl), in-below n is (λ j h. f j (inr h)))
 
 module _ (at : List Float) (n : ℕ) where
   -- the tree of the rule is whole

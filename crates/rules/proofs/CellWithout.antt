@@ -18,7 +18,7 @@ use Rattle.rules.specs.Edits.{others}
 use Rattle.rules.proofs.CellList.{In, in-some, both, all-in, all-not, keep-keep, keep-in}
 use Rattle.rules.proofs.CellPoints.{One, one0, one1, one2, one3, one-quarter, same-sym, same-trans}
 use Rattle.rules.proofs.CellIs.{Is, is-unique, grow-is, grown}
-use Rattle.rules.proofs.CellCount.{all-same, leaves-distinct}
+use Rattle.rules.proofs.CellCount.{all-same, leaves-distinct, distinct-pos}
 use Rattle.rules.proofs.CellInsert.{moved, moved-is}
 use Rattle.rules.proofs.CellMore.{NoLarger, alike-sublist}
 
@@ -93,12 +93,8 @@ module _ (at : List Float) where
   pub two-distinct : (is : List ℕ) → alike at is ≡ false → 2 ≤ distinct at is
   two-distinct [] e = absurd (true≢false e)
   two-distinct (i ∷ []) e = absurd (true≢false e)
-  two-distinct (i ∷ j ∷ is) e = go (all (λ k. not (same at i k)) (j ∷ is)) (all (same at j) is) refl refl (two-distinct (j ∷ is)) (some j is)
+  two-distinct (i ∷ j ∷ is) e = go (all (λ k. not (same at i k)) (j ∷ is)) (all (same at j) is) refl refl (two-distinct (j ∷ is)) (distinct-pos at j is)
     where
-      some : (j : ℕ) (is : List ℕ) → 0 < distinct at (j ∷ is)
-      some j [] = omega arith
-      some j (k ∷ is) = omega (arith, some k is)
-
       go : (a b : Bool) → all (λ k. not (same at i k)) (j ∷ is) ≡ a → all (same at j) is ≡ b → (all (same at j) is ≡ false → 2 ≤ distinct at (j ∷ is)) → 0 < distinct at (j ∷ is) → 2 ≤ cond a 1 0 + distinct at (j ∷ is)
       go true b f g h s = omega arith
       go false false f g h s = omega (arith, h g)

@@ -13,7 +13,7 @@ use lib.Seq.{take-suc, take-take, length-take-le, getD-take}
 use lib.Ieee.{Float}
 use borrow.Author.Tests.{eqb-true, eq-eqb, ne-eqb}
 use Rattle.rules.specs.declared.Extent.{Extent}
-use Rattle.rules.specs.Plain.{keep, foldl}
+use Rattle.rules.specs.Plain.{foldl}
 use Rattle.rules.specs.Number.{xAt, yAt}
 use Rattle.rules.specs.Floor.{floor}
 use Rattle.rules.specs.Cell.{quarter}
@@ -21,7 +21,7 @@ use Rattle.rules.specs.Cover.{Covered, nothing, coverPoint, coverAll}
 use Rattle.rules.specs.Tree.{same, alike, inQuarter, pointsIn, grow, treeIn}
 use Rattle.rules.specs.Edits.{Edit, insertion, removal, unknown, editOf, editsOf, pointsOf, insertions, Present, others, edited, presentAfter, among, removable}
 use Rattle.rules.specs.Terms.{times}
-use Rattle.rules.proofs.CellList.{In, in-keep, keep-agree, all-agree}
+use Rattle.rules.proofs.CellList.{In, in-keep, keep-length, keep-agree, all-agree, foldl-append}
 use Rattle.rules.proofs.CellIs.{grow-none, grow-leaf, grow-node, grow-stop}
 
 -- ---- members
@@ -83,14 +83,6 @@ times-kept i p (j ∷ l) n = go (eqb j p) refl (times-kept i p l n)
     go : (b : Bool) → eqb j p ≡ b → times i (others p l) ≡ times i l → times i (cond (not b) (j ∷ others p l) (others p l)) ≡ cond (eqb i j) 1 0 + times i l
     go true f h = rw (ne-eqb i j (λ z. n (sym (eqb-true j p f) ∙ sym z))) (omega arith)
     go false f h = ap (λ (k : ℕ). cond (eqb i j) 1 0 + k) h
-
-keep-length : (p : ℕ → Bool) (l : List ℕ) → length (keep p l) ≤ length l
-keep-length p [] = omega arith
-keep-length p (j ∷ l) = go (p j) (keep-length p l)
-  where
-    go : (b : Bool) → length (keep p l) ≤ length l → length (cond b (j ∷ keep p l) (keep p l)) ≤ suc (length l)
-    go true h = omega arith
-    go false h = omega arith
 
 -- ---- what is there after some edits
 
@@ -161,10 +153,6 @@ others-last s h = go (s .left) (h .earlier)
     go (j ∷ l) e = rw (ne-eqb j (s .made) (λ z. omega (arith, e j (inl refl)))) (ap (λ (k : List ℕ). j ∷ k) (go l (λ i m. e i (inr m))))
 
 -- ---- one edit after the other
-
-pub foldl-append : {A S : Type 0} (f : S → A → S) (s : S) (l m : List A) → foldl f s (l ++ m) ≡ foldl f (foldl f s l) m
-foldl-append f s [] m = refl
-foldl-append f s (a ∷ l) m = foldl-append f (f s a) l m
 
 -- what is there after one edit more
 pub present-next : (es : List Edit) (k : ℕ) → k < length es → presentAfter (take (k + 1) es) ≡ edited (presentAfter (take k es)) (getD es k unknown)

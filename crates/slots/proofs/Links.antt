@@ -120,3 +120,9 @@ pub trails-follows : (next : List ℕ) (l : ℕ) (js : List ℕ) → 0 < length 
 trails-follows next l [] s t = absurd (omega arith)
 trails-follows next l (j ∷ []) s t = t .1
 trails-follows next l (j ∷ k ∷ js) s t = (t .1 .0, trails-follows next (getD next j 0) (k ∷ js) (omega arith) (t .1))
+
+-- and the other way: from its first on it is led to
+pub follows-trails : (next js : List ℕ) → Follows next js → Trails next (first js + 1) js
+follows-trails next [] f = absurd f
+follows-trails next (j ∷ []) f = (refl, f)
+follows-trails next (j ∷ k ∷ js) f = (refl, (f .0, follows-trails next (k ∷ js) (f .1) .1))

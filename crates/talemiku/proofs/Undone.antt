@@ -19,9 +19,10 @@ use Rattle.rules.specs.Tree.{Tree, nodes, treeIn, rowsOf, flat, chainsOf}
 use Rattle.rules.specs.Calls.{slotsOf}
 use Rattle.rules.specs.Edits.{Edit, insertion, removal, unknown, pointsOf, insertions, Present, present, edited, presentAfter, extentNow, treeNow, removable, pointCheck, known, EditsInput, editList, editInputCheck, editWorkAfter}
 use Rattle.rules.specs.Terms.{Fits, nthEdit, presentAt, extentAt, treeAt, CanBeMade}
+use Rattle.rules.proofs.CellList.{foldl-append}
 use Rattle.rules.proofs.CellCount.{in-count}
 use Rattle.rules.proofs.CellRule.{chains-length}
-use Rattle.rules.proofs.EditLaws.{Kept, kept-after, made-after, others-last, foldl-append, points-append, insertions-append, tree-agree, cover-agree}
+use Rattle.rules.proofs.EditLaws.{Kept, kept-after, made-after, others-last, points-append, insertions-append, tree-agree, cover-agree}
 use Rattle.lists.proofs.Checks.{bind-both}
 use Rattle.edit_words.proofs.Words.{points-length}
 use Rattle.edits.specs.Call.{AfterEdits}

@@ -9,6 +9,7 @@ use Rattle.rules.specs.declared.Extent.{Extent}
 use Rattle.rules.specs.Plain.{foldl}
 use Rattle.rules.specs.Tree.{Tree, none, leaf, node, nodes}
 use Rattle.rules.specs.Walk.{Entry, internal, tip, valued, parentLast}
+use Rattle.rules.proofs.CellList.{foldl-append}
 use Rattle.slots.specs.declared.Quadtree.{Quadtree}
 use Rattle.walk.specs.declared.visit_after.Path.{Path}
 use Rattle.walk.specs.declared.visit_after.Handed.{Handed}
@@ -64,10 +65,6 @@ values-none read m p e = rw e
 pub values-some : {B : Type 0} (read : List ℕ → ℕ → B) (m : List ℕ) (p : ℕ) → (p ≡ 0 → ⊥) → valuesAt read m p ≡ read m (p - 1) ∷ []
 values-some read m p n = let e : p ≡ suc (p - 1) = omega arith in ap (valuesAt read m) e
 
-fold-append : {B S : Type 0} (f : S → B → S) (a : S) (xs ys : List B) → foldl f a (xs ++ ys) ≡ foldl f (foldl f a xs) ys
-fold-append f a [] ys = refl
-fold-append f a (x ∷ xs) ys = fold-append f (f a x) xs ys
-
 -- a fold over the children's values, one child after the other
 module _ {B S : Type 0} (read : List ℕ → ℕ → B) (f : S → B → S) (a : S) (m : List ℕ) (s : ℕ) where
   fold-kids : foldl f a (kidValues read m s)
@@ -75,9 +72,9 @@ module _ {B S : Type 0} (read : List ℕ → ℕ → B) (f : S → B → S) (a :
   unfolding kidValues
   fold-kids =
       let v = valuesAt read m in
-      fold-append f a (v (kid m s 0) ++ v (kid m s 1) ++ v (kid m s 2)) (v (kid m s 3))
-      ∙ ap (λ (x : S). foldl f x (v (kid m s 3))) (fold-append f a (v (kid m s 0) ++ v (kid m s 1)) (v (kid m s 2))
-      ∙ ap (λ (x : S). foldl f x (v (kid m s 2))) (fold-append f a (v (kid m s 0)) (v (kid m s 1))))
+      foldl-append f a (v (kid m s 0) ++ v (kid m s 1) ++ v (kid m s 2)) (v (kid m s 3))
+      ∙ ap (λ (x : S). foldl f x (v (kid m s 3))) (foldl-append f a (v (kid m s 0) ++ v (kid m s 1)) (v (kid m s 2))
+      ∙ ap (λ (x : S). foldl f x (v (kid m s 2))) (foldl-append f a (v (kid m s 0)) (v (kid m s 1))))
 
   pub fold-children : {ks : List ℕ} {a0 a1 a2 a3 : S} → ks ≡ kids m s → a0 ≡ foldl f a (valuesAt read m (getD ks 0 0)) → a1 ≡ foldl f a0 (valuesAt read m (getD ks 1 0))
       → a2 ≡ foldl f a1 (valuesAt read m (getD ks 2 0)) → a3 ≡ foldl f a2 (valuesAt read m (getD ks 3 0)) → a3 ≡ foldl f a (kidValues read m s)
