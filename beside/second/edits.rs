@@ -834,12 +834,6 @@ pub fn run(words: &[&str]) -> Option<bool> {
         ["every"] => Some(hold(every(5))),
         ["every", most] => Some(hold(every(most.parse().ok().filter(|&most| most < 10)?))),
         ["long"] => Some(hold(long().into_iter())),
-        [seed, count, max] => {
-            let mut random = Random::new(seed.parse().ok()?);
-            let count: usize = count.parse().ok()?;
-            let max = max.parse().ok()?;
-            Some(hold((1..=count).map(|number| case(&mut random, number, max))))
-        }
-        _ => None,
+        _ => crate::random(words, case).map(hold),
     }
 }

@@ -9,6 +9,7 @@ mod fence;
 mod random;
 mod unwrap;
 
+use random::Random;
 use std::collections::BTreeMap;
 use std::fmt::Display;
 use std::process::exit;
@@ -40,6 +41,15 @@ fn hold<C: Display, A: Display + PartialEq>(
         numbers.iter().filter(|(&number, _)| number != 0).map(|(number, count)| format!(", refused {number}: {count}")).collect();
     println!("{entry}: {cases} cases, {} accepted{refused}\n{cases} cases, 0 differ", numbers.get(&0).unwrap_or(&0));
     true
+}
+
+/// COUNT random cases from SEED, each made by its number, from 1 on, and MAX; none for other words than these three.
+fn random<'a, C>(words: &[&str], case: impl Fn(&mut Random, usize, usize) -> C + 'a) -> Option<impl Iterator<Item = C> + 'a> {
+    let [seed, count, max] = <[&str; 3]>::try_from(words).ok()?;
+    let mut random = Random::new(seed.parse().ok()?);
+    let count: usize = count.parse().ok()?;
+    let max = max.parse().ok()?;
+    Some((1..=count).map(move |number| case(&mut random, number, max)))
 }
 
 fn main() {

@@ -346,12 +346,6 @@ fn case(r: &mut Random, number: usize, max: usize) -> Case {
 pub fn run(words: &[&str]) -> Option<bool> {
     match *words {
         ["every"] => Some(hold(every().into_iter())),
-        [seed, count, max] => {
-            let mut random = Random::new(seed.parse().ok()?);
-            let count: usize = count.parse().ok()?;
-            let max = max.parse().ok()?;
-            Some(hold((1..=count).map(|number| case(&mut random, number, max))))
-        }
-        _ => None,
+        _ => crate::random(words, case).map(hold),
     }
 }
