@@ -421,6 +421,7 @@ EDITS = [
     ('y before x', 'Edits', 'editOf zero x y = insertion (floatOf x) (floatOf y)', 'editOf zero y x = insertion (floatOf x) (floatOf y)', TABLE),
     ('a removal by its third word', 'Edits', 'editOf (suc zero) i w = removal i', 'editOf (suc zero) w i = removal i', TABLE),
     ('two words an edit', 'Edits', 'editWords = 3', 'editWords = 2', TABLE),
+    ('one word left over makes an edit', 'Edits', 'editsOf (k ∷ []) = []', 'editsOf (k ∷ []) = editOf k 0 0 ∷ []', TABLE),
     ('two words left over make an edit', 'Edits', 'editsOf (k ∷ v ∷ []) = []', 'editsOf (k ∷ v ∷ []) = editOf k v 0 ∷ []', TABLE),
     ('removals have a place in the chains', 'Edits', 'insertions (removal i ∷ es) = insertions es', 'insertions (removal i ∷ es) = suc (insertions es)', TABLE),
     ('unknown edits have a place in the chains', 'Edits', 'insertions (unknown ∷ es) = insertions es', 'insertions (unknown ∷ es) = suc (insertions es)', TABLE),

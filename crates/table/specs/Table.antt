@@ -714,6 +714,7 @@ lapses =
     ∷ refusesEdits (editing 1 (map off (replicate 4096 0))) 15 0 0
     ∷ refusesEdits (editing 1 (map off (replicate 4097 0))) 1 0 7
     ∷ refusesEdits (lending 3 3 (editing 1 (map off (replicate 4097 0)))) 1 0 7
+    ∷ refusesEdits (editing 1 (map off (replicate 4096 0) ++ (1 ∷ []) ∷ [])) 2 0 7
     ∷ refusesEdits (editing 1 (map off (replicate 4096 0) ++ (1 ∷ 0 ∷ []) ∷ [])) 2 0 7
     -- 2 before 4: a rest of words, either list
     ∷ refusesEdits (editing 1 ((0 ∷ []) ∷ [])) 2 0 7
