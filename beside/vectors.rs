@@ -1,6 +1,6 @@
 // Makes the data of the program `vectors` again: roots and floors, answered by this machine's own square root and floor.
 //
-//   rustc -O -o beside/build/vectors beside/vectors.rs && beside/build/vectors crates/vectors/src
+//   rustc -O -o beside/build/vectors beside/vectors.rs && beside/build/vectors crates/replay_vectors/src
 //
 // It writes roots.rt and floors.rt into the folder that it is given.
 mod random;
@@ -136,7 +136,7 @@ fn array(out: &mut String, comment: &str, name: &str, of: &str, values: &[String
     out.push_str("];\n");
 }
 
-const MADE: &str = "Made by `rustc -O -o beside/build/vectors beside/vectors.rs && beside/build/vectors crates/vectors/src`";
+const MADE: &str = "Made by `rustc -O -o beside/build/vectors beside/vectors.rs && beside/build/vectors crates/replay_vectors/src`";
 
 fn roots() -> String {
     let mut random = Random::new(1);

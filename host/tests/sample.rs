@@ -1,5 +1,5 @@
 //! The stored sample of the Rust's answers, which crates/replay runs through the calls, here through the entries: each answer, and every lent buffer after its call.
-//! beside/pack says how the sample is laid out, and the files of crates/answers and crates/replay what the parts of a case are.
+//! beside/pack says how the sample is laid out, and the files of crates/replay_answers and crates/replay what the parts of a case are.
 use std::convert::TryInto;
 use std::fs;
 use std::path::Path;

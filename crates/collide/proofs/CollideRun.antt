@@ -15,9 +15,9 @@ use Rattle.rules.specs.Flow.{Flow}
 use Rattle.rules.specs.Collide.{radiusTree, collideOnce, runCollide}
 use Rattle.rules.proofs.CellRule.{tree-nodes}
 use Rattle.rules.proofs.OutcomeLaws.{bind-cong}
-use Rattle.slots.specs.declared.Quadtree.{Quadtree}
-use Rattle.slots.proofs.Trees.{lays-levels, lays-nodes}
-use Rattle.walk.proofs.WalkStands.{nodes-stands}
+use Rattle.tree_slots.specs.declared.Quadtree.{Quadtree}
+use Rattle.tree_slots.proofs.Trees.{lays-levels, lays-nodes}
+use Rattle.tree_walk.proofs.WalkStands.{nodes-stands}
 use Rattle.collide.specs.Radius.{Rounded}
 use Rattle.collide.specs.Collide.{Bounded, walkAll, walkTimes}
 use Rattle.collide.proofs.CollideSteps.{look, seen-radii}

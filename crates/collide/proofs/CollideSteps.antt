@@ -14,13 +14,13 @@ use Rattle.rules.specs.Number.{_⊕_}
 use Rattle.rules.specs.Walk.{internal, tip, Counted, after, stopIf}
 use Rattle.rules.specs.Flow.{Flow, flow}
 use Rattle.rules.specs.Collide.{radiusOf, radiusTree, away, meetFirst, collideStep}
-use Rattle.slots.specs.declared.Quadtree.{Quadtree}
-use Rattle.walk.specs.declared.visit.Walk.{Walk}
-use Rattle.walk.specs.declared.visit.Waiting.{Waiting}
-use Rattle.slots.specs.Trees.{Follows, first, Below}
-use Rattle.walk.specs.Walk.{seen}
-use Rattle.walk.proofs.Walking.{Walking, Turn, Rooted, start}
-use Rattle.walk.proofs.WalkStands.{chains-below, found}
+use Rattle.tree_slots.specs.declared.Quadtree.{Quadtree}
+use Rattle.tree_walk.specs.declared.visit.Walk.{Walk}
+use Rattle.tree_walk.specs.declared.visit.Waiting.{Waiting}
+use Rattle.tree_slots.specs.Trees.{Follows, first, Below}
+use Rattle.tree_walk.specs.Walk.{seen}
+use Rattle.tree_walk.proofs.Walking.{Walking, Turn, Rooted, start}
+use Rattle.tree_walk.proofs.WalkStands.{chains-below, found}
 use Rattle.force.specs.declared.draws.Spent.{Spent}
 use Rattle.force.specs.Draws.{spentOf}
 use Rattle.collide.specs.Radius.{radiusIn, Rounded}

@@ -11,9 +11,9 @@ use lib.Ieee.Bits.{ofBits-fits}
 use Rattle.rules.specs.Plain.{foldl}
 use Rattle.rules.specs.Number.{0·, plainZero}
 use Rattle.rules.specs.Collide.{greater, radiusOf, leafRadius, nodeRadius}
-use Rattle.slots.specs.Trees.{kid, kids, Follows, first, Below, ChainFrom}
-use Rattle.walk.specs.WalkAfter.{valuesAt, kidValues}
-use Rattle.walk.proofs.WalkAfter.{values-some, fold-children}
+use Rattle.tree_slots.specs.Trees.{kid, kids, Follows, first, Below, ChainFrom}
+use Rattle.tree_walk.specs.WalkAfter.{valuesAt, kidValues}
+use Rattle.tree_walk.proofs.WalkAfter.{values-some, fold-children}
 use Rattle.collide.specs.Radius.{radiusIn}
 
 -- ---- bit patterns

@@ -10,8 +10,8 @@ use Rattle.rules.specs.Walk.{Counted, counted, walk}
 use Rattle.rules.specs.Flow.{Flow, flow}
 use Rattle.rules.specs.Collide.{radiusTree, collideStep}
 use Rattle.force.specs.declared.Ran.{Ran}
-use Rattle.slots.specs.declared.Quadtree.{Quadtree}
-use Rattle.slots.specs.Trees.{Stands}
+use Rattle.tree_slots.specs.declared.Quadtree.{Quadtree}
+use Rattle.tree_slots.specs.Trees.{Stands}
 
 -- particles and iterations within their limits, and few nodes handed out so far
 pub record Bounded (n iterations visits : ℕ) : Type 0 where

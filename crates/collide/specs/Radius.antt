@@ -4,9 +4,9 @@ use Prim.Native.Nat.{ℕ}
 use lib.ListN.{length}
 use lib.Ieee.{Float}
 use Rattle.rules.specs.Collide.{leafRadius, nodeRadius}
-use Rattle.slots.specs.declared.Quadtree.{Quadtree}
-use Rattle.slots.specs.Trees.{value, Stands}
-use Rattle.walk.specs.WalkAfter.{Valued}
+use Rattle.tree_slots.specs.declared.Quadtree.{Quadtree}
+use Rattle.tree_slots.specs.Trees.{value, Stands}
+use Rattle.tree_walk.specs.WalkAfter.{Valued}
 
 -- value 0 of a node
 abbrev pub radiusIn : List ℕ → ℕ → Float

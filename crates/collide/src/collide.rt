@@ -1,26 +1,26 @@
 // collide.rs: particles whose circles overlap are pushed apart.
 use crate::radius::prepare;
-use contact::meet_first;
-use contact::skips;
+use collide_contact::meet_first;
+use collide_contact::skips;
 use force::Ran;
-use quadtree::build::Built;
-use quadtree::build::build;
+use tree_build::build::Built;
+use tree_build::build::build;
 use rules::Refusal;
 use rules::Visit;
-use slots::Quadtree;
-use slots::store;
-use walk::visit;
-use walk::visit::Walk;
+use tree_slots::Quadtree;
+use tree_slots::store;
+use tree_walk::visit;
+use tree_walk::visit::Walk;
 ghost use mathlib.Core.Path.{_≡_};
 ghost use Prim.Native.Nat.{_+_, _*_, _/_, _≤_, _<_, _^_};
 ghost use lib.ListN.{length};
 ghost use Rattle.rules.specs.Refusal.{mostIterations};
 ghost use Rattle.rules.specs.Tree.{nodes};
 ghost use Rattle.rules.specs.Collide as Collide;
-ghost use Rattle.quadtree.specs.Build.{Lent};
+ghost use Rattle.tree_build.specs.Build.{Lent};
 ghost use Rattle.force.specs.Ran.{Runs};
 ghost use Rattle.collide.specs.Radius.{Rounded};
-ghost use Rattle.contact.specs.Contact.{Spread};
+ghost use Rattle.collide_contact.specs.Contact.{Spread};
 ghost use Rattle.collide.specs.Collide.{ended, Bounded, Stood, begun, walkAll, walkTimes};
 
 // Refused by this number, which names no place, or not at all with 0.

@@ -1,17 +1,17 @@
 // Collide's radius of each node, laid in value 0 of its slot, children first.
-use contact::radius_of;
+use collide_contact::radius_of;
 use number::index;
 use number::wide;
-use slots::Quadtree;
-use slots::store;
-use walk::visit_after;
-use walk::visit_after::Path;
+use tree_slots::Quadtree;
+use tree_slots::store;
+use tree_walk::visit_after;
+use tree_walk::visit_after::Path;
 ghost use mathlib.Core.Path.{_≡_};
 ghost use Prim.Native.Nat.{_+_, _*_, _≤_};
 ghost use lib.ListN.{length};
 ghost use Rattle.rules.specs.Plain.{foldl};
 ghost use Rattle.rules.specs.Collide as Collide;
-ghost use Rattle.walk.specs.WalkAfter.{Lent, KidsLent, valuesAt, kidValues};
+ghost use Rattle.tree_walk.specs.WalkAfter.{Lent, KidsLent, valuesAt, kidValues};
 ghost use Rattle.collide.specs.Radius.{radiusIn, Standing, Prepares};
 
 // The radius of a child, where there is one and it is greater.

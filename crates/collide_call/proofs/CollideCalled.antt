@@ -19,12 +19,12 @@ use Rattle.rules.specs.Force.{collide, run}
 use Rattle.rules.specs.Calls.{ForceInput, count, inputLengths}
 use Rattle.rules.proofs.RefusalLaws.{of-all}
 use Rattle.rules.proofs.RefusalNumbers.{five, count-early, ranges-early}
-use Rattle.lists.specs.Checks.{coordinatesCheck, velocitiesCheck, firstOf}
+use Rattle.list_checks.specs.Checks.{coordinatesCheck, velocitiesCheck, firstOf}
 use Rattle.force_call.specs.Calls.{lentCheck, numbersCheck}
-use Rattle.lists.proofs.Scans.{first-then, points-early}
+use Rattle.list_checks.proofs.Scans.{first-then, points-early}
 use Rattle.force_call.proofs.Called.{Lent}
-use Rattle.lists.proofs.Checks.{then-fine, require-true, first-three}
-use Rattle.contact.specs.Contact.{Spread}
+use Rattle.list_checks.proofs.Checks.{then-fine, require-true, first-three}
+use Rattle.collide_contact.specs.Contact.{Spread}
 
 -- ---- 2
 

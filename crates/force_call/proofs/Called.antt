@@ -27,11 +27,11 @@ use Rattle.sheet.specs.Columns.{putPairs}
 use Rattle.sheet.proofs.Columns.{put-beside}
 use Rattle.force.specs.declared.Ran.{Ran}
 use Rattle.force.specs.Ran.{standing, ranOf}
-use Rattle.lists.specs.Checks.{coordinatesCheck, velocitiesCheck}
+use Rattle.list_checks.specs.Checks.{coordinatesCheck, velocitiesCheck}
 use Rattle.force_call.specs.Calls.{lent, noCounts, countsAfter, Settled, Answered, lentCheck, numbersCheck}
 use Rattle.force.proofs.Standing.{late-clears}
-use Rattle.lists.proofs.Checks.{then-both, require-true}
-use Rattle.lists.proofs.Scans.{early-keeps, points-early}
+use Rattle.list_checks.proofs.Checks.{then-both, require-true}
+use Rattle.list_checks.proofs.Scans.{early-keeps, points-early}
 
 -- ---- lengths
 

@@ -10,9 +10,9 @@ use Rattle.rules.specs.Number.{within, placeRange, xAt, yAt}
 use Rattle.rules.specs.Refusal.{coordinateCheck, drawsCheck, settingsCheck}
 use Rattle.rules.specs.Force.{Push, pushRanges}
 use Rattle.rules.specs.Calls.{ForceInput, count}
-use Rattle.cells.proofs.Prefix.{fine-each}
-use Rattle.lists.specs.Checks.{coordinatesCheck, velocitiesCheck}
-use Rattle.lists.proofs.Checks.{then-both, require-true}
+use Rattle.tree_cells.proofs.Prefix.{fine-each}
+use Rattle.list_checks.specs.Checks.{coordinatesCheck, velocitiesCheck}
+use Rattle.list_checks.proofs.Checks.{then-both, require-true}
 use Rattle.force_call.specs.Calls.{numbersCheck}
 
 -- every place is in range

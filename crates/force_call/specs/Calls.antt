@@ -16,7 +16,7 @@ use Rattle.rules.specs.Flow.{Flow}
 use Rattle.rules.specs.Force.{Push, pushCounts, pushLengths, pushEnds, pushRanges}
 use Rattle.rules.specs.Calls.{ForceInput, count, inputLengths, forceAnswer, bufferAfter}
 use Rattle.force.specs.declared.Ran.{Ran}
-use Rattle.lists.specs.Checks.{coordinatesCheck, velocitiesCheck}
+use Rattle.list_checks.specs.Checks.{coordinatesCheck, velocitiesCheck}
 
 abbrev pub lent : List Float → List ℕ → ℕ → List Float → List ℕ → ForceInput
 lent places buffer start draws work = record { places = places; buffer = buffer; start = start; draws = draws; work = work }

@@ -1,6 +1,6 @@
 // What the calls of all forces share: the lengths of what is lent, and how a force that has run is answered.
 use force::Ran;
-use lists::result_check;
+use list_checks::result_check;
 use rules::Counts;
 use rules::Refusal;
 ghost use mathlib.Core.Path.{_≡_};
@@ -46,7 +46,7 @@ pub fn settle(places: &[f64], part: &mut [u8], speeds: &[f64], ran: Ran, work: &
     requires { ⌜ (length (now speeds) % 2 ≡ 0) × (length (now part) ≡ length (now speeds) * 8) ⌝ }
     ensures { λ r. ⌜ Settled (standing ran then resultCheck (now (places .entry)) (now (speeds .entry))) ran (now (speeds .entry)) (now (part .entry)) (now (work .entry)) r (now (part .exit)) (now (work .exit)) ⌝ }
 {
-    slots::store::clear(work);
+    tree_slots::store::clear(work);
     let refusal = ran.refusal;
     let number = refusal.number;
     if number != 0 {

@@ -11,9 +11,9 @@ use lib.ListN.{length, getD}
 use Rattle.rules.specs.Outcome.{Check, fine, require, requireAll, checkFrom}
 use Rattle.rules.specs.Link.{Ends}
 use Rattle.rules.specs.Force.{endsOf, endsRange}
-use Rattle.lists.specs.Checks.{endsAt}
-use Rattle.lists.proofs.Scans.{endsLeft, ends-first, ends-left}
-use Rattle.lists.proofs.Checks.{bind-both, require-true}
+use Rattle.list_checks.specs.Checks.{endsAt}
+use Rattle.list_checks.proofs.Scans.{endsLeft, ends-first, ends-left}
+use Rattle.list_checks.proofs.Checks.{bind-both, require-true}
 use Rattle.link.proofs.Tallies.{ends-length}
 
 pub ends-count : (links : List ℕ) → length (endsOf links) ≡ length links / 2

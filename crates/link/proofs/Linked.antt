@@ -18,9 +18,9 @@ use Rattle.rules.specs.Link.{Ends, countEnds, bias, defaultStrength, strengthAt
 use Rattle.force.specs.declared.draws.Jiggled.{Jiggled}
 use Rattle.force.specs.declared.draws.Spent.{Spent}
 use Rattle.force.specs.Draws.{shakenOf, spentOf}
-use Rattle.tally.specs.Tally.{strengthOr}
-use Rattle.lists.specs.Checks.{endsAt}
-use Rattle.lists.proofs.Scans.{endsLeft, ends-first, ends-left, ends-none, count-left}
+use Rattle.link_tally.specs.Tally.{strengthOr}
+use Rattle.list_checks.specs.Checks.{endsAt}
+use Rattle.list_checks.proofs.Scans.{endsLeft, ends-first, ends-left, ends-none, count-left}
 
 -- ---- strengths
 

@@ -15,10 +15,10 @@ use Rattle.rules.specs.Plain.{countFrom, upTo}
 use Rattle.rules.specs.Link.{Ends, ends, countEnds}
 use Rattle.rules.specs.Force.{endsFrom, endsOf}
 use Rattle.rules.proofs.CellCount.{length-upTo}
-use Rattle.slots.proofs.Fill.{room}
-use Rattle.tally.specs.Tally.{counted}
+use Rattle.tree_slots.proofs.Fill.{room}
+use Rattle.link_tally.specs.Tally.{counted}
 use Rattle.link.specs.Links.{EndsLent, Ready, tallies}
-use Rattle.lists.specs.Checks.{endsAt}
+use Rattle.list_checks.specs.Checks.{endsAt}
 
 -- ---- numbers one after the other
 

@@ -6,11 +6,11 @@ use force::push_on;
 use force::shaken;
 use number::wide;
 use rules::Refusal;
-use slots::Quadtree;
+use tree_slots::Quadtree;
 use square_root::root;
-use tally::bias;
-use tally::count_link;
-use tally::strength_at;
+use link_tally::bias;
+use link_tally::count_link;
+use link_tally::strength_at;
 ghost use mathlib.Core.Path.{_≡_};
 ghost use mathlib.Core.List.{[]};
 ghost use Prim.Native.Nat.{_+_, _*_, _/_, _%_, _≤_, _<_};
@@ -25,7 +25,7 @@ ghost use Rattle.rules.specs.Force.{endsOf};
 ghost use Rattle.force.specs.Draws.{spentOf, From};
 ghost use Rattle.force.specs.Ran.{Runs, visited};
 ghost use Rattle.link.specs.Links.{EndsLent, ListsLent, Ready, tallies};
-ghost use Rattle.lists.specs.Checks.{endsAt};
+ghost use Rattle.list_checks.specs.Checks.{endsAt};
 
 // How many ends each particle has, from counts that are all zero.
 fn count_ends(links: &[u32], counts: &mut [u32])

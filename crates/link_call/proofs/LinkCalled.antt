@@ -20,13 +20,13 @@ use Rattle.rules.specs.Calls.{ForceInput, count, inputLengths}
 use Rattle.rules.proofs.RefusalLaws.{of-all}
 use Rattle.rules.proofs.RefusalNumbers.{five, count-early, counts-early, lengths-early, ranges-early}
 use Rattle.force.specs.Ran.{visited}
-use Rattle.lists.specs.Checks.{coordinatesCheck, velocitiesCheck, firstOf}
+use Rattle.list_checks.specs.Checks.{coordinatesCheck, velocitiesCheck, firstOf}
 use Rattle.force_call.specs.Calls.{lentCheck, numbersCheck}
 use Rattle.link.specs.Links.{EndsLent, ListsLent}
 use Rattle.link.proofs.EndsRange.{ends-count, ends-range}
-use Rattle.lists.proofs.Scans.{first-then, points-early}
+use Rattle.list_checks.proofs.Scans.{first-then, points-early}
 use Rattle.force_call.proofs.Called.{Lent}
-use Rattle.lists.proofs.Checks.{then-both, require-true, first-four, as-many}
+use Rattle.list_checks.proofs.Checks.{then-both, require-true, first-four, as-many}
 
 -- ---- 2
 

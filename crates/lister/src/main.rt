@@ -2,8 +2,8 @@
 ghost use mathlib.Core.Path.{_≡_};
 ghost use Prim.Native.Nat.{_^_, _≤_, min};
 ghost use lib.ListN.{length};
-ghost use Rattle.listing.specs.Input.{keptBytes};
-use listing::KEPT_BYTES;
+ghost use Rattle.lister_text.specs.Input.{keptBytes};
+use lister_text::KEPT_BYTES;
 
 // Reads on, and answers how many bytes came: 0 at the end.
 fn read_on() -> usize
@@ -47,7 +47,7 @@ fn list_input(kept: &mut [u8], out: &mut [u8])
 {
     let n = io::read_full(0, kept);
     let total = total_of(n);
-    let size = listing::list_sheet(&kept[..n], total, out);
+    let size = lister_text::list_sheet(&kept[..n], total, out);
     io::write_all(1, &out[..size]);
 }
 

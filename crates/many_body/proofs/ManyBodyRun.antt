@@ -14,10 +14,10 @@ use Rattle.rules.specs.Walk.{Counted}
 use Rattle.rules.specs.Flow.{Flow}
 use Rattle.rules.specs.ManyBody.{runManyBody}
 use Rattle.rules.proofs.CellRule.{tree-nodes}
-use Rattle.slots.specs.declared.Quadtree.{Quadtree}
-use Rattle.slots.specs.Trees.{Stands}
-use Rattle.slots.proofs.Trees.{lays-levels, lays-nodes}
-use Rattle.quadtree.proofs.Refusals.{tree-clears}
+use Rattle.tree_slots.specs.declared.Quadtree.{Quadtree}
+use Rattle.tree_slots.specs.Trees.{Stands}
+use Rattle.tree_slots.proofs.Trees.{lays-levels, lays-nodes}
+use Rattle.tree_build.proofs.Refusals.{tree-clears}
 use Rattle.force.specs.Ran.{Runs}
 use Rattle.force.proofs.Stages.{ran-refused}
 use Rattle.many_body.specs.ManyBody.{pulledAll}

@@ -13,16 +13,16 @@ use Rattle.rules.specs.Tree.{Tree, nodes}
 use Rattle.rules.specs.Walk.{Entry, internal, tip, Counted, After, walk}
 use Rattle.rules.specs.Flow.{Flow}
 use Rattle.rules.specs.ManyBody.{Charge, chargedTree, manyBodyStep}
-use Rattle.slots.specs.declared.Quadtree.{Quadtree}
-use Rattle.walk.specs.declared.visit.Walk.{Walk}
-use Rattle.walk.specs.declared.visit.Waiting.{Waiting}
-use Rattle.slots.specs.Trees.{word, Follows, first}
-use Rattle.walk.specs.Walk.{seen}
-use Rattle.walk.proofs.Walking.{Walking, Turn, Rooted, start, turn-refused, turn-refused-leaf}
-use Rattle.walk.proofs.WalkStands.{found, nodes-stands}
-use Rattle.chains.specs.Chain.{Few}
-use Rattle.charge.specs.Charge.{readCharge, Charged}
-use Rattle.charge.proofs.ChargeChain.{chains-few}
+use Rattle.tree_slots.specs.declared.Quadtree.{Quadtree}
+use Rattle.tree_walk.specs.declared.visit.Walk.{Walk}
+use Rattle.tree_walk.specs.declared.visit.Waiting.{Waiting}
+use Rattle.tree_slots.specs.Trees.{word, Follows, first}
+use Rattle.tree_walk.specs.Walk.{seen}
+use Rattle.tree_walk.proofs.Walking.{Walking, Turn, Rooted, start, turn-refused, turn-refused-leaf}
+use Rattle.tree_walk.proofs.WalkStands.{found, nodes-stands}
+use Rattle.many_body_chains.specs.Chain.{Few}
+use Rattle.many_body_charge.specs.Charge.{readCharge, Charged}
+use Rattle.many_body_charge.proofs.ChargeChain.{chains-few}
 
 -- what is read at a slot whose cell is given
 abbrev pub look : List ℕ → ℕ → Extent → Extent × Charge

@@ -1,28 +1,28 @@
 // many_body.rs: each particle is pulled by all others, far cells acting whole.
-use charge::charges;
+use many_body_charge::charges;
 use force::Ran;
-use node_pull::meet;
+use many_body_node::meet;
 use number::float_of;
-use quadtree::build::Built;
-use quadtree::build::build;
+use tree_build::build::Built;
+use tree_build::build::build;
 use rules::Refusal;
 use rules::Tuning;
 use rules::Visit;
-use slots::Quadtree;
-use slots::store;
-use walk::visit;
-use walk::visit::Walk;
+use tree_slots::Quadtree;
+use tree_slots::store;
+use tree_walk::visit;
+use tree_walk::visit::Walk;
 ghost use mathlib.Core.Path.{_≡_};
 ghost use Prim.Native.Nat.{_+_, _*_, _/_, _≤_, _<_, _^_};
 ghost use lib.ListN.{length, drop};
 ghost use Rattle.rules.specs.Flow.{flow};
 ghost use Rattle.rules.specs.ManyBody as Rule;
 ghost use Rattle.rules.specs.Walk.{counted};
-ghost use Rattle.slots.specs.Trees.{Stands};
-ghost use Rattle.quadtree.specs.Build as Build;
+ghost use Rattle.tree_slots.specs.Trees.{Stands};
+ghost use Rattle.tree_build.specs.Build as Build;
 ghost use Rattle.force.specs.Ran.{Runs};
-ghost use Rattle.charge.specs.Charge.{Charged};
-ghost use Rattle.node_pull.specs.NodePull.{Bodies};
+ghost use Rattle.many_body_charge.specs.Charge.{Charged};
+ghost use Rattle.many_body_node.specs.NodePull.{Bodies};
 ghost use Rattle.many_body.specs.ManyBody.{pulledAll};
 
 // Theta 0.9, least distance 1, greatest infinite, each squared.

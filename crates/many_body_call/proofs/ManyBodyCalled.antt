@@ -17,10 +17,10 @@ use Rattle.rules.specs.Force.{manyBody, pushLengths, run}
 use Rattle.rules.specs.Calls.{ForceInput, count, inputLengths}
 use Rattle.rules.proofs.RefusalLaws.{of-all}
 use Rattle.rules.proofs.RefusalNumbers.{five, count-early}
-use Rattle.lists.specs.Checks.{coordinatesCheck, velocitiesCheck, firstOf}
+use Rattle.list_checks.specs.Checks.{coordinatesCheck, velocitiesCheck, firstOf}
 use Rattle.force_call.specs.Calls.{lentCheck, numbersCheck}
-use Rattle.lists.proofs.Scans.{first-then, points-early}
-use Rattle.lists.proofs.Checks.{then-fine, first-four}
+use Rattle.list_checks.proofs.Scans.{first-then, points-early}
+use Rattle.list_checks.proofs.Checks.{then-fine, first-four}
 
 -- ---- the answers
 

@@ -20,9 +20,9 @@ use Rattle.rules.proofs.RefusalLaws.{Refuses, of-all, _then·_}
 use Rattle.rules.proofs.RefusalNumbers.{Early, five, count-early, lengths-early}
 use Rattle.rules.proofs.Signs.{eqZ-true, eqZ-refl}
 use Rattle.rules.proofs.Outline.{longitude-size, last-size}
-use Rattle.lists.specs.Checks.{firstOf}
-use Rattle.lists.proofs.Checks.{then-both, require-true}
-use Rattle.lists.proofs.Scans.{passes, stops, first-then, all-unrefused}
+use Rattle.list_checks.specs.Checks.{firstOf}
+use Rattle.list_checks.proofs.Checks.{then-both, require-true}
+use Rattle.list_checks.proofs.Scans.{passes, stops, first-then, all-unrefused}
 use Rattle.outline.specs.Unwrap.{Unwrapped, Sound, farthest}
 use Rattle.outline.proofs.Turns.{cornerAt}
 

@@ -16,7 +16,7 @@ use Rattle.rules.specs.Outline.{halfTurn, longitudeRange, shortWay, outline, la
 use Rattle.rules.proofs.Outline.{longitude-size, way-size, outline-length}
 use Rattle.sheet.proofs.Checked.{all-at}
 use Rattle.sheet.proofs.Lists.{store-first}
-use Rattle.lists.proofs.Scans.{list-left}
+use Rattle.list_checks.proofs.Scans.{list-left}
 use Rattle.outline.specs.Unwrap.{Sound, farthest}
 
 -- corner i

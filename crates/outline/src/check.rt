@@ -1,9 +1,9 @@
 // What is lent, checked in its order: 1, 2, then 5 for a corner and for the centre.
 use crate::way::longitude_range;
-use lists::MOST_CORNERS;
-use lists::count_check;
-use lists::first;
-use lists::lengths_check;
+use list_checks::MOST_CORNERS;
+use list_checks::count_check;
+use list_checks::first;
+use list_checks::lengths_check;
 use rules::Refusal;
 ghost use mathlib.Core.Path.{_≡_};
 ghost use Rattle.rules.specs.Outcome.{refusalOf, requireAll, require};

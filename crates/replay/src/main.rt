@@ -3,13 +3,13 @@
 use crate::numbers::floor_is_right;
 use crate::numbers::root_is_right;
 use crate::sheets::sheet_is_right;
-use answers::force_is_right;
-use answers::tree_is_right;
-use sample::KINDS;
-use sample::count;
-use sample::read_case;
-use sample::report_all;
-use sample::word_of;
+use replay_answers::force_is_right;
+use replay_answers::tree_is_right;
+use replay_sample::KINDS;
+use replay_sample::count;
+use replay_sample::read_case;
+use replay_sample::report_all;
+use replay_sample::word_of;
 
 mod numbers;
 mod sheets;

@@ -1,18 +1,18 @@
 // Cases of a tick and of a step. Parts: 1 the answer; 2 alpha, target, alpha_decay, velocity_decay, alpha_min, budget, alpha after; 3 the sheet and 4 the sheet after; 5 the words of
 // the force slots; 6 their numbers; 7 their link ends; 8 the draws; 9 and 10 the work slots. A tick has 0 where only a step has a number.
-use answers::DRAWS;
-use answers::SLOTS;
-use answers::force_words;
-use answers::settings;
-use answers::step_ended_right;
-use answers::tick_is_right;
+use replay_answers::DRAWS;
+use replay_answers::SLOTS;
+use replay_answers::force_words;
+use replay_answers::settings;
+use replay_answers::step_ended_right;
+use replay_answers::tick_is_right;
 use number::float_of;
-use sample::argument;
-use sample::read_bytes;
-use sample::read_halves;
-use sample::read_numbers;
-use sample::read_words;
-use slots::Quadtree;
+use replay_sample::argument;
+use replay_sample::read_bytes;
+use replay_sample::read_halves;
+use replay_sample::read_numbers;
+use replay_sample::read_words;
+use tree_slots::Quadtree;
 
 fn step_is_right(
     case: &[u8],

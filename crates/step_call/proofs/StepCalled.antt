@@ -12,14 +12,14 @@ use Rattle.rules.specs.Outcome.{Check, done, refused, refusal, fine, _>>=_, zer
 use Rattle.rules.specs.Number.{floatOf}
 use Rattle.rules.specs.Calls.{slotsOf}
 use Rattle.rules.specs.Tick.{SheetInput, ranFor, count, entries, forces, forcesFrom, sheetCheck, begun, tickSettings, ticksFrom, stepResult, stepAnswer, sheetAfterStep, alphaAfterStep, workAfterStep}
-use Rattle.checks.proofs.Whole.{keeps-slots}
-use Rattle.tick_ends.specs.declared.Stepped.{Stepped}
-use Rattle.columns.specs.Stage.{stateOf}
-use Rattle.steps.specs.Step.{Steps}
-use Rattle.columns.specs.Columns.{Read}
-use Rattle.tick_ends.specs.Settled.{noTicks, StepSettled}
+use Rattle.tick_checks.proofs.Whole.{keeps-slots}
+use Rattle.tick_close.specs.declared.Stepped.{Stepped}
+use Rattle.tick_columns.specs.Stage.{stateOf}
+use Rattle.step.specs.Step.{Steps}
+use Rattle.tick_columns.specs.Columns.{Read}
+use Rattle.tick_close.specs.Settled.{noTicks, StepSettled}
 use Rattle.step_call.specs.Step.{AfterStep}
-use Rattle.columns.proofs.Begun.{begun-is, spent}
+use Rattle.tick_columns.proofs.Begun.{begun-is, spent}
 
 -- an accepted step leaves the work slots zero
 none-zeroes : zeroesWork (refusal 0 0) ≡ true

@@ -1,20 +1,20 @@
 // A step of many ticks, called on a sheet.
-use checks::step_check;
-use columns::read_columns;
+use tick_checks::step_check;
+use tick_columns::read_columns;
 use number::float_of;
 use rules::Settings;
 use rules::StepAnswer;
-use slots::Quadtree;
-use steps::step_on;
-use tick_ends::settle::refused_step;
-use tick_ends::settle::settle_step;
+use tree_slots::Quadtree;
+use step::step_on;
+use tick_close::settle::refused_step;
+use tick_close::settle::settle_step;
 ghost use mathlib.Core.Path.{_≡_};
 ghost use mathlib.Core.List.{[], _∷_, _++_};
 ghost use Rattle.rules.specs.Outcome.{fine};
 ghost use Rattle.rules.specs.Sheet.{countOf};
 ghost use Rattle.rules.specs.Tick.{sheetCheck, tickSettings};
-ghost use Rattle.checks.specs.Input.{lentSheet};
-ghost use Rattle.columns.specs.Columns.{Lists};
+ghost use Rattle.tick_checks.specs.Input.{lentSheet};
+ghost use Rattle.tick_columns.specs.Columns.{Lists};
 ghost use Rattle.step_call.specs.Step.{AfterStep};
 
 // With lists for the particles by columns and for the trees. Every check is past.

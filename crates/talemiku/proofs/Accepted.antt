@@ -23,9 +23,9 @@ use Rattle.rules.specs.Tick.{SheetInput, count, entries, forces, entryCounts, f
 use Rattle.rules.specs.Terms.{NotOfTree}
 use Rattle.rules.proofs.RefusalLaws.{Refuses, done-of, of-answer}
 use Rattle.rules.proofs.Places.{force-refuses, tick-refuses, early-numbered, late-numbered}
-use Rattle.cells.proofs.Prefix.{InRange, fine-each}
-use Rattle.cells.proofs.WholeTree.{building, ruled-exactly, earliest}
-use Rattle.lists.proofs.Checks.{then-both, require-true}
+use Rattle.tree_cells.proofs.Prefix.{InRange, fine-each}
+use Rattle.tree_cells.proofs.WholeTree.{building, ruled-exactly, earliest}
+use Rattle.list_checks.proofs.Checks.{then-both, require-true}
 use Rattle.force_call.specs.Calls.{Answered}
 use Rattle.tick_call.specs.Tick.{AfterTick}
 use Rattle.talemiku.specs.Told.{TreeRefused}

@@ -21,7 +21,7 @@ use Rattle.closing.specs.Columns.{particlesFrom}
 use Rattle.closing.proofs.Closing.{particles-back}
 use Rattle.center.proofs.Centring.{center-speeds}
 use Rattle.talemiku.specs.Answered.{Answered}
-use Rattle.columns.proofs.Flags.{centered-flags, closing-flags}
+use Rattle.tick_columns.proofs.Flags.{centered-flags, closing-flags}
 
 -- ---- number 0 is an outcome that is done
 

@@ -25,9 +25,9 @@ use Rattle.rules.proofs.CellChain.{each-map, Chain}
 use Rattle.rules.proofs.CellRule.{grow-none, unique, points, tree-whole, tree-deep, tree-fits, leaves-distinct, nodes-distinct, chains-times, chains as chains-of}
 use Rattle.rules.proofs.CellWithout.{without-fits}
 use Rattle.rules.proofs.EditLaws.{Kept, among-in, kept-after, made-after, present-next, absent-at, insertions-append}
-use Rattle.lists.proofs.Checks.{then-both, bind-both, require-true}
-use Rattle.cells.proofs.Prefix.{InRange, fits-fine, fits-deep, fits-full}
-use Rattle.cells.proofs.WholeTree.{leaves-within}
+use Rattle.list_checks.proofs.Checks.{then-both, bind-both, require-true}
+use Rattle.tree_cells.proofs.Prefix.{InRange, fits-fine, fits-deep, fits-full}
+use Rattle.tree_cells.proofs.WholeTree.{leaves-within}
 
 -- ---- the tree at an edit
 

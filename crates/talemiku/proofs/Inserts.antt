@@ -22,11 +22,11 @@ use Rattle.rules.specs.Tree.{treeOf, fitsCheck, treeCheck}
 use Rattle.rules.specs.Calls.{slotsOf, inputCheck, treeOfSheet, coverSheet, treeLengths, treeResult, treeAnswer, rowsAfter, chainsAfter, treeWorkAfter}
 use Rattle.rules.specs.Edits.{Edit, insertion, removal, unknown, editsOf, pointsOf, insertions, present, edited, presentAfter, extentNow, treeNow, editCheck, editsFrom, pointCheck, known, EditsInput, editList, editInputCheck, editsResult, editsAnswer, editRowsAfter, editChainsAfter, editWorkAfter}
 use Rattle.rules.proofs.CellCount.{upTo-snoc}
-use Rattle.lists.proofs.Checks.{then-fine}
+use Rattle.list_checks.proofs.Checks.{then-fine}
 use Rattle.sheet.proofs.Sheets.{Held, AllHeld, sheet-length, particles-of-sheet}
-use Rattle.edit_words.proofs.Words.{insertions-few}
-use Rattle.edits.specs.Call.{AfterEdits}
-use Rattle.tree.specs.Tree.{AfterTree}
+use Rattle.edits_words.proofs.Words.{insertions-few}
+use Rattle.edits_call.specs.Call.{AfterEdits}
+use Rattle.tree_call.specs.Tree.{AfterTree}
 use Rattle.talemiku.specs.Told.{resting, pointsMade, PointsSheet, onSheet}
 
 -- ---- the points' sheet

@@ -23,10 +23,10 @@ use Rattle.rules.specs.Edits.{Edit, editWords, insertions, present, editsFrom, 
 use Rattle.rules.specs.Terms.{Ruled, presentAt, extentAt, treeAt, CanBeMade, EarliestEdit}
 use Rattle.rules.proofs.RefusalLaws.{done-of, weaker}
 use Rattle.rules.proofs.Places.{edits-placed, edits-numbered}
-use Rattle.lists.proofs.Checks.{then-both, require-true}
-use Rattle.cells.proofs.Prefix.{InRange}
-use Rattle.edit_words.proofs.Words.{points-ranged}
-use Rattle.edits.specs.Call.{AfterEdits}
+use Rattle.list_checks.proofs.Checks.{then-both, require-true}
+use Rattle.tree_cells.proofs.Prefix.{InRange}
+use Rattle.edits_words.proofs.Words.{points-ranged}
+use Rattle.edits_call.specs.Call.{AfterEdits}
 use Rattle.talemiku.specs.Told.{pointsMade, presentLast, extentLast, treeLast, EditsFine, editsMade}
 use Rattle.talemiku.proofs.EditSteps.{each-makes, makes-each, first-edit, earliest-only, none-unmade, fits-at, ruled-at}
 

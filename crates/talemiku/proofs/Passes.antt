@@ -17,7 +17,7 @@ use Rattle.rules.specs.Refusal.{countCheck, settingsCheck, resultCheck}
 use Rattle.rules.specs.Sheet.{particle, placesOf, speedsOf}
 use Rattle.rules.specs.Particle.{offset, shifted, centered, moved, closing}
 use Rattle.rules.proofs.RefusalNumbers.{count-early, settings-early}
-use Rattle.lists.proofs.Scans.{passes}
+use Rattle.list_checks.proofs.Scans.{passes}
 use Rattle.talemiku.specs.declared.centring.Pair.{Pair}
 use Rattle.talemiku.specs.Pass.{resultOf, pair, addedTo, offsetsOf}
 

@@ -39,7 +39,7 @@ use Rattle.rules.specs.declared.Particle.{Particle}
 use Rattle.rules.specs.Outcome.{refused, Check, fine, refusalOf}
 use Rattle.rules.proofs.Particle as T
 use Rattle.rules.proofs.Particle.Laws as T′
-use Rattle.lists.proofs.Scans.{stops}
+use Rattle.list_checks.proofs.Scans.{stops}
 use Rattle.talemiku.proofs.Values.{val}
 use Rattle.talemiku.proofs.Passes.{none}
 

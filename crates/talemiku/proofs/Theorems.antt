@@ -47,9 +47,9 @@ use Rattle.rules.proofs.CellRule.{unique, points, leaves-distinct, nodes-distin
 use Rattle.rules.proofs.Counting.{sum-few, tick-counts-length, ticks-sum}
 use Rattle.rules.proofs.Outline.{seam-at, step-short, step-equivalent, step-only, outline-is, outline-only, closes-short, closes-sum}
 use Rattle.number.proofs.Flooring.{within-finite}
-use Rattle.cells.proofs.WholeTree.{extent-sided, extent-holds, whole-tree, leaves-hold, ruled-fine, earliest-ruled, computed-exactly, ruled-exactly, earliest}
-use Rattle.rows.proofs.ListRows.{rows-count}
-use Rattle.tree.specs.Tree.{AfterTree}
+use Rattle.tree_cells.proofs.WholeTree.{extent-sided, extent-holds, whole-tree, leaves-hold, ruled-fine, earliest-ruled, computed-exactly, ruled-exactly, earliest}
+use Rattle.tree_rows.proofs.ListRows.{rows-count}
+use Rattle.tree_call.specs.Tree.{AfterTree}
 use Rattle.force_call.specs.Calls.{Answered}
 use Rattle.tick_call.specs.Tick.{AfterTick}
 use Rattle.step_call.specs.Step.{AfterStep}

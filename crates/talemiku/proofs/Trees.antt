@@ -21,12 +21,12 @@ use Rattle.rules.proofs.RefusalLaws.{done-of}
 use Rattle.rules.proofs.Places.{tree-refuses, early-numbered, late-numbered}
 use Rattle.rules.proofs.CellCount.{length-upTo}
 use Rattle.rules.proofs.CellRule.{chains-length}
-use Rattle.lists.proofs.Checks.{then-both, require-true}
+use Rattle.list_checks.proofs.Checks.{then-both, require-true}
 use Rattle.sheet.proofs.Checked.{places-ranged}
 use Rattle.sheet.proofs.Sheets.{particles-count}
-use Rattle.cells.proofs.Prefix.{InRange, check-fits}
-use Rattle.cells.proofs.WholeTree.{whole-tree, Building, building}
-use Rattle.tree.specs.Tree.{AfterTree}
+use Rattle.tree_cells.proofs.Prefix.{InRange, check-fits}
+use Rattle.tree_cells.proofs.WholeTree.{whole-tree, Building, building}
+use Rattle.tree_call.specs.Tree.{AfterTree}
 use Rattle.talemiku.specs.Told.{placesLent, particlesLent, ruleTree, InputFine}
 
 module _ (l : TreeInput) where

@@ -23,9 +23,9 @@ use Rattle.rules.proofs.CellList.{foldl-append}
 use Rattle.rules.proofs.CellCount.{in-count}
 use Rattle.rules.proofs.CellRule.{chains-length}
 use Rattle.rules.proofs.EditLaws.{Kept, kept-after, made-after, others-last, points-append, insertions-append, tree-agree, cover-agree}
-use Rattle.lists.proofs.Checks.{bind-both}
-use Rattle.edit_words.proofs.Words.{points-length}
-use Rattle.edits.specs.Call.{AfterEdits}
+use Rattle.list_checks.proofs.Checks.{bind-both}
+use Rattle.edits_words.proofs.Words.{points-length}
+use Rattle.edits_call.specs.Call.{AfterEdits}
 use Rattle.talemiku.specs.Told.{pointsMade, presentLast, extentLast, treeLast, EditsFine}
 use Rattle.talemiku.proofs.EditSteps.{insertions-take}
 use Rattle.talemiku.proofs.Lapses.{Accepted, input-fine, edits-fine, ruled-last, answer-is, rows-are, chains-are}

@@ -22,9 +22,9 @@ use Rattle.rules.specs.Calls.{TreeInput, ForceInput}
 use Rattle.rules.specs.Tick.{SheetInput}
 use Rattle.rules.specs.Outline.{OutlineInput}
 use Rattle.rules.specs.Edits.{EditsInput}
-use Rattle.tree.specs.Tree.{AfterTree}
+use Rattle.tree_call.specs.Tree.{AfterTree}
 use Rattle.outline.specs.Unwrap.{Unwrapped}
-use Rattle.edits.specs.Call.{AfterEdits}
+use Rattle.edits_call.specs.Call.{AfterEdits}
 use Rattle.force_call.specs.Calls as Force
 use Rattle.tick_call.specs.Tick.{AfterTick}
 use Rattle.step_call.specs.Step.{AfterStep}

@@ -30,9 +30,9 @@ use Rattle.rules.specs.Terms.{distinct, mostNodes, Walked, repeated, mostVisite
 use Rattle.rules.proofs.CellCount.{length-upTo, distinct-le}
 use Rattle.rules.proofs.CellRule.{tree-nodes}
 use Rattle.rules.proofs.Counting.{nodes-valued, stages-append, each-length, each-few, each-most, sum-few, walks-sum, forces-sum, tick-counts-few}
-use Rattle.cells.proofs.Prefix.{check-fits}
-use Rattle.walk.proofs.WalkTheorems.{counts-few}
-use Rattle.lists.proofs.Checks.{bind-both, require-true}
+use Rattle.tree_cells.proofs.Prefix.{check-fits}
+use Rattle.tree_walk.proofs.WalkTheorems.{counts-few}
+use Rattle.list_checks.proofs.Checks.{bind-both, require-true}
 use Rattle.talemiku.specs.Told.{mostOfForce}
 
 never : {A B : Type 0} {a : A} (r : _) → _≡_ {A = Outcome A} (refused r) (done a) → B

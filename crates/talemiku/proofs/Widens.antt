@@ -16,9 +16,9 @@ use Rattle.rules.specs.Terms.{inCell, Contains}
 use Rattle.rules.proofs.CellList.{left, right}
 use Rattle.rules.proofs.CoverTerms.{AllNear}
 use Rattle.rules.proofs.Cover.{contains-inside, cover-contains}
-use Rattle.cells.specs.Cover.{squareOf, Reachable}
-use Rattle.cells.proofs.CoverLaws.{Lies, inside-lies, lies-inside, in-range, list-reachable}
-use Rattle.cells.proofs.Prefix.{InRange, in-T, member-less}
+use Rattle.tree_cells.specs.Cover.{squareOf, Reachable}
+use Rattle.tree_cells.proofs.CoverLaws.{Lies, inside-lies, lies-inside, in-range, list-reachable}
+use Rattle.tree_cells.proofs.Prefix.{InRange, in-T, member-less}
 
 count-more : (a m d : ℕ) → countFrom a (m + d) ≡ countFrom a m ++ countFrom (a + m) d
 count-more a zero d = rw (zero-add d, add-zero a)

@@ -23,7 +23,7 @@ use Rattle.rules.specs.Tick.{forceSlots}
 use Rattle.rules.specs.Outline.{outlineCheck, OutlineInput}
 use Rattle.rules.specs.Edits.{editsOf, pointsOf, insertions, Present, presentAfter, extentNow, treeNow, EditsInput, editList, editInputCheck}
 use Rattle.rules.specs.Terms.{Oversized, Earliest, IsTree, distinct, mostNodes}
-use Rattle.tree.specs.Tree.{lent}
+use Rattle.tree_call.specs.Tree.{lent}
 
 -- ---- the tree call
 

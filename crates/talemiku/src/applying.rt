@@ -1,12 +1,12 @@
 // particle.rs: the closing move.
 use crate::check::result_check;
 use closing::moved;
-use lists::count_check;
-use lists::setting_check;
+use list_checks::count_check;
+use list_checks::setting_check;
 use rules::Particle;
 use rules::Refusal;
 use sheet::record_check;
-use slots::Quadtree;
+use tree_slots::Quadtree;
 ghost use Rattle.rules.specs.Calls.{closingResult};
 ghost use Rattle.talemiku.specs.Answered.{Answered};
 

@@ -1,12 +1,12 @@
 // center.rs: the mean of all places is drawn to a point.
 use crate::check::result_check;
 use center::shifted;
-use checks::settings_check;
-use lists::count_check;
+use tick_checks::settings_check;
+use list_checks::count_check;
 use rules::Particle;
 use rules::Refusal;
 use sheet::record_check;
-use slots::Quadtree;
+use tree_slots::Quadtree;
 ghost use mathlib.Core.Path.{_≡_};
 ghost use Prim.Native.Nat.{_≤_};
 ghost use Rattle.rules.specs.Refusal.{mostParticles};

@@ -18,11 +18,11 @@ ghost use Rattle.rules.specs.Root.{rootBits};
 ghost use Rattle.rules.specs.Refusal.{mostParticles};
 ghost use Rattle.rules.specs.Calls.{treeResult, manyBodyResult, collideResult, linkResult};
 ghost use Rattle.rules.specs.Tick.{settings};
-ghost use Rattle.checks.specs.Input.{lentSheet};
+ghost use Rattle.tick_checks.specs.Input.{lentSheet};
 ghost use Rattle.tick_call.specs.Tick.{AfterTick};
 ghost use Rattle.step_call.specs.Step.{AfterStep};
-ghost use Rattle.tree.specs.Tree as Tree;
-ghost use Rattle.edits.specs.Call as Edits;
+ghost use Rattle.tree_call.specs.Tree as Tree;
+ghost use Rattle.edits_call.specs.Call as Edits;
 ghost use Rattle.outline.specs.Unwrap.{lentOutline, Unwrapped};
 ghost use Rattle.force_call.specs.Calls.{lent, Answered};
 
@@ -53,7 +53,7 @@ pub extern "C" fn talemiku_tree(
     ensures { λ r. ⌜ (let l = Tree.lent (now (records .entry)) (now (rows .entry)) (now (chains .entry)) (now (work .entry)) in
         Tree.AfterTree l (treeResult mostParticles l) r (now (rows .exit)) (now (chains .exit)) (now (work .exit))) ⌝ }
 {
-    tree::tree(records, rows, chains, work)
+    tree_call::tree(records, rows, chains, work)
 }
 
 // ManyBody on plain lists: places in pairs, velocities in pairs from byte `start` of the buffer on, a strength for each particle.
@@ -213,5 +213,5 @@ pub extern "C" fn talemiku_edits(
 ) -> TreeAnswer
     ensures { λ r. ⌜ Edits.AfterEdits (Edits.lent (now (edits .entry)) (now (rows .entry)) (now (chains .entry)) (now (work .entry))) r (now (rows .exit)) (now (chains .exit)) (now (work .exit)) ⌝ }
 {
-    edits::edits(edits, rows, chains, work)
+    edits_call::edits(edits, rows, chains, work)
 }

@@ -16,14 +16,14 @@ use Rattle.rules.specs.Calls.{slotsOf}
 use Rattle.rules.specs.Tick.{SheetInput, State, count, entries, forces, forcesFrom, sheetCheck, tick, begun, tickSettings, tickResult, tickAnswer, sheetAfterTick, alphaAfterTick, workAfterTick}
 use Rattle.sheet.specs.Columns.{flagsOf}
 use Rattle.force_call.specs.Calls.{noCounts}
-use Rattle.checks.proofs.Whole.{keeps-slots}
-use Rattle.tick_ends.specs.declared.Ticked.{Ticked}
-use Rattle.columns.specs.Stage.{stateOf}
-use Rattle.ticks.specs.Tick.{tickedOf, Ticks}
-use Rattle.columns.specs.Columns.{Read}
-use Rattle.tick_ends.specs.Settled.{standing, TickSettled}
+use Rattle.tick_checks.proofs.Whole.{keeps-slots}
+use Rattle.tick_close.specs.declared.Ticked.{Ticked}
+use Rattle.tick_columns.specs.Stage.{stateOf}
+use Rattle.tick.specs.Tick.{tickedOf, Ticks}
+use Rattle.tick_columns.specs.Columns.{Read}
+use Rattle.tick_close.specs.Settled.{standing, TickSettled}
 use Rattle.tick_call.specs.Tick.{AfterTick}
-use Rattle.columns.proofs.Begun.{begun-is, spent}
+use Rattle.tick_columns.proofs.Begun.{begun-is, spent}
 
 -- ---- what stands
 

@@ -1,19 +1,19 @@
 // One tick, called on a sheet.
-use checks::tick_check;
-use columns::read_columns;
+use tick_checks::tick_check;
+use tick_columns::read_columns;
 use force_call::refused;
 use number::float_of;
 use rules::Counts;
 use rules::Settings;
-use slots::Quadtree;
-use tick_ends::settle::settle_tick;
-use ticks::tick_on;
+use tree_slots::Quadtree;
+use tick_close::settle::settle_tick;
+use tick::tick_on;
 ghost use mathlib.Core.Path.{_≡_};
 ghost use Rattle.rules.specs.Outcome.{fine};
 ghost use Rattle.rules.specs.Sheet.{countOf};
 ghost use Rattle.rules.specs.Tick.{sheetCheck, tickSettings};
-ghost use Rattle.checks.specs.Input.{lentSheet};
-ghost use Rattle.columns.specs.Columns.{Lists};
+ghost use Rattle.tick_checks.specs.Input.{lentSheet};
+ghost use Rattle.tick_columns.specs.Columns.{Lists};
 ghost use Rattle.tick_call.specs.Tick.{AfterTick};
 
 // With lists for the particles by columns and for the trees. Every check is past.

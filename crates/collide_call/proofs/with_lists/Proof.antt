@@ -8,7 +8,7 @@ use lib.ListN.{length}
 use lib.Ieee.{Float}
 use Rattle.rules.specs.Number.{0·}
 use Rattle.rules.specs.Force.{collide}
-use Rattle.slots.proofs.Fill.{room}
+use Rattle.tree_slots.proofs.Fill.{room}
 use Rattle.force_call.specs.Calls.{lent}
 use Rattle.force_call.proofs.Called.{lent-all}
 use Rattle.collide_call.proofs.with_lists.Statement.{statement}

@@ -3,9 +3,9 @@ use borrow.Author.Needs.{needs}
 use Rattle.rules.specs.declared.Refusal.{Refusal}
 use Rattle.rules.specs.Outcome.{Check, _then_}
 use Rattle.rules.specs.Refusal.{resultCheck}
-use Rattle.lists.proofs.Scans.{stops}
+use Rattle.list_checks.proofs.Scans.{stops}
 use Rattle.force.proofs.Standing.{standing-refused, standing-fine}
-use Rattle.lists.proofs.Checks.{result-fine}
+use Rattle.list_checks.proofs.Checks.{result-fine}
 use Rattle.force_call.proofs.Called.{settled-refused, settled-done}
 use Rattle.force_call.proofs.settle.Statement.{statement}
 use Rattle.force_call.proofs.settle.Tie as tie

@@ -1,7 +1,7 @@
 use mathlib.Core.Path.{_∙_, ap}
 use borrow.Author.Needs.{needs}
 use Rattle.rules.specs.declared.Refusal.{Refusal}
-use Rattle.lists.specs.Checks.{firstOf}
+use Rattle.list_checks.specs.Checks.{firstOf}
 use Rattle.link_call.proofs.LinkCalled.{numbers-answer}
 use Rattle.link_call.proofs.numbers_check.Statement.{statement}
 use Rattle.link_call.proofs.numbers_check.Tie as tie

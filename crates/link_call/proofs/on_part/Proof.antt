@@ -13,7 +13,7 @@ use Rattle.force.specs.Ran.{ranOf}
 use Rattle.link.specs.Links.{EndsLent}
 use Rattle.force_call.specs.Calls.{lent, numbersCheck}
 use Rattle.force_call.proofs.Called.{Lent, lent-all, numbers-early, result-numbers, result-ran, answered-refused, answered-ran}
-use Rattle.lists.proofs.Checks.{stopped, passed}
+use Rattle.list_checks.proofs.Checks.{stopped, passed}
 use Rattle.link_call.proofs.LinkCalled.{ends-lent, lists-lent, link-runs}
 use Rattle.link_call.proofs.on_part.Statement.{statement}
 use Rattle.link_call.proofs.on_part.Tie as tie

@@ -9,7 +9,7 @@ use lib.Ieee.{Float}
 use Rattle.rules.specs.Number.{0·}
 use Rattle.rules.specs.Force.{link, endsOf}
 use Rattle.force_call.specs.Calls.{lent}
-use Rattle.slots.proofs.Fill.{room}
+use Rattle.tree_slots.proofs.Fill.{room}
 use Rattle.force_call.proofs.Called.{lent-all}
 use Rattle.link_call.proofs.with_speeds.Statement.{statement}
 use Rattle.link_call.proofs.with_speeds.Tie as tie

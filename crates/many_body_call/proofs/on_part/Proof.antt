@@ -15,7 +15,7 @@ use Rattle.rules.specs.Calls.{ForceInput, slotsOf, speeds}
 use Rattle.force.specs.Ran.{ranOf}
 use Rattle.force_call.specs.Calls.{lent, numbersCheck}
 use Rattle.force_call.proofs.Called.{Lent, lent-all, numbers-early, result-numbers, result-ran, answered-refused, answered-ran, settled-slots}
-use Rattle.lists.proofs.Checks.{stopped, passed}
+use Rattle.list_checks.proofs.Checks.{stopped, passed}
 use Rattle.force_call.proofs.Ranged.{places-within}
 use Rattle.many_body_call.proofs.ManyBodyCalled.{many-body-runs}
 use Rattle.many_body_call.proofs.on_part.Statement.{statement}

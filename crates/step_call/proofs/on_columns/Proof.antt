@@ -2,9 +2,9 @@ use mathlib.Core.Path.{_∙_}
 use mathlib.Core.List.{[], _∷_, _++_}
 use borrow.Author.Needs.{needs}
 use Rattle.rules.specs.Tick.{SheetInput, count, tickSettings}
-use Rattle.checks.specs.Input.{lentSheet}
-use Rattle.columns.specs.Columns.{Lists}
-use Rattle.columns.proofs.Begun.{Checked, checked, lists-kept, pairs, fits-columns, columns, chains}
+use Rattle.tick_checks.specs.Input.{lentSheet}
+use Rattle.tick_columns.specs.Columns.{Lists}
+use Rattle.tick_columns.proofs.Begun.{Checked, checked, lists-kept, pairs, fits-columns, columns, chains}
 use Rattle.step_call.proofs.StepCalled.{step-ran}
 use Rattle.step_call.proofs.on_columns.Statement.{statement}
 use Rattle.step_call.proofs.on_columns.Tie as tie

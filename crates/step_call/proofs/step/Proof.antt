@@ -4,8 +4,8 @@ use borrow.Author.Needs.{needs}
 use lib.Ieee.{Float}
 use Rattle.rules.specs.Outcome.{refusalOf}
 use Rattle.rules.specs.Tick.{SheetInput, sheetCheck, tickSettings}
-use Rattle.checks.specs.Input.{lentSheet}
-use Rattle.columns.proofs.Begun.{answered, stopped, past}
+use Rattle.tick_checks.specs.Input.{lentSheet}
+use Rattle.tick_columns.proofs.Begun.{answered, stopped, past}
 use Rattle.step_call.proofs.StepCalled.{step-stopped}
 use Rattle.step_call.proofs.step.Statement.{statement}
 use Rattle.step_call.proofs.step.Tie as tie

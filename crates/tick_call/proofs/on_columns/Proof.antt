@@ -3,9 +3,9 @@ use Prim.Native.Nat.{_<_, _^_}
 use native.Mathlib.Omega.{arith}
 use borrow.Author.Needs.{needs}
 use Rattle.rules.specs.Tick.{SheetInput, count, tickSettings}
-use Rattle.checks.specs.Input.{lentSheet}
-use Rattle.columns.specs.Columns.{Lists}
-use Rattle.columns.proofs.Begun.{Checked, checked, lists-kept, pairs, fits-columns, columns, chains}
+use Rattle.tick_checks.specs.Input.{lentSheet}
+use Rattle.tick_columns.specs.Columns.{Lists}
+use Rattle.tick_columns.proofs.Begun.{Checked, checked, lists-kept, pairs, fits-columns, columns, chains}
 use Rattle.tick_call.proofs.TickCalled.{tick-ran}
 use Rattle.tick_call.proofs.on_columns.Statement.{statement}
 use Rattle.tick_call.proofs.on_columns.Tie as tie

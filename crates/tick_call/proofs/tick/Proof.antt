@@ -4,8 +4,8 @@ use borrow.Author.Needs.{needs}
 use lib.Ieee.{Float}
 use Rattle.rules.specs.Outcome.{refusalOf}
 use Rattle.rules.specs.Tick.{SheetInput, sheetCheck, tickSettings}
-use Rattle.checks.specs.Input.{lentSheet}
-use Rattle.columns.proofs.Begun.{answered, stopped, past}
+use Rattle.tick_checks.specs.Input.{lentSheet}
+use Rattle.tick_columns.proofs.Begun.{answered, stopped, past}
 use Rattle.tick_call.proofs.TickCalled.{tick-stopped}
 use Rattle.tick_call.proofs.tick.Statement.{statement}
 use Rattle.tick_call.proofs.tick.Tie as tie

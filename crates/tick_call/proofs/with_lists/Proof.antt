@@ -6,9 +6,9 @@ use lib.ListN.{length}
 use lib.Ieee.{Float}
 use Rattle.rules.specs.Number.{0·}
 use Rattle.rules.specs.Tick.{SheetInput, tickSettings}
-use Rattle.slots.proofs.Fill.{room}
-use Rattle.checks.specs.Input.{lentSheet}
-use Rattle.columns.proofs.Begun.{checked}
+use Rattle.tree_slots.proofs.Fill.{room}
+use Rattle.tick_checks.specs.Input.{lentSheet}
+use Rattle.tick_columns.proofs.Begun.{checked}
 use Rattle.tick_call.proofs.with_lists.Statement.{statement}
 use Rattle.tick_call.proofs.with_lists.Tie as tie
 

@@ -5,10 +5,10 @@ use borrow.Author.Needs.{needs}
 use lib.ListN.{length}
 use Rattle.rules.specs.Outcome.{zeroesWork}
 use Rattle.force.specs.Ran.{standing, ranOf}
-use Rattle.quadtree.proofs.Refusals.{tree-clears}
+use Rattle.tree_build.proofs.Refusals.{tree-clears}
 use Rattle.collide.specs.Collide.{begun}
 use Rattle.force.proofs.Stages.{ran-refused}
-use Rattle.quadtree.proofs.Told.{told-refused, told-fine, told-stands}
+use Rattle.tree_build.proofs.Told.{told-refused, told-fine, told-stands}
 use Rattle.collide.proofs.CollideRun.{run-none, run-walked, run-refused}
 use Rattle.collide.proofs.collide.collide.Statement.{statement}
 use Rattle.collide.proofs.collide.collide.Tie as tie

@@ -10,10 +10,10 @@ use Rattle.rules.specs.Tree.{nodes}
 use Rattle.rules.specs.Walk.{Counted}
 use Rattle.rules.specs.Flow.{Flow}
 use Rattle.rules.specs.Collide.{radiusTree}
-use Rattle.slots.specs.Trees.{word}
-use Rattle.walk.specs.Walk.{Sized}
-use Rattle.walk.proofs.WalkStack.{root-fits}
-use Rattle.walk.proofs.Walking.{Pushed, leftOf, finish, few, low, reach, falls, room, turn-skip, turn-down, falls-down, chain, turn-leaf, turn-refused-leaf}
+use Rattle.tree_slots.specs.Trees.{word}
+use Rattle.tree_walk.specs.Walk.{Sized}
+use Rattle.tree_walk.proofs.WalkStack.{root-fits}
+use Rattle.tree_walk.proofs.Walking.{Pushed, leftOf, finish, few, low, reach, falls, room, turn-skip, turn-down, falls-down, chain, turn-leaf, turn-refused-leaf}
 use Rattle.force.specs.Draws.{From}
 use Rattle.force.specs.Ran.{standing, ranOf}
 use Rattle.force.proofs.Stages.{left, left-first, left-refused, left-on, left-end, one-more}

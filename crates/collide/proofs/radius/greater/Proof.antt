@@ -1,5 +1,5 @@
 use borrow.Author.Needs.{needs}
-use Rattle.walk.proofs.WalkAfter.{lent-some}
+use Rattle.tree_walk.proofs.WalkAfter.{lent-some}
 use Rattle.collide.proofs.RadiusLaws.{child-greater, child-less}
 use Rattle.collide.proofs.radius.greater.Statement.{statement}
 use Rattle.collide.proofs.radius.greater.Tie as tie

@@ -2,7 +2,7 @@ use borrow.Author.Needs.{needs}
 use Rattle.rules.specs.Number.{0·}
 use Rattle.rules.specs.Collide as Collide
 use Rattle.collide.specs.Radius.{radiusIn}
-use Rattle.walk.proofs.WalkAfter.{fold-children}
+use Rattle.tree_walk.proofs.WalkAfter.{fold-children}
 use Rattle.collide.proofs.radius.greatest_below.Statement.{statement}
 use Rattle.collide.proofs.radius.greatest_below.Tie as tie
 

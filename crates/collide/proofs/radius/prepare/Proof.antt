@@ -6,12 +6,12 @@ use borrow.Author.Needs.{needs}
 use lib.ListN.{length}
 use lib.Ieee.{Float}
 use Rattle.rules.specs.Collide.{leafRadius, nodeRadius}
-use Rattle.slots.specs.declared.Quadtree.{Quadtree}
-use Rattle.slots.specs.Trees.{word, putValue, Below}
-use Rattle.walk.specs.WalkAfter.{stepsOf, rooted}
-use Rattle.walk.proofs.WalkStands.{chains-below}
-use Rattle.walk.proofs.WalkValues.{one-value}
-use Rattle.walk.proofs.WalkAfter.{Filling, Taken, start, climbing, reach, kids-lent, chain, turn-node, turn-leaf, finish-read}
+use Rattle.tree_slots.specs.declared.Quadtree.{Quadtree}
+use Rattle.tree_slots.specs.Trees.{word, putValue, Below}
+use Rattle.tree_walk.specs.WalkAfter.{stepsOf, rooted}
+use Rattle.tree_walk.proofs.WalkStands.{chains-below}
+use Rattle.tree_walk.proofs.WalkValues.{one-value}
+use Rattle.tree_walk.proofs.WalkAfter.{Filling, Taken, start, climbing, reach, kids-lent, chain, turn-node, turn-leaf, finish-read}
 use Rattle.collide.specs.Radius.{radiusIn, Standing}
 use Rattle.collide.proofs.RadiusLaws.{leaf-fits, node-fits, chain-below, leaf-radius}
 use Rattle.collide.proofs.radius.prepare.Statement.{statement}

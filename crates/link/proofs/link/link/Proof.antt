@@ -4,7 +4,7 @@ use borrow.Author.Needs.{needs}
 use Prim.Native.Nat.{ℕ, _/_}
 use lib.ListN.{length}
 use Rattle.link.specs.Links.{EndsLent}
-use Rattle.slots.proofs.Fill.{room}
+use Rattle.tree_slots.proofs.Fill.{room}
 use Rattle.link.proofs.Tallies.{zeros-tallied}
 use Rattle.link.proofs.link.link.Statement.{statement}
 use Rattle.link.proofs.link.link.Tie as tie

@@ -5,7 +5,7 @@ use borrow.Author.Needs.{needs}
 use lib.ListN.{length}
 use Rattle.rules.specs.Force.{endsOf}
 use Rattle.force.specs.Draws.{spentOf}
-use Rattle.lists.specs.Checks.{endsAt}
+use Rattle.list_checks.specs.Checks.{endsAt}
 use Rattle.link.proofs.Tallies.{ready-ends}
 use Rattle.link.proofs.Linked.{pull-self, pull-dry, pull-tied}
 use Rattle.link.proofs.link.pull.Statement.{statement}

@@ -4,7 +4,7 @@ use borrow.Author.Needs.{needs}
 use lib.ListN.{length}
 use mathlib.Core.Path.{_∙_}
 use Rattle.rules.specs.Force.{endsOf}
-use Rattle.lists.specs.Checks.{endsAt}
+use Rattle.list_checks.specs.Checks.{endsAt}
 use Rattle.link.proofs.Tallies.{ready-ends, ready-count, ready-small}
 use Rattle.link.proofs.Linked.{tied-is}
 use Rattle.link.proofs.link.tie.Statement.{statement}

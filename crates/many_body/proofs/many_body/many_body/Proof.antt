@@ -5,7 +5,7 @@ use borrow.Author.Needs.{needs}
 use lib.ListN.{length, drop}
 use Rattle.rules.specs.Walk.{counted}
 use Rattle.rules.specs.Flow.{flow}
-use Rattle.quadtree.proofs.Told.{told-refused, told-fine, told-stands}
+use Rattle.tree_build.proofs.Told.{told-refused, told-fine, told-stands}
 use Rattle.many_body.proofs.ManyBodyRun.{refused-runs, stands-runs}
 use Rattle.many_body.proofs.many_body.many_body.Statement.{statement}
 use Rattle.many_body.proofs.many_body.many_body.Tie as tie

@@ -8,15 +8,15 @@ use Rattle.rules.specs.declared.Visit.the-variants.{Continue, Skip}
 use Rattle.rules.specs.Outcome.{zeroesWork, refusal}
 use Rattle.rules.specs.Walk.{Counted, counted}
 use Rattle.rules.specs.Flow.{Flow, flow}
-use Rattle.slots.specs.Trees.{word, Follows, first}
-use Rattle.walk.specs.Walk.{Sized}
-use Rattle.walk.proofs.WalkStack.{root-fits}
-use Rattle.walk.proofs.Walking.{Pushed, leftOf, finish, few, low, reach, falls, room, chain, turn-skip, turn-down, falls-down, turn-leaf}
+use Rattle.tree_slots.specs.Trees.{word, Follows, first}
+use Rattle.tree_walk.specs.Walk.{Sized}
+use Rattle.tree_walk.proofs.WalkStack.{root-fits}
+use Rattle.tree_walk.proofs.Walking.{Pushed, leftOf, finish, few, low, reach, falls, room, chain, turn-skip, turn-down, falls-down, turn-leaf}
 use Rattle.force.specs.Draws.{From}
 use Rattle.force.specs.Ran.{standing, ranOf}
 use Rattle.force.proofs.Stages.{left, left-first, left-refused, left-on, left-end, one-more}
-use Rattle.chains.specs.Chain.{Few, Chain}
-use Rattle.node_pull.proofs.NodePullLaws.{met-dry, met-on}
+use Rattle.many_body_chains.specs.Chain.{Few, Chain}
+use Rattle.many_body_node.proofs.NodePullLaws.{met-dry, met-on}
 use Rattle.many_body.specs.ManyBody.{pulledFor}
 use Rattle.many_body.proofs.ManyBodyWalk.{Pulling, PullingAt, charged-nodes, pull-start, refused-there}
 use Rattle.many_body.proofs.many_body.pull_all.Statement.{statement}

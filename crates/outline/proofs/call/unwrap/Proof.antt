@@ -7,7 +7,7 @@ use mir.ValLaws.{toZ-ofZ}
 use Rattle.rules.specs.Outcome.{fine, refusalOf}
 use Rattle.rules.specs.Outline.{outlineCheck}
 use Rattle.rules.proofs.RefusalNumbers.{outline-early}
-use Rattle.lists.proofs.Checks.{passed}
+use Rattle.list_checks.proofs.Checks.{passed}
 use Rattle.outline.specs.Unwrap.{lentOutline, Sound}
 use Rattle.outline.proofs.Ends.{sound, ended-early, unclosed, closed}
 use Rattle.outline.proofs.call.unwrap.Statement.{statement}

@@ -8,7 +8,7 @@ use mir.Syntax.{w64}
 use mir.ValLaws.{toZ-ofZ}
 use Rattle.rules.specs.Outcome.{require, requireAll, checkFrom}
 use Rattle.rules.specs.Outline.{longitudeRange}
-use Rattle.lists.proofs.Scans.{test-stop, test-on, list-left}
+use Rattle.list_checks.proofs.Scans.{test-stop, test-on, list-left}
 use Rattle.outline.proofs.check.corners_check.Statement.{statement}
 use Rattle.outline.proofs.check.corners_check.Tie as tie
 

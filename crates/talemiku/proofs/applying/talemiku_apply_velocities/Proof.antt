@@ -53,7 +53,7 @@ use Rattle.rules.proofs.Particle.Laws as T′
 use Rattle.rules.proofs.Refusal as R
 use Rattle.rules.proofs.Refusal.Laws as R′
 use Rattle.sheet.proofs.Checked.{record-fine}
-use Rattle.lists.proofs.Checks.{result-fine}
+use Rattle.list_checks.proofs.Checks.{result-fine}
 use Rattle.talemiku.specs.Answered.{Answered}
 use Rattle.talemiku.proofs.Frame.{Blocks, env, alloc-all, free-all, counted}
 use Rattle.talemiku.proofs.Rules.{copied, part, big, sets, goes-on, leaves, counts, judges, takes, puts, calls}

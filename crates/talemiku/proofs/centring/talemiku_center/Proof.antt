@@ -52,7 +52,7 @@ use Rattle.rules.proofs.Particle.Laws as T′
 use Rattle.rules.proofs.Refusal as R
 use Rattle.rules.proofs.Refusal.Laws as R′
 use Rattle.sheet.proofs.Checked.{record-fine}
-use Rattle.lists.proofs.Checks.{result-fine}
+use Rattle.list_checks.proofs.Checks.{result-fine}
 use Rattle.talemiku.specs.Answered.{Answered}
 use Rattle.talemiku.proofs.Frame.{Blocks, env, alloc-all, free-all, counted}
 use Rattle.talemiku.proofs.Rules.{copied, part, big, sets, goes-on, leaves, counts, judges, takes, puts, calls}
@@ -73,7 +73,7 @@ use Rattle.talemiku.proofs.centring.talemiku_center as center
 use Rattle.talemiku.proofs.centring.talemiku_center.Statement as stated
 use Rattle.talemiku.proofs.centring.talemiku_center.Code as code
 use Rattle.talemiku.proofs.centring.talemiku_center.Code.Mir as m
-use Rattle.checks.proofs.Entries.{count-small}
+use Rattle.tick_checks.proofs.Entries.{count-small}
 
 abbrev stayed : Stays (center.ended .signature .params) (center.ended .kept)
 stayed = (stay-slice (0 ∷ []) tt (plain (λ _. T.the-row)), (stay-none (λ _. f64) yes, (stay-none (λ _. f64) yes, (stay-none (λ _. f64) yes, tt))))

@@ -1,0 +1,73 @@
+use Prim.Native.Nat.{_+_, _-_, _*_, _≤_}
+use native.Mathlib.Omega.{arith}
+use lib.ListN.{length, getD}
+use Rattle.lister_text.proofs.Rows.{Going, going-start, going-chain, going-row, going-next, going-end}
+use Rattle.lister_text.proofs.lines.put_rows.Statement.{statement}
+use Rattle.lister_text.proofs.lines.put_rows.Tie as tie
+
+-- the rows from i on are left, with the chains from `from` on
+abbrev Inv-loop : tie.InvT-loop
+Inv-loop out₀ at nodes rows chains next₀ from₀ i₀ out next from i = Going nodes rows chains out₀ at out next from i
+
+abbrev μ-loop : tie.MeasureT-loop
+μ-loop out₀ at nodes rows chains next₀ from₀ i₀ out next from i = nodes - i
+
+loop-holds : tie.Need-loop-holds Inv-loop μ-loop
+loop-holds c =
+    let s = c .before .before .before in
+    going-start (s .args .nodes) (s .args .rows .now) (s .args .chains .now) (s .args .out .now) (s .args .at) (s .pre .1 .0) (s .pre .1 .1)
+
+chain-within : (c : tie.In-loop Inv-loop μ-loop)
+    → let s = c .before .before .before .before .before in
+    c .before .loop .from + getD (s .args .rows .now) (4 * c .before .loop .i + 3) 0 ≤ length (s .args .chains .now)
+chain-within c = going-chain _ _ _ _ _ _ _ _ _ (c .before .loop .inv) (c .loop-test .taken)
+
+cast-to : tie.Need-cast-to Inv-loop μ-loop
+cast-to c = omega (arith, chain-within (c .before))
+
+add-to-2 : tie.Need-add-to-2 Inv-loop μ-loop
+add-to-2 c = omega (arith, chain-within (c .before))
+
+part-put-row-end : tie.Need-part-put-row-end Inv-loop μ-loop
+part-put-row-end c = chain-within (c .before .before .before .before .before)
+
+put-row-requires : tie.Need-put-row-requires Inv-loop μ-loop
+put-row-requires c κs = let l = c .before .before .before .before .before .before in going-row _ _ _ _ _ _ _ _ _ (l .before .loop .inv) (l .loop-test .taken) .room
+
+loop-again : tie.Need-loop-again Inv-loop μ-loop
+loop-again c = let l = c .before .before .before .before .before .before .before .before .before in going-next _ _ _ _ _ _ _ _ _ (l .before .loop .inv) (l .loop-test .taken) _ _ (c .before .before .put-row .ensures)
+
+returns : tie.Need-returns Inv-loop μ-loop
+returns c = going-end _ _ _ _ _ _ _ _ _ (c .before .loop .inv) (c .loop-test .left)
+
+pub put-rows-spec : {M : Type 1} → statement M
+put-rows-spec =
+    tie.close
+    (tie.spec
+    Inv-loop
+    μ-loop
+    loop-holds
+    (λ c. omega arith)
+    (λ c. omega arith)
+    (λ c. omega arith)
+    (λ c. omega arith)
+    cast-to
+    add-to-2
+    (λ c. omega arith)
+    (λ c. omega arith)
+    (λ c. omega arith)
+    (λ c. omega arith)
+    (λ c. omega arith)
+    (λ c. omega arith)
+    (λ c. omega arith)
+    (λ c. omega arith)
+    (λ c. omega arith)
+    (λ c. omega arith)
+    (λ c. omega arith)
+    part-put-row-end
+    put-row-requires
+    (λ c. omega arith)
+    (λ c. omega arith)
+    loop-again
+    (λ c. c .before .loop .inv .left .same)
+    returns)

@@ -1,0 +1,79 @@
+// What a call that builds a tree answers, and what it leaves of the lent lists.
+use tree_build::build::Built;
+use tree_rows::list;
+use rules::Extent;
+use rules::Refusal;
+use rules::TreeAnswer;
+use tree_slots::store::clear;
+ghost use mathlib.Core.Path.{_≡_};
+ghost use mathlib.Core.Bool.{_&&_, _||_};
+ghost use lib.Dec.{leb, eqb};
+ghost use lib.ListN.{length};
+ghost use Rattle.rules.specs.declared.Extent.{Extent};
+ghost use Rattle.rules.specs.Outcome.{Outcome};
+ghost use Rattle.rules.specs.Tree.{Tree};
+ghost use Rattle.tree_call.specs.Tree.{refusedTree, refusedWork, Comes, Answers};
+
+// Whether a refusal clears the work slots: 6 to 9 and 15.
+fn met_while_working(number: u64) -> bool
+    ensures { λ r. ⌜ r ≡ (leb 6 number && leb number 9 || eqb number 15) ⌝ }
+{
+    if number == 15 {
+        return true;
+    }
+    6 <= number && number <= 9
+}
+
+// Counts zero and no extent; refusals that aren't met while working leave the work slots as they were.
+pub fn refuse(work: &mut [u64], refusal: Refusal) -> TreeAnswer
+    requires { ⌜ (refusal .number ≡ 0 → ⊥) ⌝ }
+    ensures { λ r. ⌜ (r ≡ refusedTree refusal) × (now (work .exit) ≡ refusedWork refusal (now (work .entry))) ⌝ }
+{
+    let number = refusal.number;
+    let answer = TreeAnswer {
+        refusal,
+        nodes: 0,
+        extent: Extent {
+            x0: 0.0,
+            y0: 0.0,
+            x1: 0.0,
+            y1: 0.0,
+        },
+    };
+    if !met_while_working(number) {
+        return answer;
+    }
+    clear(work);
+    answer
+}
+
+// A tree that was built is listed, and the slots are cleared.
+pub fn answer(
+    built: Built,
+    next: &[u32],
+    rows: &mut [u32],
+    chains: &mut [u32],
+    work: &mut [u64],
+) -> TreeAnswer
+    requires { ⌜ ((o : Outcome (Tree Extent)) × Comes o built (now work) (now next) (length (now rows)) (length (now chains))) ⌝ }
+    ensures { λ r. ⌜ ((o : Outcome (Tree Extent)) → Comes o built (now (work .entry)) (now (next .entry)) (length (now (rows .entry))) (length (now (chains .entry)))
+        → Answers o built r (now (rows .entry)) (now (chains .entry)) (now (work .entry)) (now (rows .exit)) (now (chains .exit)) (now (work .exit))) ⌝ }
+{
+    match built {
+        Built::Refused(refusal) => refuse(work, refusal),
+        Built::Tree(q) => {
+            let nodes = q.nodes;
+            let extent = q.extent;
+            list(q, work, next, rows, chains);
+            clear(work);
+            TreeAnswer {
+                refusal: Refusal {
+                    number: 0,
+                    place: 0,
+                },
+                nodes: nodes as u64,
+                extent,
+            }
+        }
+    }
+}

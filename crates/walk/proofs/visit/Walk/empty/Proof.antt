@@ -1,6 +1,0 @@
-use mathlib.Core.Path.{refl}
-use Rattle.walk.proofs.visit.Walk.empty.Statement.{statement}
-use Rattle.walk.proofs.visit.Walk.empty.Tie as tie
-
-pub empty-spec : {M : Type 1} → statement M
-empty-spec = tie.close (tie.spec (λ c. record { slots = refl; ends = refl }))
