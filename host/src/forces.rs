@@ -5,7 +5,10 @@ use crate::Links;
 pub const FORCE_SLOTS: usize = 8;
 
 /// How many words a slot's entry takes: kind, iterations, links, link strengths and three settings.
-const ENTRY: usize = 7;
+const ENTRY_WORDS: usize = 7;
+
+/// How many words all entries take.
+pub const FORCE_WORDS: usize = FORCE_SLOTS * ENTRY_WORDS;
 
 /// A force in a slot.
 #[derive(Clone, Copy, Debug)]
@@ -41,7 +44,7 @@ pub enum Force<'a> {
 #[derive(Clone, Debug, PartialEq)]
 pub struct Forces {
     /// The entries.
-    pub words: [u64; FORCE_SLOTS * ENTRY],
+    pub words: [u64; FORCE_WORDS],
     /// ManyBody's strengths, Collide's radii, Link's strengths and then its distances.
     pub numbers: Vec<f64>,
     /// Link's ends.
@@ -49,7 +52,7 @@ pub struct Forces {
 }
 
 impl Force<'_> {
-    fn entry(&self) -> [u64; ENTRY] {
+    fn entry(&self) -> [u64; ENTRY_WORDS] {
         match *self {
             Force::ManyBody { .. } => [1, 0, 0, 0, 0, 0, 0],
             Force::Collide { strength, iterations, .. } => [2, iterations as u64, 0, 0, strength.to_bits(), 0, 0],
@@ -72,8 +75,8 @@ impl Forces {
     /// The slots as they are, whatever their lists' lengths: lent to a tick, each slot takes as much of the numbers as its entry asks for.
     #[must_use]
     pub fn pack(slots: &[Option<Force<'_>>; FORCE_SLOTS]) -> Forces {
-        let mut packed = Forces { words: [0; FORCE_SLOTS * ENTRY], numbers: Vec::new(), links: Vec::new() };
-        for (entry, force) in packed.words.chunks_exact_mut(ENTRY).zip(slots) {
+        let mut packed = Forces { words: [0; FORCE_WORDS], numbers: Vec::new(), links: Vec::new() };
+        for (entry, force) in packed.words.chunks_exact_mut(ENTRY_WORDS).zip(slots) {
             let force = match force {
                 Some(force) => force,
                 None => continue,

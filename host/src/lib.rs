@@ -30,7 +30,7 @@ mod tree;
 
 pub use edits::{edits, Edits, EDIT_WORDS};
 pub use force::{collide, link, many_body, velocities_of, velocity_bytes, Counts, Lent, Links, Points};
-pub use forces::{Force, Forces, FORCE_SLOTS};
+pub use forces::{Force, Forces, FORCE_SLOTS, FORCE_WORDS};
 pub use number::{floor, root};
 pub use outline::{unwrap, HALF_TURN};
 pub use particles::{apply_velocities, center};

@@ -10,6 +10,8 @@
 // The entries have as many parameters as they need; what the crate offers above them groups these.
 #![allow(clippy::too_many_arguments)]
 
+use crate::FORCE_WORDS;
+
 /// A refusal's number and its place; number 0 where nothing is refused.
 #[must_use]
 #[repr(C)]
@@ -154,7 +156,7 @@ mod layout {
 }
 
 mod entry {
-    use super::{Counts, FloorAnswer, Particle, Refusal, StepAnswer, TreeAnswer};
+    use super::{Counts, FloorAnswer, Particle, Refusal, StepAnswer, TreeAnswer, FORCE_WORDS};
 
     // an archive may lack some
     #[allow(dead_code)]
@@ -233,7 +235,7 @@ mod entry {
             sheet: *mut u8,
             sheet_len: usize,
             alpha: *mut u64,
-            forces: *const [u64; 56],
+            words: *const [u64; FORCE_WORDS],
             numbers: *const f64,
             numbers_len: usize,
             links: *const u32,
@@ -251,7 +253,7 @@ mod entry {
             sheet: *mut u8,
             sheet_len: usize,
             alpha: *mut u64,
-            forces: *const [u64; 56],
+            words: *const [u64; FORCE_WORDS],
             numbers: *const f64,
             numbers_len: usize,
             links: *const u32,
@@ -425,7 +427,7 @@ pub fn apply_velocities(particles: &mut [Particle], decay: f64) -> Refusal {
 pub fn tick(
     sheet: &mut [u8],
     alpha: &mut u64,
-    forces: &[u64; 56],
+    words: &[u64; FORCE_WORDS],
     numbers: &[f64],
     links: &[u32],
     draws: &[f64],
@@ -434,13 +436,13 @@ pub fn tick(
     velocity_decay: f64,
     work: &mut [u64],
 ) -> Counts {
-    // SAFETY: as in `tree`; alpha is one word and the forces are 56, as the entry takes them.
+    // SAFETY: as in `tree`; alpha is one word and those of the force slots are FORCE_WORDS, as the entry takes them.
     unsafe {
         entry::talemiku_tick(
             sheet.as_mut_ptr(),
             sheet.len(),
             alpha,
-            forces,
+            words,
             numbers.as_ptr(),
             numbers.len(),
             links.as_ptr(),
@@ -460,7 +462,7 @@ pub fn tick(
 pub fn step(
     sheet: &mut [u8],
     alpha: &mut u64,
-    forces: &[u64; 56],
+    words: &[u64; FORCE_WORDS],
     numbers: &[f64],
     links: &[u32],
     draws: &[f64],
@@ -471,13 +473,13 @@ pub fn step(
     budget: u64,
     work: &mut [u64],
 ) -> StepAnswer {
-    // SAFETY: as in `tree`; alpha is one word and the forces are 56, as the entry takes them.
+    // SAFETY: as in `tree`; alpha is one word and those of the force slots are FORCE_WORDS, as the entry takes them.
     unsafe {
         entry::talemiku_step(
             sheet.as_mut_ptr(),
             sheet.len(),
             alpha,
-            forces,
+            words,
             numbers.as_ptr(),
             numbers.len(),
             links.as_ptr(),

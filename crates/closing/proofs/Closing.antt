@@ -21,16 +21,16 @@ use Rattle.sheet.proofs.PairLists.{pair-off, pair-put, same-first, same-second}
 -- ---- one particle
 
 -- x and y are the code's axes, held as a and b say
-pub moved-is : (decay : Float) (entry p : Particle) (a b : Bool) (x y : Code.Axis)
+pub moved-is : (decay hx hy : Float) (p : Particle) (a b : Bool) (x y : Code.Axis)
     → a ≡ holdsX (p .flags) → b ≡ holdsY (p .flags)
-    → axis (x .place) (x .speed) ≡ movedAxis a (entry .x) decay (p .x) (p .vx)
-    → axis (y .place) (y .speed) ≡ movedAxis b (entry .y) decay (p .y) (p .vy)
-    → particle (x .place) (y .place) (x .speed) (y .speed) (p .flags) ≡ moved decay entry p
+    → axis (x .place) (x .speed) ≡ movedAxis a hx decay (p .x) (p .vx)
+    → axis (y .place) (y .speed) ≡ movedAxis b hy decay (p .y) (p .vy)
+    → particle (x .place) (y .place) (x .speed) (y .speed) (p .flags) ≡ moved decay hx hy p
 unfolding moved
-moved-is decay entry p a b x y ea eb ex ey =
+moved-is decay hx hy p a b x y ea eb ex ey =
     ap₂ (λ (u v : Axis). particle (u .place) (v .place) (u .speed) (v .speed) (p .flags))
-    (ex ∙ ap (λ (h : Bool). movedAxis h (entry .x) decay (p .x) (p .vx)) ea)
-    (ey ∙ ap (λ (h : Bool). movedAxis h (entry .y) decay (p .y) (p .vy)) eb)
+    (ex ∙ ap (λ (h : Bool). movedAxis h hx decay (p .x) (p .vx)) ea)
+    (ey ∙ ap (λ (h : Bool). movedAxis h hy decay (p .y) (p .vy)) eb)
 
 -- ---- particles from columns
 
@@ -95,36 +95,30 @@ particles-back ps = particles-left (particleAt (placesOf ps) (speedsOf ps) (flag
 -- ---- the closing move of all
 
 module _ (decay : Float) where
-  -- of the particles at entry only the places matter
-  pub closing-entry : (es es' ps : List Particle) → placesOf es ≡ placesOf es' → closing decay es ps ≡ closing decay es' ps
-  unfolding closing moved
-  closing-entry [] [] ps h = refl
-  closing-entry [] (e ∷ es') ps h = absurd (let z : _≡_ {A = ℕ} 0 1 = cc in omega arith)
-  closing-entry (e ∷ es) [] ps h = absurd (let z : _≡_ {A = ℕ} 0 1 = cc in omega arith)
-  closing-entry (e ∷ es) (e' ∷ es') [] h = refl
-  closing-entry (e ∷ es) (e' ∷ es') (p ∷ ps) h =
-      let x : e .x ≡ e' .x = cc in
-      let y : e .y ≡ e' .y = cc in
-      let l : placesOf es ≡ placesOf es' = cc in
-      rw (x, y, closing-entry es es' ps l)
-
-  closing-map : (e p : ℕ → Particle) (i k : ℕ) → closing decay (map e (countFrom i k)) (map p (countFrom i k)) ≡ map (λ j. moved decay (e j) (p j)) (countFrom i k)
+  closing-none : (home : List Float) → closing decay home [] ≡ []
   unfolding closing
-  closing-map e p i zero = refl
-  closing-map e p i (suc k) = ap (λ (l : List Particle). moved decay (e i) (p i) ∷ l) (closing-map e p (i + 1) k)
+  closing-none [] = refl
+  closing-none (x ∷ []) = refl
+  closing-none (x ∷ y ∷ home) = refl
 
-  module _ (entry places speeds : List Float) (flags : List ℕ) where
+  closing-map : (home : List Float) (p : ℕ → Particle) (i k : ℕ) → length home ≡ (i + k) * 2
+      → closing decay (drop (i * 2) home) (map p (countFrom i k)) ≡ map (λ j. moved decay (xAt home j) (yAt home j) (p j)) (countFrom i k)
+  unfolding closing
+  closing-map home p i zero e = closing-none (drop (i * 2) home)
+  closing-map home p i (suc k) e = rw (pair-off home i nan (omega arith), closing-map home p (i + 1) k (omega arith))
+
+  module _ (home places speeds : List Float) (flags : List ℕ) where
     -- particle number i after the move
     abbrev pub closedAt : ℕ → Particle
-    closedAt i = moved decay (particleAt entry speeds flags i) (particleAt places speeds flags i)
+    closedAt i = moved decay (xAt home i) (yAt home i) (particleAt places speeds flags i)
 
-    pub closing-is : closing decay (particlesFrom entry speeds flags) (particlesFrom places speeds flags) ≡ map closedAt (upTo (length flags))
+    pub closing-is : length home ≡ length flags * 2 → closing decay home (particlesFrom places speeds flags) ≡ map closedAt (upTo (length flags))
     unfolding particlesFrom
-    closing-is = closing-map (particleAt entry speeds flags) (particleAt places speeds flags) 0 (length flags)
+    closing-is e = closing-map home (particleAt places speeds flags) 0 (length flags) (omega arith)
 
     -- the code's particle number i, of columns that are as they were from i on
     pub closed-now : (i : ℕ) (places' speeds' : List Float) → drop (i * 2) places' ≡ drop (i * 2) places → drop (i * 2) speeds' ≡ drop (i * 2) speeds
-        → moved decay (particleAt entry speeds' flags i) (particleAt places' speeds' flags i) ≡ closedAt i
+        → moved decay (xAt home i) (yAt home i) (particleAt places' speeds' flags i) ≡ closedAt i
     closed-now i places' speeds' e f =
         rw (
           same-first places' i places nan e,
@@ -160,7 +154,7 @@ module _ (g : ℕ → Particle) (n : ℕ) (l : List Float) (i : ℕ) where
 
 -- ---- a fact that stands by itself, over the rules alone
 
--- A held x keeps the value that it had at entry, and its velocity becomes +0.
-pub held-x : (decay : Float) (entry p : Particle) → holdsX (p .flags) ≡ true → (moved decay entry p .x ≡ entry .x) × (moved decay entry p .vx ≡ 0·)
+-- A held x returns home, and its velocity becomes +0.
+pub held-x : (decay hx hy : Float) (p : Particle) → holdsX (p .flags) ≡ true → (moved decay hx hy p .x ≡ hx) × (moved decay hx hy p .vx ≡ 0·)
 unfolding moved movedAxis
-held-x decay entry p h = (rw h, rw h)
+held-x decay hx hy p h = (rw h, rw h)

@@ -45,13 +45,13 @@ fn moved_axis(held: bool, home: f64, decay: f64, p: f64, v: f64) -> Axis
     }
 }
 
-// One particle, beside the particle that it was at entry.
-pub fn moved(decay: f64, entry: Particle, p: Particle) -> Particle
-    ensures { λ r. ⌜ r ≡ Rule.moved decay entry p ⌝ }
+// One particle whose home is hx, hy.
+pub fn moved(decay: f64, hx: f64, hy: f64, p: Particle) -> Particle
+    ensures { λ r. ⌜ r ≡ Rule.moved decay hx hy p ⌝ }
 {
     let flags = p.flags;
-    let x = moved_axis(holds_x(flags), entry.x, decay, p.x, p.vx);
-    let y = moved_axis(holds_y(flags), entry.y, decay, p.y, p.vy);
+    let x = moved_axis(holds_x(flags), hx, decay, p.x, p.vx);
+    let y = moved_axis(holds_y(flags), hy, decay, p.y, p.vy);
     Particle {
         x: x.place,
         y: y.place,
@@ -76,18 +76,18 @@ fn particle_at(places: &[f64], speeds: &[f64], flags: &[u64], i: usize) -> Parti
     }
 }
 
-// Every particle, beside the places that they had at entry, `home`.
+// Every particle; `home` are the places to which held axes return.
 pub fn close_all(home: &[f64], places: &mut [f64], speeds: &mut [f64], flags: &[u64], decay: f64)
     requires { ⌜ (length (now home) ≡ length (now flags) * 2) × (length (now places) ≡ length (now flags) * 2) × (length (now speeds) ≡ length (now flags) * 2) ⌝ }
-    ensures { λ _. ⌜ (now (places .exit) ≡ placesOf (Rule.closing decay (particlesFrom (now (home .entry)) (now (speeds .entry)) (now (flags .entry))) (particlesFrom (now (places .entry)) (now (speeds .entry)) (now (flags .entry))))) × (now (speeds .exit) ≡ speedsOf (Rule.closing decay (particlesFrom (now (home .entry)) (now (speeds .entry)) (now (flags .entry))) (particlesFrom (now (places .entry)) (now (speeds .entry)) (now (flags .entry))))) ⌝ }
+    ensures { λ _. ⌜ (let closed = Rule.closing decay (now (home .entry)) (particlesFrom (now (places .entry)) (now (speeds .entry)) (now (flags .entry))) in
+        (now (places .exit) ≡ placesOf closed) × (now (speeds .exit) ≡ speedsOf closed)) ⌝ }
 {
     let n = flags.len();
     let mut i: usize = 0;
     while i < n {
-        let entry = particle_at(home, speeds, flags, i);
         let p = particle_at(places, speeds, flags, i);
-        let q = moved(decay, entry, p);
         let j = i * 2;
+        let q = moved(decay, home[j], home[j + 1], p);
         places[j] = q.x;
         places[j + 1] = q.y;
         speeds[j] = q.vx;

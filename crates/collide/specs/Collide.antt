@@ -1,15 +1,14 @@
 -- Collide's stages, and how much they may count. Definitions only.
 use mathlib.Core.List.{List}
 use Prim.Native.Nat.{ℕ, _≤_, _<_, _^_}
-use lib.ListN.{length, drop}
+use lib.ListN.{length}
 use lib.Ieee.{Float}
 use Rattle.rules.specs.Plain.{upTo}
-use Rattle.rules.specs.Outcome.{Outcome, refusal, foldStages}
+use Rattle.rules.specs.Outcome.{Outcome, foldStages}
 use Rattle.rules.specs.Refusal.{mostParticles, mostIterations}
-use Rattle.rules.specs.Walk.{Counted, counted, walk}
-use Rattle.rules.specs.Flow.{Flow, flow}
+use Rattle.rules.specs.Walk.{Counted, walk}
+use Rattle.rules.specs.Flow.{Flow}
 use Rattle.rules.specs.Collide.{radiusTree, collideStep}
-use Rattle.force.specs.declared.Ran.{Ran}
 use Rattle.tree_slots.specs.declared.Quadtree.{Quadtree}
 use Rattle.tree_slots.specs.Trees.{Stands}
 
@@ -19,18 +18,10 @@ pub record Bounded (n iterations visits : ℕ) : Type 0 where
   pub times : iterations ≤ mostIterations
   pub room : visits < 2 ^ 63
 
--- the slots hold the tree of the n points
-pub record Stood (at : List Float) (n : ℕ) (m : List ℕ) (q : Quadtree) : Type 0 where
+-- the slots hold the tree of these n points
+pub record HoldsTree (at : List Float) (n : ℕ) (m : List ℕ) (q : Quadtree) : Type 0 where
   pub next : List ℕ
   pub stands : Stands at n m next q
-
--- refused by this number at place 0, or not at all with 0
-abbrev pub ended : ℕ → ℕ → ℕ → Ran
-ended number used visits = record { refusal = refusal number 0; used = used; visits = visits }
-
--- velocities, the draws that are left, and the nodes handed out so far
-abbrev pub begun : List Float → List Float → ℕ → ℕ → Counted Flow
-begun vs draws used visits = counted (flow vs (drop used draws)) visits
 
 -- the walk of particle i
 abbrev pub walkFor : List Float → List Float → Float → Counted Flow → ℕ → Outcome (Counted Flow)

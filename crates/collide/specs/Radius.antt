@@ -12,8 +12,8 @@ use Rattle.tree_walk.specs.WalkAfter.{Valued}
 abbrev pub radiusIn : List ℕ → ℕ → Float
 radiusIn m s = value m s 0
 
--- the slots hold the tree of n points
-pub record Standing (n : ℕ) (m : List ℕ) (q : Quadtree) : Type 0 where
+-- the slots hold the tree of some n points
+pub record HoldsSomeTree (n : ℕ) (m : List ℕ) (q : Quadtree) : Type 0 where
   pub at : List Float
   pub next : List ℕ
   pub stands : Stands at n m next q
@@ -25,4 +25,4 @@ pub record Rounded (at radii : List Float) (m : List ℕ) (q : Quadtree) : Type 
 
 -- whatever tree the slots held at m₀, at m they hold it still, with its radii
 abbrev pub Prepares : List Float → List ℕ → List ℕ → Quadtree → Type 0
-Prepares radii m₀ m q = (s : Standing (length radii) m₀ q) → Rounded (s .at) radii m q
+Prepares radii m₀ m q = (s : HoldsSomeTree (length radii) m₀ q) → Rounded (s .at) radii m q

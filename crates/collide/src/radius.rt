@@ -11,12 +11,13 @@ ghost use Prim.Native.Nat.{_+_, _*_, _≤_};
 ghost use lib.ListN.{length};
 ghost use Rattle.rules.specs.Plain.{foldl};
 ghost use Rattle.rules.specs.Collide as Collide;
-ghost use Rattle.tree_walk.specs.WalkAfter.{Lent, KidsLent, valuesAt, kidValues};
-ghost use Rattle.collide.specs.Radius.{radiusIn, Standing, Prepares};
+ghost use Rattle.rules.specs.Calls.{slotWords};
+ghost use Rattle.tree_walk.specs.WalkAfter.{KidIn, KidsIn, valuesAt, kidValues};
+ghost use Rattle.collide.specs.Radius.{radiusIn, HoldsSomeTree, Prepares};
 
 // The radius of a child, where there is one and it is greater.
 fn greater(m: &[u64], child: u32, r: f64) -> f64
-    requires { ⌜ Lent (now m) child ⌝ }
+    requires { ⌜ KidIn (now m) child ⌝ }
     ensures { λ s. ⌜ s ≡ foldl Collide.greater r (valuesAt radiusIn (now (m .entry)) child) ⌝ }
 {
     if child == 0 {
@@ -31,7 +32,7 @@ fn greater(m: &[u64], child: u32, r: f64) -> f64
 
 // The greatest of a node's children.
 fn greatest_below(m: &[u64], s: usize) -> f64
-    requires { ⌜ (s * 8 + 8 ≤ length (now m)) × KidsLent (now m) s ⌝ }
+    requires { ⌜ (s * slotWords + slotWords ≤ length (now m)) × KidsIn (now m) s ⌝ }
     ensures { λ r. ⌜ r ≡ Collide.nodeRadius (kidValues radiusIn (now (m .entry)) s) ⌝ }
 {
     let children = store::children(m, s);
@@ -43,7 +44,7 @@ fn greatest_below(m: &[u64], s: usize) -> f64
 
 // Each node gets its radius: a leaf its first particle's, any other its greatest child's.
 pub fn prepare(q: Quadtree, radii: &[f64], m: &mut [u64])
-    requires { ⌜ Standing (length (now radii)) (now m) q ⌝ }
+    requires { ⌜ HoldsSomeTree (length (now radii)) (now m) q ⌝ }
     ensures { λ _. ⌜ Prepares (now (radii .entry)) (now (m .entry)) (now (m .exit)) q ⌝ }
 {
     let mut left = q.nodes;

@@ -1,21 +1,16 @@
 -- What two particles do to each other, from the code's numbers to the rule. Assumes nothing.
 use mathlib.Core.Path.{_≡_, _∙_}
-use mathlib.Core.Bool.{Bool, true, false, cond}
+use mathlib.Core.Bool.{Bool, true, false}
 use mathlib.Core.List.{List}
 use Prim.Native.Nat.{ℕ, _+_, _*_}
 use lib.ListN.{getD, drop}
-use lib.Ieee.{Float, nan, lt, eq}
+use lib.Ieee.{Float, nan, lt}
 use Rattle.rules.specs.Outcome.{done, refused, refusal}
-use Rattle.rules.specs.Number.{_⊕_, _⊖_, _⊗_, 0·}
+use Rattle.rules.specs.Number.{_⊕_, _⊖_, _⊗_}
 use Rattle.rules.specs.Flow.{flow, gap, length², shaken, lengthened}
 use Rattle.rules.specs.Collide.{radiusOf, gapFrom, parted, meet}
 use Rattle.force.specs.declared.draws.Jiggled.{Jiggled}
 use Rattle.force.specs.Draws.{shakenOf}
-
--- one axis after the other
-pub lengthened-is : (l x y gx gy l1 l2 : Float) → l1 ≡ cond (eq x 0·) (l ⊕ gx ⊗ gx) l → l2 ≡ cond (eq y 0·) (l1 ⊕ gy ⊗ gy) l1 → l2 ≡ lengthened l (gap x y) (gap gx gy)
-unfolding lengthened
-lengthened-is l x y gx gy l1 l2 e1 e2 = rw (e2, e1)
 
 -- particle i, of radius ri, over the gap x, y against the particle j of a leaf of radius rj
 module _ (at radii : List Float) (strength : Float) (i j : ℕ) (ri rj x y : Float) (vs draws : List Float) (used : ℕ)
@@ -40,7 +35,7 @@ module _ (at radii : List Float) (strength : Float) (i j : ℕ) (ri rj x y : Flo
     meet-dry h = rw (near-is true near, ← gap-is, h)
 
     pub meet-parted : g .dry ≡ false → (l : Float) (vs' : List Float) → l ≡ lengthened (x ⊗ x ⊕ y ⊗ y) (gap x y) (gap (g .x) (g .y))
-        → vs' ≡ parted strength i j ri rj (ri ⊕ rj) (gap (g .x) (g .y)) l vs
+        → vs' ≡ parted strength i j ri rj (gap (g .x) (g .y)) l vs
         → done (flow vs' (drop (g .used) draws)) ≡ meet at radii strength i rj j (flow vs (drop used draws))
     unfolding meet shakenOf
     meet-parted h l vs' el ev = rw (near-is true near, ← gap-is, h, ev, el, er, ex, ey)

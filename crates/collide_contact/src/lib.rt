@@ -1,25 +1,25 @@
 // Collide for one particle at one node: whether it lies out of reach, and what a leaf's first particle and this one do to each other.
 use force::Spent;
+use force::lengthen;
 use force::push_back;
 use force::push_on;
 use force::shaken;
 use number::index;
 use number::plain_zero;
 use rules::Extent;
-use tree_slots::store;
 use square_root::root;
+use tree_slots::store;
 ghost use mathlib.Core.Path.{_≡_};
-ghost use mathlib.Core.Bool.{cond};
-ghost use mathlib.Core.List.{[], _∷_};
-ghost use Prim.Native.Nat.{_+_, _-_, _*_, _≤_, _<_};
+ghost use Prim.Native.Nat.{_+_, _*_, _≤_, _<_};
 ghost use lib.ListN.{length, getD, drop};
-ghost use lib.Ieee.{nan, eq};
-ghost use Rattle.rules.specs.Number.{_⊕_, _⊖_, _⊗_, 0·};
+ghost use lib.Ieee.{nan};
+ghost use Rattle.rules.specs.Number.{_⊕_, _⊖_};
 ghost use Rattle.rules.specs.Flow.{flow, gap};
 ghost use Rattle.rules.specs.Collide as Collide;
+ghost use Rattle.rules.specs.Calls.{slotWords};
 ghost use Rattle.tree_slots.specs.Trees.{word, value};
 ghost use Rattle.force.specs.Draws.{spentOf, From};
-ghost use Rattle.collide_contact.specs.Contact.{Spread};
+ghost use Rattle.collide_contact.specs.Contact.{Spread, meetAt};
 
 // -0.0 is read as 0.0.
 pub fn radius_of(radii: &[f64], j: usize) -> f64
@@ -56,20 +56,10 @@ fn between(at: &[f64], vs: &[f64], i: usize, j: usize) -> f64
     at[i] - at[j] - vs[j]
 }
 
-// l with the square of a draw added, where a difference was zero.
-fn longer(l: f64, was: f64, is: f64) -> f64
-    ensures { λ r. ⌜ r ≡ cond (eq was 0·) (l ⊕ is ⊗ is) l ⌝ }
-{
-    if was == 0.0 {
-        return l + is * is;
-    }
-    l
-}
-
 // Both are pushed apart over the gap x, y, each by the other's share.
 fn part(vs: &mut [f64], i: usize, j: usize, ri: f64, rj: f64, x: f64, y: f64, l: f64, strength: f64)
     requires { ⌜ (i * 2 + 1 < length (now vs)) × (j * 2 + 1 < length (now vs)) ⌝ }
-    ensures { λ _. ⌜ now (vs .exit) ≡ Collide.parted strength i j ri rj (ri ⊕ rj) (gap x y) l (now (vs .entry)) ⌝ }
+    ensures { λ _. ⌜ now (vs .exit) ≡ Collide.parted strength i j ri rj (gap x y) l (now (vs .entry)) ⌝ }
 {
     let r = ri + rj;
     let d = root(l);
@@ -96,7 +86,8 @@ fn meet(
     used: usize,
 ) -> Spent
     requires { ⌜ Spread (now at) (now vs) (now radii) (now draws) used × (i < length (now radii)) × (j < length (now radii)) ⌝ }
-    ensures is { λ r. ⌜ spentOf (now (vs .exit)) (now (draws .entry)) r ≡ Collide.meet (now (at .entry)) (now (radii .entry)) strength i rj j (flow (now (vs .entry)) (drop used (now (draws .entry)))) ⌝ }
+    ensures is { λ r. ⌜ spentOf (now (vs .exit)) (now (draws .entry)) r
+        ≡ Collide.meet (now (at .entry)) (now (radii .entry)) strength i rj j (flow (now (vs .entry)) (drop used (now (draws .entry)))) ⌝ }
     ensures from { λ r. ⌜ From (now (draws .entry)) used (r .used) ⌝ }
 {
     let ri = radius_of(radii, i);
@@ -114,9 +105,8 @@ fn meet(
                 dry: true,
             };
         }
-        let longer_x = longer(l, x, g.x);
-        let longer_y = longer(longer_x, y, g.y);
-        part(vs, i, j, ri, rj, g.x, g.y, longer_y, strength);
+        let longer = lengthen(l, x, y, g.x, g.y);
+        part(vs, i, j, ri, rj, g.x, g.y, longer, strength);
         return Spent {
             used: spent,
             dry: false,
@@ -137,8 +127,10 @@ pub fn meet_first(
     draws: &[f64],
     used: usize,
 ) -> Spent
-    requires { ⌜ Spread (now at) (now vs) (now radii) (now draws) used × (i < length (now radii)) × (s * 8 + 8 ≤ length (now m)) × (0 < word (now m) s 0) × (word (now m) s 0 ≤ length (now radii)) ⌝ }
-    ensures is { λ r. ⌜ spentOf (now (vs .exit)) (now (draws .entry)) r ≡ Collide.meetFirst (now (at .entry)) (now (radii .entry)) strength i (value (now (m .entry)) s 0) ((word (now (m .entry)) s 0 - 1) ∷ []) (flow (now (vs .entry)) (drop used (now (draws .entry)))) ⌝ }
+    requires { ⌜ Spread (now at) (now vs) (now radii) (now draws) used × (i < length (now radii))
+        × (s * slotWords + slotWords ≤ length (now m)) × (0 < word (now m) s 0) × (word (now m) s 0 ≤ length (now radii)) ⌝ }
+    ensures is { λ r. ⌜ spentOf (now (vs .exit)) (now (draws .entry)) r
+        ≡ meetAt (now (at .entry)) (now (radii .entry)) strength i (now (m .entry)) s (flow (now (vs .entry)) (drop used (now (draws .entry)))) ⌝ }
     ensures from { λ r. ⌜ From (now (draws .entry)) used (r .used) ⌝ }
 {
     let j = index(store::tag(m, s) - 1);
@@ -151,7 +143,7 @@ pub fn meet_first(
 
 // An internal node: whether what lies below it is left out.
 pub fn skips(at: &[f64], radii: &[f64], i: usize, m: &[u64], s: usize, c: Extent) -> bool
-    requires { ⌜ (length (now at) ≡ length (now radii) * 2) × (i < length (now radii)) × (s * 8 + 8 ≤ length (now m)) ⌝ }
+    requires { ⌜ (length (now at) ≡ length (now radii) * 2) × (i < length (now radii)) × (s * slotWords + slotWords ≤ length (now m)) ⌝ }
     ensures { λ r. ⌜ r ≡ Collide.away (now (at .entry)) i c (Collide.radiusOf (now (radii .entry)) i ⊕ value (now (m .entry)) s 0) ⌝ }
 {
     let reach = radius_of(radii, i) + store::node_value(m, s, 0);

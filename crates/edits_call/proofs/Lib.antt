@@ -1,2 +1,2 @@
 mod Checks
-mod Ends
+mod EditsCalled

@@ -1,10 +1,10 @@
 // The call, with memory of its own for points, flags, links and tails.
 use crate::check::input_check;
+use edits_made::edit::edit_all;
 use edits_words::insertions;
 use edits_words::read_points;
-use edits_made::edit::edit_all;
+use rules::MOST_EDITS;
 use rules::TreeAnswer;
-use tree_slots::Quadtree;
 use tree_call::answer::answer;
 use tree_call::answer::refuse;
 ghost use mathlib.Core.Path.{_≡_};
@@ -39,10 +39,10 @@ fn edits_passed(edits: &[u64], rows: &mut [u32], chains: &mut [u32], work: &mut 
 {
     let made = insertions(edits);
     let pairs = made * 2;
-    let mut places = [0.0f64; 2 * Quadtree::MOST_PARTICLES];
-    let mut there = [0u32; Quadtree::MOST_PARTICLES];
-    let mut next = [0u32; Quadtree::MOST_PARTICLES];
-    let mut tail = [0u32; Quadtree::MOST_PARTICLES];
+    let mut places = [0.0f64; 2 * MOST_EDITS];
+    let mut there = [0u32; MOST_EDITS];
+    let mut next = [0u32; MOST_EDITS];
+    let mut tail = [0u32; MOST_EDITS];
     edits_with(
         edits,
         &mut places[..pairs],

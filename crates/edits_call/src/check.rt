@@ -1,29 +1,32 @@
 // What is lent, checked in its order: 1, 2, then 4 and 5 for the words.
-use edits_words::EDIT_WORDS;
 use edits_words::insertions;
 use edits_words::words_check;
-use list_checks::MOST_EDITS;
 use list_checks::count_check;
 use list_checks::first;
 use list_checks::lengths_check;
+use rules::EDIT_WORDS;
+use rules::MOST_EDITS;
+use rules::ROW_NUMBERS;
 use rules::Refusal;
+use rules::SLOT_WORDS;
 ghost use mathlib.Core.Path.{_≡_};
 ghost use mathlib.Core.Bool.{_&&_};
 ghost use Prim.Native.Nat.{_*_, _/_, _^_, _<_};
 ghost use lib.Dec.{eqb};
 ghost use Rattle.rules.specs.Outcome.{refusalOf};
 ghost use Rattle.rules.specs.Edits.{editWords, editInputCheck};
+ghost use Rattle.rules.specs.Tree.{rowNumbers};
 ghost use Rattle.edits_call.specs.Call.{lent};
 
-// Whole edits, four numbers a slot, one an insertion.
+// Whole edits, a row for each slot, a number for each insertion.
 fn agree(words: usize, rows: usize, slots: usize, chains: usize, made: usize) -> bool
     requires { ⌜ slots < 2 ^ 61 ⌝ }
-    ensures { λ r. ⌜ r ≡ (eqb words (words / editWords * editWords) && eqb rows (slots * 4) && eqb chains made) ⌝ }
+    ensures { λ r. ⌜ r ≡ (eqb words (words / editWords * editWords) && eqb rows (slots * rowNumbers) && eqb chains made) ⌝ }
 {
     if words != words / EDIT_WORDS * EDIT_WORDS {
         return false;
     }
-    rows == slots * 4 && chains == made
+    rows == slots * ROW_NUMBERS && chains == made
 }
 
 pub fn input_check(edits: &[u64], rows: &[u32], chains: &[u32], work: &[u64]) -> Refusal
@@ -38,7 +41,7 @@ pub fn input_check(edits: &[u64], rows: &[u32], chains: &[u32], work: &[u64]) ->
     let agreed = agree(
         words,
         rows.len(),
-        work.len() / 8,
+        work.len() / SLOT_WORDS,
         chains.len(),
         insertions(edits),
     );

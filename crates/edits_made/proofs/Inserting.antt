@@ -21,10 +21,11 @@ use Rattle.tree_slots.proofs.Links.{rises-snoc}
 use Rattle.tree_placing.specs.declared.Inserted.the-variants.{Done}
 use Rattle.tree_placing.specs.Add.{Puts, moreCheck, Placed}
 use Rattle.tree_placing.proofs.AddChain.{none-in, in-snoc}
-use Rattle.tree_build.specs.Build.{particles, Follows}
+use Rattle.tree_build.specs.Build.{particles, ComesNext}
 use Rattle.tree_build.proofs.AddBuild.{empty-root}
 use Rattle.edits_made.specs.Editing.{Now, Room}
 use Rattle.rules.proofs.EditLaws.{among-new, among-old}
+use Rattle.rules.specs.Calls.{slotsOf, slotWords}
 
 -- a check's answer at another place
 abbrev atPlace : ℕ → Check → Check
@@ -51,7 +52,7 @@ module _ (at : List Float) (s : Present) (there m next tail : List ℕ) (q : Qua
   first-empty : p ≡ 0 → q .root ≡ 0
   first-empty z = empty-root at is m q (h .holds) (none-in is (λ i n. omega (arith, h .earlier i n)))
 
-  pub insert-follows : Follows at q p
+  pub insert-follows : ComesNext at q p
   unfolding extentNow
   insert-follows = record { extent = h .extent; empty = first-empty; ranged = λ i l. room .lent .ranged i (omega (arith, less)); read = omega (arith, less) }
 
@@ -77,17 +78,17 @@ module _ (at : List Float) (s : Present) (there m next tail : List ℕ) (q : Qua
     tree-is = refl
 
     -- the rules' check of this edit is that of the tree with p, at the edit's place
-    check-is : editCheck at (length m / 8) k s e ≡ atPlace k (moreCheck at is m′ wide p)
+    check-is : editCheck at (slotsOf m) k s e ≡ atPlace k (moreCheck at is m′ wide p)
     unfolding editCheck
     check-is =
-        ap (λ (t : Tree Extent). fitsCheck (length m / 8) k t) (sym tree-is)
-        ∙ ap (λ (n : ℕ). fitsCheck (n / 8) k (treeIn at wide (is ++ (p ∷ [])))) (sym size)
-        ∙ fits-place (length m′ / 8) p k (treeIn at wide (is ++ (p ∷ [])))
+        ap (λ (t : Tree Extent). fitsCheck (slotsOf m) k t) (sym tree-is)
+        ∙ ap (λ (n : ℕ). fitsCheck (n / slotWords) k (treeIn at wide (is ++ (p ∷ [])))) (sym size)
+        ∙ fits-place (slotsOf m′) p k (treeIn at wide (is ++ (p ∷ [])))
 
-    pub insert-refused : (n : ℕ) → moreCheck at is m′ wide p ≡ refused (refusal n p) → editCheck at (length m / 8) k s e ≡ refused (refusal n k)
+    pub insert-refused : (n : ℕ) → moreCheck at is m′ wide p ≡ refused (refusal n p) → editCheck at (slotsOf m) k s e ≡ refused (refusal n k)
     insert-refused n f = check-is ∙ ap (atPlace k) f
 
-    pub insert-fine : moreCheck at is m′ wide p ≡ fine → editCheck at (length m / 8) k s e ≡ fine
+    pub insert-fine : moreCheck at is m′ wide p ≡ fine → editCheck at (slotsOf m) k s e ≡ fine
     insert-fine f = check-is ∙ ap (atPlace k) f
 
     module _ (there′ next′ tail′ : List ℕ) (flag : there′ ≡ set there p 1) (r : Quadtree) (d : Placed at is m′ next′ tail′ wide p (Done r)) where

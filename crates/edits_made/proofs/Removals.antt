@@ -2,14 +2,15 @@
 use mathlib.Core.Path.{_≡_, refl, sym, ap, _∙_}
 use mathlib.Core.Bool.{Bool, true, false, cond}
 use mathlib.Core.List.{List}
-use Prim.Native.Nat.{ℕ, _/_, _≤_, _<_}
+use Prim.Native.Nat.{ℕ, _≤_, _<_}
 use native.Mathlib.Omega.{arith}
 use native.Mathlib.Decide.{ℕ-discrete}
 use lib.ListN.{length, getD, set}
 use lib.Seq.{getD-set-same, getD-set-other}
 use lib.Ieee.{Float}
 use Rattle.rules.specs.Outcome.{fine, refused, refusal}
-use Rattle.rules.specs.Edits.{removal, Present, edited, others, among, extentNow, treeNow, editCheck}
+use Rattle.rules.specs.Plain.{others}
+use Rattle.rules.specs.Edits.{removal, Present, edited, among, extentNow, treeNow, editCheck}
 use Rattle.rules.proofs.CellList.{In, in-keep}
 use Rattle.tree_slots.specs.declared.Quadtree.{Quadtree}
 use Rattle.tree_slots.proofs.Links.{rises-keep}
@@ -19,6 +20,7 @@ use Rattle.tree_removing.specs.Take.{Removes, Removed}
 use Rattle.tree_build.specs.Build.{particles}
 use Rattle.edits_made.specs.Editing.{Now, Room}
 use Rattle.rules.proofs.EditLaws.{among-in, among-gone, among-kept}
+use Rattle.rules.specs.Calls.{slotsOf}
 
 module _ (at : List Float) (s : Present) (there m next tail : List ℕ) (q : Quadtree) (h : Now at s there m next tail q) (i : ℕ) where
   abbrev is : List ℕ
@@ -98,6 +100,6 @@ module _ (at : List Float) (s : Present) (there m next tail : List ℕ) (q : Qua
           }
 
       -- a smaller tree always fits
-      pub remove-fine : (k : ℕ) → editCheck at (length m / 8) k s (removal i) ≡ fine
+      pub remove-fine : (k : ℕ) → editCheck at (slotsOf m) k s (removal i) ≡ fine
       unfolding editCheck treeNow
       remove-fine k = rw (e, ← size) (holds-fits at (others i is) m′ r (extentNow at (edited s (removal i))) k (d .holds) extent-is)

@@ -2,7 +2,7 @@
 use mathlib.Core.Path.{_≡_, refl, sym, ap, _∙_, subst}
 use mathlib.Core.Logic.{_⊎_, inl, inr}
 use mathlib.Core.List.{List, [], _∷_}
-use Prim.Native.Nat.{ℕ, zero, suc, _+_, _*_, _/_, _≤_, _<_}
+use Prim.Native.Nat.{ℕ, zero, suc, _+_, _*_, _≤_, _<_}
 use native.Mathlib.Nat.{zero-mul}
 use native.Mathlib.Omega.{arith}
 use lib.ListN.{length, getD, drop}
@@ -13,11 +13,12 @@ use Rattle.rules.specs.Plain.{foldl}
 use Rattle.rules.specs.Outcome.{Check, fine, refused, _>>=_}
 use Rattle.rules.specs.Cell.{nowhere}
 use Rattle.rules.specs.Tree.{chainsOf, treeIn}
-use Rattle.rules.specs.Edits.{Edit, editOf, editsOf, insertions, Present, present, edited, presentAfter, extentNow, treeNow, editCheck, editsFrom}
+use Rattle.rules.specs.Edits.{Edit, editOf, editsOf, insertions, Present, present, edited, presentAfter, extentNow, treeNow, editCheck, editsFrom, editWords}
 use Rattle.tree_slots.specs.declared.Quadtree.{Quadtree}
 use Rattle.tree_build.specs.declared.build.Built.the-variants as Built
 use Rattle.tree_build.specs.Build.{particles}
 use Rattle.rules.proofs.CellRule.{tree-whole, chains-in, chains-length}
+use Rattle.rules.specs.Calls.{slotsOf}
 use Rattle.tree_slots.specs.Trees.{Lays}
 use Rattle.tree_slots.proofs.Links.{rises-length, in-below}
 use Rattle.tree_slots.proofs.Trees.{lays-levels}
@@ -33,7 +34,7 @@ module _ (words : List ℕ) (at : List Float) (slots : ℕ) where
 
   -- what is left from edit k on
   abbrev rest : ℕ → List Edit
-  rest k = editsOf (drop (k * 3) words)
+  rest k = editsOf (drop (k * editWords) words)
 
   -- after k edits, of which `made` were insertions
   pub record Editing (there m next tail : List ℕ) (q : Quadtree) (made k : ℕ) : Type 0 where
@@ -64,17 +65,17 @@ module _ (words : List ℕ) (at : List Float) (slots : ℕ) where
       }
     where
       whole : es ≡ rest 0
-      whole = ap (λ (i : ℕ). editsOf (drop i words)) (sym (zero-mul 3))
+      whole = ap (λ (i : ℕ). editsOf (drop i words)) (sym (zero-mul editWords))
 
-  module _ (there m next tail : List ℕ) (q : Quadtree) (made k : ℕ) (b : Editing there m next tail q made k) (more : k * 3 + 3 ≤ length words) where
+  module _ (there m next tail : List ℕ) (q : Quadtree) (made k : ℕ) (b : Editing there m next tail q made k) (more : k * editWords + editWords ≤ length words) where
     abbrev kind : ℕ
-    kind = getD words (k * 3) 0
+    kind = getD words (k * editWords) 0
 
     abbrev number : ℕ
-    number = getD words (k * 3 + 1) 0
+    number = getD words (k * editWords + 1) 0
 
     abbrev third : ℕ
-    third = getD words (k * 3 + 2) 0
+    third = getD words (k * editWords + 2) 0
 
     abbrev e : Edit
     e = editOf kind number third
@@ -121,7 +122,7 @@ module _ (words : List ℕ) (at : List Float) (slots : ℕ) where
       edit-next l n (inr (z, f)) = rw f (edit-removed z l)
 
   -- after the last edit
-  module _ (there m next tail : List ℕ) (q : Quadtree) (made k : ℕ) (b : Editing there m next tail q made k) (none : length words < k * 3 + 3) where
+  module _ (there m next tail : List ℕ) (q : Quadtree) (made k : ℕ) (b : Editing there m next tail q made k) (none : length words < k * editWords + editWords) where
     edits-fine : editsFrom at slots 0 (present 0 []) es ≡ fine
     unfolding editsFrom
     edits-fine = b .check ∙ ap (editsFrom at slots k (present made (b .left))) (edits-end words k none)
@@ -145,7 +146,7 @@ module _ (words : List ℕ) (at : List Float) (slots : ℕ) where
           few = omega (arith, chains-length at (treeIn at c is) c is rule, rises-length 0 made is (omega arith) (h .earlier) (h .rises));
         }
 
-    pub edits-done : Ranged at (particles at) → made ≤ particles at → length m / 8 ≡ slots → AllDone words at m next (Built.Tree q)
+    pub edits-done : Ranged at (particles at) → made ≤ particles at → slotsOf m ≡ slots → AllDone words at m next (Built.Tree q)
     edits-done r l s = (
       ap (λ (n : ℕ). editsFrom at n 0 (present 0 []) es) s ∙ edits-fine,
       subst (λ (x : Present). Stood at (treeNow at x) (extentNow at x) m next q) (sym edits-present) (stood r l),

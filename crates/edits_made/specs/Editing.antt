@@ -11,6 +11,7 @@ use Rattle.rules.specs.Refusal.{mostEdits}
 use Rattle.rules.specs.Tree.{Tree, chainsOf}
 use Rattle.rules.specs.Edits.{Edit, editWords, Present, present, edited, presentAfter, among, extentNow, treeNow, editCheck, editsFrom, editsOf, insertions}
 use Rattle.rules.proofs.CellList.{In}
+use Rattle.rules.specs.Calls.{slotsOf}
 use Rattle.tree_slots.specs.declared.Quadtree.{Quadtree}
 use Rattle.tree_slots.specs.Trees.{Rises, Below, Lays}
 use Rattle.tree_leaves.specs.Chain.{Linked}
@@ -54,4 +55,4 @@ pub record Stood (at : List Float) (t : Tree Extent) (c : Extent) (m next : List
 abbrev pub AllDone : List ℕ → List Float → List ℕ → List ℕ → Built → Type 0
 AllDone words at m next b =
     let s = presentAfter (editsOf words) in
-    DoneUnless (editsFrom at (length m / 8) 0 (present 0 []) (editsOf words)) (Stood at (treeNow at s) (extentNow at s) m next) (buildOutcome b)
+    DoneUnless (editsFrom at (slotsOf m) 0 (present 0 []) (editsOf words)) (Stood at (treeNow at s) (extentNow at s) m next) (buildOutcome b)

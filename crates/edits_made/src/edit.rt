@@ -1,16 +1,16 @@
 // Edit by edit, until one is refused.
 ghost use mathlib.Core.Path.{_≡_};
 ghost use mathlib.Core.List.{List};
-ghost use Prim.Native.Nat.{ℕ, _/_, _≤_, _<_};
-ghost use lib.ListN.{length};
+ghost use Prim.Native.Nat.{ℕ, _≤_, _<_};
 ghost use Rattle.rules.specs.Edits.{present, editOf};
+ghost use Rattle.rules.specs.Calls.{slotsOf};
 ghost use Rattle.tree_build.specs.Build.{particles};
 ghost use Rattle.edits_made.specs.Editing.{Now, Room, Changed, Edits, AllDone};
 use crate::insert::insert_next;
 use crate::remove::remove_one;
-use edits_words::EDIT_WORDS;
-use tree_build::build::Built;
+use rules::EDIT_WORDS;
 use rules::Extent;
+use tree_build::build::Built;
 use tree_slots::Quadtree;
 
 // Edit k: an insertion of the point whose number is `made`, or a removal of an earlier one.
@@ -26,9 +26,10 @@ fn edit_one(
     number: u64,
     k: usize,
 ) -> Built
-    requires { ⌜ ((is : List ℕ) × Now (now at) (present made is) (now there) (now m) (now next) (now tail) q × Room (now at) (now there) (now next) (now tail) × (made ≤ particles (now at)) × (kind < 2) × (kind ≡ 0 → made < particles (now at))) ⌝ }
+    requires { ⌜ ((is : List ℕ) × Now (now at) (present made is) (now there) (now m) (now next) (now tail) q
+        × Room (now at) (now there) (now next) (now tail) × (made ≤ particles (now at)) × (kind < 2) × (kind ≡ 0 → made < particles (now at))) ⌝ }
     ensures { λ r. ⌜ ((is : List ℕ) (w : ℕ) → Now (now (at .entry)) (present made is) (now (there .entry)) (now (m .entry)) (now (next .entry)) (now (tail .entry)) q
-        → Changed (now (at .entry)) (length (now (m .entry)) / 8) k (present made is) (editOf kind number w) (now (there .exit)) (now (m .exit)) (now (next .exit)) (now (tail .exit)) r) ⌝ }
+        → Changed (now (at .entry)) (slotsOf (now (m .entry))) k (present made is) (editOf kind number w) (now (there .exit)) (now (m .exit)) (now (next .exit)) (now (tail .exit)) r) ⌝ }
 {
     if kind == 0 {
         return insert_next(at, there, next, tail, m, q, made, k);

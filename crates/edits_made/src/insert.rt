@@ -1,15 +1,15 @@
 // The next insertion.
 ghost use mathlib.Core.List.{List};
-ghost use Prim.Native.Nat.{ℕ, _/_, _<_};
-ghost use lib.ListN.{length};
+ghost use Prim.Native.Nat.{ℕ, _<_};
 ghost use lib.Ieee.{Float};
 ghost use Rattle.rules.specs.Edits.{present, insertion};
+ghost use Rattle.rules.specs.Calls.{slotsOf};
 ghost use Rattle.tree_build.specs.Build.{particles};
 ghost use Rattle.edits_made.specs.Editing.{Now, Room, Changed};
 use crate::refuse::refused;
-use tree_placing::Inserted;
 use tree_build::build::Built;
 use tree_build::build::add_next;
+use tree_placing::Inserted;
 use tree_slots::Quadtree;
 
 // Edit k inserts the point whose number is `made`.
@@ -23,9 +23,10 @@ pub fn insert_next(
     made: usize,
     k: usize,
 ) -> Built
-    requires { ⌜ ((is : List ℕ) × Now (now at) (present made is) (now there) (now m) (now next) (now tail) q × Room (now at) (now there) (now next) (now tail) × (made < particles (now at))) ⌝ }
+    requires { ⌜ ((is : List ℕ) × Now (now at) (present made is) (now there) (now m) (now next) (now tail) q
+        × Room (now at) (now there) (now next) (now tail) × (made < particles (now at))) ⌝ }
     ensures { λ r. ⌜ ((is : List ℕ) (x y : Float) → Now (now (at .entry)) (present made is) (now (there .entry)) (now (m .entry)) (now (next .entry)) (now (tail .entry)) q
-        → Changed (now (at .entry)) (length (now (m .entry)) / 8) k (present made is) (insertion x y) (now (there .exit)) (now (m .exit)) (now (next .exit)) (now (tail .exit)) r) ⌝ }
+        → Changed (now (at .entry)) (slotsOf (now (m .entry))) k (present made is) (insertion x y) (now (there .exit)) (now (m .exit)) (now (next .exit)) (now (tail .exit)) r) ⌝ }
 {
     let answer = add_next(at, next, tail, m, q, made);
     match answer {

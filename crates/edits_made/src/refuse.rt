@@ -2,14 +2,11 @@
 ghost use mathlib.Core.Path.{_≡_};
 ghost use Rattle.rules.specs.Outcome.{refusal};
 ghost use Rattle.tree_build.specs.declared.build.Built.the-variants as Built;
-use tree_build::build::Built;
 use rules::Refusal;
+use tree_build::build::Built;
 
 pub fn refused(number: u64, k: usize) -> Built
     ensures { λ r. ⌜ r ≡ Built.Refused (refusal number k) ⌝ }
 {
-    Built::Refused(Refusal {
-        number: number,
-        place: k as u64,
-    })
+    Built::Refused(Refusal::at(number, k as u64))
 }

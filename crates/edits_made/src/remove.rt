@@ -1,8 +1,8 @@
 // A removal.
 ghost use mathlib.Core.List.{List};
-ghost use Prim.Native.Nat.{ℕ, _/_, _≤_};
-ghost use lib.ListN.{length};
+ghost use Prim.Native.Nat.{ℕ, _≤_};
 ghost use Rattle.rules.specs.Edits.{present, removal};
+ghost use Rattle.rules.specs.Calls.{slotsOf};
 ghost use Rattle.tree_build.specs.Build.{particles};
 ghost use Rattle.edits_made.specs.Editing.{Now, Room, Changed};
 use crate::refuse::refused;
@@ -22,9 +22,10 @@ pub fn remove_one(
     number: u64,
     k: usize,
 ) -> Built
-    requires { ⌜ ((is : List ℕ) × Now (now at) (present made is) (now there) (now m) (now next) (now tail) q × Room (now at) (now there) (now next) (now tail) × (made ≤ particles (now at))) ⌝ }
+    requires { ⌜ ((is : List ℕ) × Now (now at) (present made is) (now there) (now m) (now next) (now tail) q
+        × Room (now at) (now there) (now next) (now tail) × (made ≤ particles (now at))) ⌝ }
     ensures { λ r. ⌜ ((is : List ℕ) → Now (now (at .entry)) (present made is) (now (there .entry)) (now (m .entry)) (now (next .entry)) (now (tail .entry)) q
-        → Changed (now (at .entry)) (length (now (m .entry)) / 8) k (present made is) (removal number) (now (there .exit)) (now (m .exit)) (now (next .exit)) (now (tail .exit)) r) ⌝ }
+        → Changed (now (at .entry)) (slotsOf (now (m .entry))) k (present made is) (removal number) (now (there .exit)) (now (m .exit)) (now (next .exit)) (now (tail .exit)) r) ⌝ }
 {
     if number >= made as u64 {
         return refused(15, k);

@@ -1,5 +1,5 @@
 -- Words of edits: the edits that are left from one on, how many there are, and what the checks of the words say.
-use mathlib.Core.Path.{_≡_, refl, ap, _∙_}
+use mathlib.Core.Path.{_≡_, refl, sym, ap, _∙_}
 use mathlib.Core.Bool.{true, false≢true, and-eq-true-iff}
 use mathlib.Core.List.{List, [], _∷_}
 use Prim.Native.Nat.{ℕ, zero, suc, _+_, _*_, _/_, _≤_, _<_}
@@ -8,10 +8,11 @@ use lib.ListN.{length, getD, drop, length-drop}
 use Rattle.rules.specs.Plain.{all}
 use Rattle.rules.specs.Number.{within, placeRange, xAt, yAt}
 use Rattle.rules.specs.Outcome.{fine, require, _then_, checkFrom, checkEach}
-use Rattle.rules.specs.Refusal.{coordinateCheck}
-use Rattle.rules.specs.Edits.{Edit, insertion, removal, unknown, editOf, editsOf, pointsOf, insertions, pointCheck, known}
+use Rattle.rules.specs.Refusal.{placeCheck}
+use Rattle.rules.specs.Edits.{Edit, insertion, removal, unknown, editOf, editsOf, pointsOf, insertions, pointCheck, known, editWords}
+use Rattle.rules.proofs.OutcomeLaws.{place-both}
 use Rattle.rules.proofs.RefusalLaws.{Refuses, of-done, of-each, of-all, _then·_}
-use Rattle.rules.proofs.RefusalNumbers.{Early, five, coordinate-early}
+use Rattle.rules.proofs.RefusalNumbers.{Early, five, place-early}
 use Rattle.sheet.proofs.Checked.{all-ranged}
 use Rattle.sheet.proofs.Turns.{two-off}
 use Rattle.list_checks.proofs.Scans.{list-left}
@@ -19,34 +20,34 @@ use Rattle.list_checks.proofs.Checks.{bind-both, require-true}
 
 -- ---- what is left from edit k on
 
-three-off : (w : List ℕ) (k : ℕ) → k * 3 + 3 ≤ length w
-    → drop (k * 3) w ≡ getD w (k * 3) 0 ∷ getD w (k * 3 + 1) 0 ∷ getD w (k * 3 + 2) 0 ∷ drop ((k + 1) * 3) w
-three-off w k h = two-off w (k * 3) 0 (omega arith) ∙ rw (list-left w (k * 3 + 2) 0 (omega arith), e)
+three-off : (w : List ℕ) (k : ℕ) → k * editWords + editWords ≤ length w
+    → drop (k * editWords) w ≡ getD w (k * editWords) 0 ∷ getD w (k * editWords + 1) 0 ∷ getD w (k * editWords + 2) 0 ∷ drop ((k + 1) * editWords) w
+three-off w k h = two-off w (k * editWords) 0 (omega arith) ∙ rw (list-left w (k * editWords + 2) 0 (omega arith), e)
   where
-    e : k * 3 + 2 + 1 ≡ (k + 1) * 3
+    e : k * editWords + 2 + 1 ≡ (k + 1) * editWords
     e = omega arith
 
 -- edit k, by its three words
 abbrev pub editAt : List ℕ → ℕ → Edit
-editAt w k = editOf (getD w (k * 3) 0) (getD w (k * 3 + 1) 0) (getD w (k * 3 + 2) 0)
+editAt w k = editOf (getD w (k * editWords) 0) (getD w (k * editWords + 1) 0) (getD w (k * editWords + 2) 0)
 
-pub edits-next : (w : List ℕ) (k : ℕ) → k * 3 + 3 ≤ length w
-    → editsOf (drop (k * 3) w) ≡ editOf (getD w (k * 3) 0) (getD w (k * 3 + 1) 0) (getD w (k * 3 + 2) 0) ∷ editsOf (drop ((k + 1) * 3) w)
+pub edits-next : (w : List ℕ) (k : ℕ) → k * editWords + editWords ≤ length w
+    → editsOf (drop (k * editWords) w) ≡ editOf (getD w (k * editWords) 0) (getD w (k * editWords + 1) 0) (getD w (k * editWords + 2) 0) ∷ editsOf (drop ((k + 1) * editWords) w)
 edits-next w k h = ap editsOf (three-off w k h)
 
 -- a rest of one or two words is no edit
-too-few : (w : List ℕ) → length w < 3 → editsOf w ≡ []
+too-few : (w : List ℕ) → length w < editWords → editsOf w ≡ []
 too-few [] h = refl
 too-few (a ∷ []) h = refl
 too-few (a ∷ b ∷ []) h = refl
 too-few (a ∷ b ∷ c ∷ w) h = absurd (omega arith)
 
-pub edits-end : (w : List ℕ) (k : ℕ) → length w < k * 3 + 3 → editsOf (drop (k * 3) w) ≡ []
-edits-end w k h = too-few (drop (k * 3) w) (rw (length-drop (k * 3) w) (omega arith))
+pub edits-end : (w : List ℕ) (k : ℕ) → length w < k * editWords + editWords → editsOf (drop (k * editWords) w) ≡ []
+edits-end w k h = too-few (drop (k * editWords) w) (rw (length-drop (k * editWords) w) (omega arith))
 
 -- ---- how many there are
 
-pub edits-length : (w : List ℕ) → length (editsOf w) ≡ length w / 3
+pub edits-length : (w : List ℕ) → length (editsOf w) ≡ length w / editWords
 edits-length [] = refl
 edits-length (a ∷ []) = refl
 edits-length (a ∷ b ∷ []) = refl
@@ -70,8 +71,8 @@ insertions-few (unknown ∷ es) = omega (arith, insertions-few es)
 points-within : (k : ℕ) (es : List Edit) → checkFrom pointCheck k es ≡ fine → all within (pointsOf es) ≡ true
 points-within k [] h = refl
 points-within k (insertion x y ∷ es) h =
-    let b = bind-both (coordinateCheck k x y) (checkFrom pointCheck (k + 1) es) h in
-    let r = and-eq-true-iff (within x) (within y) .0 (require-true (placeRange x y) 4 k (b .0)) in
+    let b = bind-both (placeCheck k x y) (checkFrom pointCheck (k + 1) es) h in
+    let r = and-eq-true-iff (within x) (within y) .0 (require-true (placeRange x y) 4 k (sym (place-both k x y) ∙ b .0)) in
     rw (r .0, r .1) (points-within (k + 1) es (b .1))
 points-within k (removal i ∷ es) h = points-within (k + 1) es h
 points-within k (unknown ∷ es) h = points-within (k + 1) es h
@@ -86,24 +87,24 @@ known-kind zero x y h = omega arith
 known-kind (suc zero) x y h = omega arith
 known-kind (suc (suc k)) x y h = absurd (false≢true h)
 
-kinds-from : (i : ℕ) (w : List ℕ) → checkFrom (λ k e. require (known e) 5 k) i (editsOf w) ≡ fine → (k : ℕ) → k * 3 + 3 ≤ length w → getD w (k * 3) 0 < 2
+kinds-from : (i : ℕ) (w : List ℕ) → checkFrom (λ k e. require (known e) 5 k) i (editsOf w) ≡ fine → (k : ℕ) → k * editWords + editWords ≤ length w → getD w (k * editWords) 0 < 2
 kinds-from i [] h k l = absurd (omega arith)
 kinds-from i (a ∷ []) h k l = absurd (omega arith)
 kinds-from i (a ∷ b ∷ []) h k l = absurd (omega arith)
 kinds-from i (a ∷ b ∷ c ∷ w) h zero l =
     known-kind a b c (require-true (known (editOf a b c)) 5 i (bind-both (require (known (editOf a b c)) 5 i) (checkFrom (λ k e. require (known e) 5 k) (i + 1) (editsOf w)) h .0))
 kinds-from i (a ∷ b ∷ c ∷ w) h (suc k) l =
-    let e : suc k * 3 ≡ suc (suc (suc (k * 3))) = omega arith in
+    let e : suc k * editWords ≡ suc (suc (suc (k * editWords))) = omega arith in
     rw e (kinds-from (i + 1) w (bind-both (require (known (editOf a b c)) 5 i) (checkFrom (λ k e. require (known e) 5 k) (i + 1) (editsOf w)) h .1) k (omega arith))
 
 -- edits that pass are of a known kind
-pub kinds-known : (w : List ℕ) → checkEach (λ k e. require (known e) 5 k) (editsOf w) ≡ fine → (k : ℕ) → k * 3 + 3 ≤ length w → getD w (k * 3) 0 < 2
+pub kinds-known : (w : List ℕ) → checkEach (λ k e. require (known e) 5 k) (editsOf w) ≡ fine → (k : ℕ) → k * editWords + editWords ≤ length w → getD w (k * editWords) 0 < 2
 kinds-known w h = kinds-from 0 w h
 
 -- ---- the checks refuse by 4 and 5
 
 pub point-early : (k : ℕ) (e : Edit) → Refuses Early (pointCheck k e)
-point-early k (insertion x y) = coordinate-early k x y
+point-early k (insertion x y) = place-early k x y
 point-early k (removal i) = of-done
 point-early k unknown = of-done
 

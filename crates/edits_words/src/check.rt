@@ -1,9 +1,9 @@
 // What is wrong with the words: 4 at an insertion with a bad coordinate, then 5 at an unknown kind. The place is the number of the edit.
-use crate::EDIT_WORDS;
 use list_checks::first;
 use number::float_of;
+use rules::EDIT_WORDS;
 use rules::Refusal;
-use sheet::coordinate_check;
+use sheet::place_check;
 ghost use mathlib.Core.Path.{_≡_};
 ghost use Rattle.rules.specs.Outcome.{refusalOf, require, checkEach, _then_};
 ghost use Rattle.rules.specs.Edits.{editOf, editsOf, pointCheck, known};
@@ -13,12 +13,9 @@ fn point_check(k: u64, kind: u64, x: u64, y: u64) -> Refusal
     ensures { λ r. ⌜ r ≡ refusalOf (pointCheck k (editOf kind x y)) ⌝ }
 {
     if kind == 0 {
-        return coordinate_check(k, float_of(x), float_of(y));
+        return place_check(k, float_of(x), float_of(y));
     }
-    Refusal {
-        number: 0,
-        place: 0,
-    }
+    Refusal::none()
 }
 
 // 4 at the first insertion with a bad coordinate.
@@ -36,10 +33,7 @@ fn points_check(edits: &[u64]) -> Refusal
         }
         k = k + 1;
     }
-    Refusal {
-        number: 0,
-        place: 0,
-    }
+    Refusal::none()
 }
 
 // 5 at the first unknown kind.
@@ -50,22 +44,16 @@ fn kinds_check(edits: &[u64]) -> Refusal
     let mut k: usize = 0;
     while k < n {
         if edits[k * EDIT_WORDS] > 1 {
-            return Refusal {
-                number: 5,
-                place: k as u64,
-            };
+            return Refusal::at(5, k as u64);
         }
         k = k + 1;
     }
-    Refusal {
-        number: 0,
-        place: 0,
-    }
+    Refusal::none()
 }
 
 // All of 4 before any of 5.
 pub fn words_check(edits: &[u64]) -> Refusal
-    ensures { λ r. ⌜ r ≡ refusalOf (checkEach pointCheck (editsOf (now (edits .entry))) then checkEach (λ k e. require (known e) 5 k) (editsOf (now (edits .entry)))) ⌝ }
+    ensures { λ r. ⌜ (let es = editsOf (now (edits .entry)) in r ≡ refusalOf (checkEach pointCheck es then checkEach (λ k e. require (known e) 5 k) es)) ⌝ }
 {
     let points = points_check(edits);
     let kinds = kinds_check(edits);

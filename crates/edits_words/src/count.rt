@@ -1,5 +1,5 @@
 // How many insertions the words make. An edit is three words, the first its kind, and a rest of one or two words is none.
-use crate::EDIT_WORDS;
+use rules::EDIT_WORDS;
 ghost use mathlib.Core.Path.{_≡_};
 ghost use Rattle.rules.specs.Edits as Edits;
 

@@ -3,9 +3,6 @@ mod check;
 mod count;
 mod read;
 
-// How many words an edit takes.
-pub const EDIT_WORDS: usize = 3;
-
 pub use check::words_check;
 pub use count::insertions;
 pub use read::read_points;

@@ -1,6 +1,6 @@
 // The points of the insertions, x and y each, in order.
-use crate::EDIT_WORDS;
 use number::float_of;
+use rules::EDIT_WORDS;
 ghost use mathlib.Core.Path.{_≡_};
 ghost use Prim.Native.Nat.{_*_};
 ghost use lib.ListN.{length};

@@ -1,3 +1,3 @@
 pub mod Drawing
 pub mod Stages
-pub mod Standing
+pub mod RanCheck

@@ -13,37 +13,35 @@ use lib.Ieee.{Float}
 use Rattle.rules.specs.declared.Refusal.{Refusal}
 use Rattle.rules.specs.declared.Counts.{Counts}
 use Rattle.rules.specs.Plain.{overwritten, zeros}
-use Rattle.rules.specs.Number.{drawRange}
-use Rattle.rules.specs.Outcome.{Outcome, done, refused, Check, fine, _then_, _>>=_, refusalOf, zeroesWork}
-use Rattle.rules.specs.Refusal.{mostParticles, countCheck, lengthsCheck, resultCheck, drawsCheck, settingsCheck}
-use Rattle.rules.specs.Sheet.{wordOf, wordAt, pairsFrom, pairsBytes}
+use Rattle.rules.specs.Outcome.{Outcome, done, refused, Check, fine, _then_, _>>=_, onTheWay, zeroesWork}
+use Rattle.rules.specs.Refusal.{mostParticles, countCheck, lengthsCheck, resultCheck}
+use Rattle.rules.specs.Sheet.{wordOf, wordAt, pairSize, pairsFrom, pairsBytes}
 use Rattle.rules.specs.Walk.{Counted, counted}
 use Rattle.rules.specs.Flow.{Flow, flow}
-use Rattle.rules.specs.Force.{Push, pushCounts, pushLengths, pushEnds, pushRanges, run}
-use Rattle.rules.specs.Calls.{ForceInput, slotsOf, count, speeds, inputLengths, forceCheck, forceResult, forceAnswer, bufferAfter}
-use Rattle.rules.proofs.RefusalLaws.{Refuses, _then·_, of-all}
-use Rattle.rules.proofs.RefusalNumbers.{Early, five, count-early, lengths-early, settings-early, counts-early, ends-early, ranges-early}
+use Rattle.rules.specs.ManyBody.{standard}
+use Rattle.rules.specs.Force.{Push, pushCounts, pushLengths, pushEnds, run}
+use Rattle.rules.specs.Calls.{ForceInput, slotsOf, count, speeds, inputLengths, forceCheck, forceResult, forceAnswer, bufferAfter, lentCheck, numbersCheck}
+use Rattle.rules.proofs.RefusalNumbers.{Early}
 use Rattle.sheet.specs.Columns.{putPairs}
 use Rattle.sheet.proofs.Columns.{put-beside}
 use Rattle.force.specs.declared.Ran.{Ran}
-use Rattle.force.specs.Ran.{standing, ranOf}
-use Rattle.list_checks.specs.Checks.{coordinatesCheck, velocitiesCheck}
-use Rattle.force_call.specs.Calls.{lent, noCounts, countsAfter, Settled, Answered, lentCheck, numbersCheck}
-use Rattle.force.proofs.Standing.{late-clears}
+use Rattle.force.specs.Ran.{flowAt, ranCheck, ranOf}
+use Rattle.force_call.specs.Calls.{lent, noCounts, countsAfter, Settled, AfterForce}
+use Rattle.force.proofs.RanCheck.{late-met}
 use Rattle.list_checks.proofs.Checks.{then-both, require-true}
-use Rattle.list_checks.proofs.Scans.{early-keeps, points-early}
+use Rattle.list_checks.proofs.Scans.{early-stays}
 
 -- ---- lengths
 
 module _ (n m k start : ℕ) where
-  pub uneven : (n ≡ k * 2 → ⊥) → false ≡ eqb n (k * 2) && leb (start + k * 16) m
+  pub uneven : (n ≡ k * 2 → ⊥) → false ≡ eqb n (k * 2) && leb (start + k * pairSize) m
   uneven h = rw (ne-eqb n (k * 2) h)
 
-  pub reaches-past : n ≡ k * 2 → m < start + k * 16 → false ≡ eqb n (k * 2) && leb (start + k * 16) m
-  reaches-past e h = rw (eq-eqb n (k * 2) e, lt-leb (start + k * 16) m h)
+  pub reaches-past : n ≡ k * 2 → m < start + k * pairSize → false ≡ eqb n (k * 2) && leb (start + k * pairSize) m
+  reaches-past e h = rw (eq-eqb n (k * 2) e, lt-leb (start + k * pairSize) m h)
 
-  pub agrees : n ≡ k * 2 → start + k * 16 ≤ m → true ≡ eqb n (k * 2) && leb (start + k * 16) m
-  agrees e h = rw (eq-eqb n (k * 2) e, le-leb (start + k * 16) m h)
+  pub agrees : n ≡ k * 2 → start + k * pairSize ≤ m → true ≡ eqb n (k * 2) && leb (start + k * pairSize) m
+  agrees e h = rw (eq-eqb n (k * 2) e, le-leb (start + k * pairSize) m h)
 
 -- ---- a force that has run
 
@@ -51,7 +49,7 @@ module _ (c : Check) (ran : Ran) (vs : List Float) (part work : List ℕ) (r : C
   pub settled-refused : (q : Refusal) → c ≡ refused q → r ≡ noCounts q → part' ≡ part → Settled c ran vs part work r part' work'
   settled-refused q e er ep = record { answer = er ∙ rw e; bytes = ep ∙ rw e; slots = cleared }
 
-  pub settled-done : c ≡ fine → r ≡ countsAfter fine (ran .visits) (ran .used) → part' ≡ putPairs 16 part 0 vs → length vs % 2 ≡ 0
+  pub settled-done : c ≡ fine → r ≡ countsAfter fine (ran .progress) → part' ≡ putPairs pairSize part 0 vs → length vs % 2 ≡ 0
       → length part ≡ length vs * 8 → Settled c ran vs part work r part' work'
   settled-done e er ep even long =
       record {
@@ -70,83 +68,78 @@ settled-slots e s = record { answer = s .answer; bytes = s .bytes; slots = s .sl
 -- what is left once 1 to 5 are past: f runs on the velocities vs, and 9 is tested
 abbrev rest : ForceInput → Push → Float → List Float → Outcome (Counted Flow)
 rest l f alpha vs =
-    run f (l .places) alpha (slotsOf (l .work)) (counted (flow vs (l .draws)) 0) >>= λ m. resultCheck (l .places) (m .state .speeds) >>= λ _. done m
+    run standard f (l .places) alpha (slotsOf (l .work)) (counted (flow vs (l .draws)) 0) >>= λ m. resultCheck (l .places) (m .state .speeds) >>= λ _. done m
 
 -- the outcome, given what 1, 2 and 3 say
-abbrev after : ForceInput → Push → Float → List Float → Check → Outcome (Counted Flow)
-after l f alpha settings c =
-    c
-    then (coordinatesCheck (count l) (l .places) then velocitiesCheck (count l) (speeds l))
-    then pushRanges f
-    then drawsCheck (l .draws)
-    then settingsCheck settings >>= λ _. rest l f alpha (speeds l)
+abbrev after : ForceInput → Push → Float → Check → Outcome (Counted Flow)
+after l f alpha c = c then numbersCheck (l .places) (speeds l) f (l .draws) alpha >>= λ _. rest l f alpha (speeds l)
 
-module _ (l : ForceInput) (f : Push) (w : Bool) (alpha : Float) (settings : List Float) where
-  result-is : forceResult l f w alpha settings ≡ after l f alpha settings (lentCheck l f w)
+module _ (l : ForceInput) (f : Push) (w : Bool) (alpha : Float) where
+  result-is : forceResult l f w alpha ≡ after l f alpha (lentCheck l f w)
   unfolding forceResult forceCheck
   result-is = refl
 
   -- 1, 2 or 3
-  pub result-lent : (q : Refusal) → lentCheck l f w ≡ refused q → forceResult l f w alpha settings ≡ refused q
-  result-lent q e = result-is ∙ ap (after l f alpha settings) e
+  pub result-lent : (q : Refusal) → lentCheck l f w ≡ refused q → forceResult l f w alpha ≡ refused q
+  result-lent q e = result-is ∙ ap (after l f alpha) e
 
   module _ (e : lentCheck l f w ≡ fine) (vs : List Float) (is : vs ≡ speeds l) where
-    past-lent : forceResult l f w alpha settings ≡ numbersCheck (l .places) vs f (l .draws) settings >>= λ _. rest l f alpha vs
+    past-lent : forceResult l f w alpha ≡ numbersCheck (l .places) vs f (l .draws) alpha >>= λ _. rest l f alpha vs
     past-lent =
         result-is
-        ∙ ap (after l f alpha settings) e
-        ∙ ap (λ (v : List Float). numbersCheck (l .places) v f (l .draws) settings >>= λ _. rest l f alpha v) (sym is)
+        ∙ ap (after l f alpha) e
+        ∙ ap (λ (v : List Float). numbersCheck (l .places) v f (l .draws) alpha >>= λ _. rest l f alpha v) (sym is)
 
     -- 4 or 5
-    pub result-numbers : (q : Refusal) → numbersCheck (l .places) vs f (l .draws) settings ≡ refused q → forceResult l f w alpha settings ≡ refused q
+    pub result-numbers : (q : Refusal) → numbersCheck (l .places) vs f (l .draws) alpha ≡ refused q → forceResult l f w alpha ≡ refused q
     result-numbers q h = past-lent ∙ ap (λ (c : Check). c >>= λ _. rest l f alpha vs) h
 
     -- none of them: the force ran, and left the velocities vs'
-    pub result-ran : numbersCheck (l .places) vs f (l .draws) settings ≡ fine → (vs' : List Float) (ran : Ran)
-        → ranOf vs' (l .draws) ran ≡ run f (l .places) alpha (slotsOf (l .work)) (counted (flow vs (l .draws)) 0)
-        → forceResult l f w alpha settings
-        ≡ (standing ran then resultCheck (l .places) vs') >>= λ _. done (counted (flow vs' (drop (ran .used) (l .draws))) (ran .visits))
+    pub result-ran : numbersCheck (l .places) vs f (l .draws) alpha ≡ fine → (vs' : List Float) (ran : Ran)
+        → ranOf vs' (l .draws) ran ≡ run standard f (l .places) alpha (slotsOf (l .work)) (counted (flow vs (l .draws)) 0)
+        → forceResult l f w alpha
+        ≡ (ranCheck ran then resultCheck (l .places) vs') >>= λ _. done (flowAt vs' (l .draws) (ran .progress))
     unfolding ranOf
     result-ran h vs' ran r =
         past-lent
         ∙ ap (λ (c : Check). c >>= λ _. rest l f alpha vs) h
         ∙ ap (λ (o : Outcome (Counted Flow)). o >>= λ m. resultCheck (l .places) (m .state .speeds) >>= λ _. done m) (sym r)
-        ∙ go (standing ran)
+        ∙ go (ranCheck ran)
       where
         go : (c : Check)
-            → (c >>= λ _. done (counted (flow vs' (drop (ran .used) (l .draws))) (ran .visits))) >>= (λ m. resultCheck (l .places) (m .state .speeds) >>= λ _. done m)
-            ≡ (c then resultCheck (l .places) vs') >>= λ _. done (counted (flow vs' (drop (ran .used) (l .draws))) (ran .visits))
+            → (c >>= λ _. done (flowAt vs' (l .draws) (ran .progress))) >>= (λ m. resultCheck (l .places) (m .state .speeds) >>= λ _. done m)
+            ≡ (c then resultCheck (l .places) vs') >>= λ _. done (flowAt vs' (l .draws) (ran .progress))
         go (done t) = refl
         go (refused q) = refl
 
 -- ---- answers
 
 pub answered-refused : (l : ForceInput) (o : Outcome (Counted Flow)) (q : Refusal) (r : Counts) → o ≡ refused q → Early q → r ≡ noCounts q
-    → Answered l o r (l .buffer) (l .work)
+    → AfterForce l o r (l .buffer) (l .work)
 unfolding forceAnswer bufferAfter
-answered-refused l o q r e h er = record { answer = er ∙ rw e; bytes = rw e; slots = rw (e, early-keeps q h) }
+answered-refused l o q r e h er = record { answer = er ∙ rw e; bytes = rw e; slots = rw (e, early-stays q h) }
 
 module _ (l : ForceInput) (o : Outcome (Counted Flow)) (ran : Ran) (vs : List Float) (r : Counts) (part' work' : List ℕ) where
-  answered-by : (m : Counted Flow) (c : Check) → o ≡ c >>= (λ _. done m) → zeroesWork (refusalOf c) ≡ true
-      → m .visits ≡ ran .visits → m .state .speeds ≡ vs → length (l .draws) - length (m .state .draws) ≡ ran .used → l .start ≡ 0
-      → Settled c ran vs (l .buffer) (l .work) r part' work' → Answered l o r part' work'
+  answered-by : (m : Counted Flow) (c : Check) → o ≡ c >>= (λ _. done m) → ((q : Refusal) → c ≡ refused q → onTheWay q ≡ true)
+      → m .visits ≡ ran .progress .visits → m .state .speeds ≡ vs → length (l .draws) - length (m .state .draws) ≡ ran .progress .used → l .start ≡ 0
+      → Settled c ran vs (l .buffer) (l .work) r part' work' → AfterForce l o r part' work'
   unfolding forceAnswer bufferAfter
   answered-by m (done t) e z ev es ed e0 s =
       record {
         answer = s .answer ∙ rw (e, ← ev, ← ed);
         bytes = s .bytes ∙ rw (e, ← es, e0);
-        slots = s .slots ∙ rw (e, z);
+        slots = s .slots ∙ rw e;
       }
-  answered-by m (refused q) e z ev es ed e0 s = record { answer = s .answer ∙ rw e; bytes = s .bytes ∙ rw e; slots = s .slots ∙ rw (e, z) }
+  answered-by m (refused q) e z ev es ed e0 s = record { answer = s .answer ∙ rw e; bytes = s .bytes ∙ rw e; slots = s .slots ∙ rw (e, z q refl) }
 
   -- the force ran as `ran` says, and was settled
-  pub answered-ran : o ≡ (standing ran then resultCheck (l .places) vs) >>= (λ _. done (counted (flow vs (drop (ran .used) (l .draws))) (ran .visits)))
-      → ran .used ≤ length (l .draws) → zeroesWork (ran .refusal) ≡ true → l .start ≡ 0
-      → Settled (standing ran then resultCheck (l .places) vs) ran vs (l .buffer) (l .work) r part' work'
-      → Answered l o r part' work'
+  pub answered-ran : o ≡ (ranCheck ran then resultCheck (l .places) vs) >>= (λ _. done (flowAt vs (l .draws) (ran .progress)))
+      → ran .progress .used ≤ length (l .draws) → zeroesWork (ran .refusal) ≡ true → l .start ≡ 0
+      → Settled (ranCheck ran then resultCheck (l .places) vs) ran vs (l .buffer) (l .work) r part' work'
+      → AfterForce l o r part' work'
   answered-ran e h z e0 s =
-      answered-by (counted (flow vs (drop (ran .used) (l .draws))) (ran .visits)) (standing ran then resultCheck (l .places) vs) e
-      (late-clears ran (l .places) vs z) refl refl (simp length-drop (omega arith)) e0 s
+      answered-by (flowAt vs (l .draws) (ran .progress)) (ranCheck ran then resultCheck (l .places) vs) e
+      (late-met ran (l .places) vs z) refl refl (simp length-drop (omega arith)) e0 s
 
 -- ---- a part of the buffer
 
@@ -173,18 +166,18 @@ module _ (s : List ℕ) (at m : ℕ) (h : at + m ≤ length s) where
       ∙ ap wordOf (take-append-le 8 (drop j (take m (drop at s))) (drop m (drop at s)) (simp length-drop (omega (arith, part-length)))))
 
   -- the pairs of a part are those that stand there
-  pairs-from : (k j : ℕ) → j + k * 16 ≤ m → pairsFrom 16 (take m (drop at s)) j k ≡ pairsFrom 16 s (at + j) k
+  pairs-from : (k j : ℕ) → j + k * pairSize ≤ m → pairsFrom pairSize (take m (drop at s)) j k ≡ pairsFrom pairSize s (at + j) k
   pairs-from zero j hj = refl
   pairs-from (suc k) j hj =
       rw (
         word-part j (omega arith),
         word-part (j + 8) (omega arith),
-        pairs-from k (j + 16) (omega arith),
+        pairs-from k (j + pairSize) (omega arith),
         add-assoc at j 8,
-        add-assoc at j 16,
+        add-assoc at j pairSize,
       )
 
-  pub pairs-part : (k : ℕ) → k * 16 ≤ m → pairsFrom 16 (take m (drop at s)) 0 k ≡ pairsFrom 16 s at k
+  pub pairs-part : (k : ℕ) → k * pairSize ≤ m → pairsFrom pairSize (take m (drop at s)) 0 k ≡ pairsFrom pairSize s at k
   pairs-part k hk = pairs-from k 0 (omega arith) ∙ rw add-zero
 
   -- bytes written over a part, put back into the whole
@@ -203,10 +196,10 @@ module _ (s : List ℕ) (at m : ℕ) (h : at + m ≤ length s) where
 
 -- everything that they say
 pub record Lent (l : ForceInput) (f : Push) (w : Bool) : Type 0 where
-  pub few : count l ≤ 4096
+  pub few : count l ≤ mostParticles
   pub counts : pushCounts f ≡ fine
   pub pairs : length (l .places) ≡ count l * 2
-  pub reach : l .start + count l * 16 ≤ length (l .buffer)
+  pub reach : l .start + count l * pairSize ≤ length (l .buffer)
   pub whole : w ≡ true
   pub lengths : pushLengths (count l) f ≡ true
   pub ends : pushEnds (count l) f ≡ fine
@@ -218,12 +211,12 @@ lent-all l f w h =
     let c = then-both (countCheck mostParticles (count l)) (pushCounts f) (b .0) in
     let d = and-eq-true-iff (inputLengths l && w) (pushLengths (count l) f) .0 (require-true _ 2 0 (b .1)) in
     let e = and-eq-true-iff (inputLengths l) w .0 (d .0) in
-    let i = and-eq-true-iff (eqb (length (l .places)) (count l * 2)) (leb (l .start + count l * 16) (length (l .buffer))) .0 (e .0) in
+    let i = and-eq-true-iff (eqb (length (l .places)) (count l * 2)) (leb (l .start + count l * pairSize) (length (l .buffer))) .0 (e .0) in
     record {
-      few = leb-true (count l) 4096 (require-true _ 1 0 (c .0));
+      few = leb-true (count l) mostParticles (require-true _ 1 0 (c .0));
       counts = c .1;
       pairs = eqb-true (length (l .places)) (count l * 2) (i .0);
-      reach = leb-true (l .start + count l * 16) (length (l .buffer)) (i .1);
+      reach = leb-true (l .start + count l * pairSize) (length (l .buffer)) (i .1);
       whole = e .1;
       lengths = d .1;
       ends = a .1;
@@ -232,7 +225,7 @@ lent-all l f w h =
 -- ---- the same call on the part of the buffer alone
 
 -- k is how many bytes the part has
-module _ (places : List Float) (buffer : List ℕ) (start : ℕ) (draws : List Float) (work : List ℕ) (f : Push) (w : Bool) (k : ℕ) (ek : k ≡ length places / 2 * 16) where
+module _ (places : List Float) (buffer : List ℕ) (start : ℕ) (draws : List Float) (work : List ℕ) (f : Push) (w : Bool) (k : ℕ) (ek : k ≡ length places / 2 * pairSize) where
   abbrev whole : ForceInput
   whole = lent places buffer start draws work
 
@@ -258,14 +251,14 @@ module _ (places : List Float) (buffer : List ℕ) (start : ℕ) (draws : List F
         ∙ e
 
     -- it ends the same
-    pub result-part : (alpha : Float) (settings : List Float) → forceResult whole f w alpha settings ≡ forceResult part f w alpha settings
-    result-part alpha settings =
-        past-lent whole f w alpha settings e (speeds part) (pairs-part buffer start k room (length places / 2) (omega arith))
-        ∙ sym (past-lent part f w alpha settings lent-part (speeds part) refl)
+    pub result-part : (alpha : Float) → forceResult whole f w alpha ≡ forceResult part f w alpha
+    result-part alpha =
+        past-lent whole f w alpha e (speeds part) (pairs-part buffer start k room (length places / 2) (omega arith))
+        ∙ sym (past-lent part f w alpha lent-part (speeds part) refl)
 
     -- what it leaves, seen in the whole
-    pub answered-part : (o o' : Outcome (Counted Flow)) (r : Counts) (part' work' : List ℕ) → o ≡ o' → length part' ≡ k → Answered part o' r part' work'
-        → Answered whole o r (take start buffer ++ (part' ++ drop k (drop start buffer))) work'
+    pub answered-part : (o o' : Outcome (Counted Flow)) (r : Counts) (part' work' : List ℕ) → o ≡ o' → length part' ≡ k → AfterForce part o' r part' work'
+        → AfterForce whole o r (take start buffer ++ (part' ++ drop k (drop start buffer))) work'
     unfolding forceAnswer bufferAfter
     answered-part o (done m) r part' work' eo long a =
         record {
@@ -275,19 +268,3 @@ module _ (places : List Float) (buffer : List ℕ) (start : ℕ) (draws : List F
         }
     answered-part o (refused q) r part' work' eo long a =
         record { answer = a .answer ∙ rw eo; bytes = rw (eo, a .bytes) (part-kept buffer start k room); slots = a .slots ∙ rw eo }
-
--- ---- what the checks refuse by
-
-pub lent-early : (l : ForceInput) (f : Push) (w : Bool) → Refuses Early (lentCheck l f w)
-lent-early l f w =
-    count-early mostParticles (count l)
-    then· counts-early f
-    then· lengths-early (inputLengths l && w && pushLengths (count l) f)
-    then· ends-early (count l) f
-
-pub numbers-early : (places vs : List Float) (f : Push) (draws settings : List Float) → Refuses Early (numbersCheck places vs f draws settings)
-numbers-early places vs f draws settings =
-    points-early (length places / 2) (length places / 2) places vs
-    then· ranges-early f
-    then· of-all drawRange 5 five draws
-    then· settings-early settings

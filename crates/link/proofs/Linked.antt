@@ -2,14 +2,11 @@
 use mathlib.Core.Path.{_≡_, refl, sym, ap, _∙_}
 use mathlib.Core.Bool.{true, false}
 use mathlib.Core.List.{List, [], _∷_}
-use Prim.Native.Nat.{ℕ, _+_, _-_, _*_, _/_, _≤_, _<_}
-use native.Mathlib.Nat.{sub-zero}
-use native.Mathlib.Omega.{arith}
+use Prim.Native.Nat.{ℕ, _+_, _*_, _/_, _≤_, _<_}
 use borrow.Author.Tests.{eq-eqb, ne-eqb}
 use lib.ListN.{length, getD, drop}
 use lib.Ieee.{Float, nan}
-use Rattle.rules.specs.Outcome.{Outcome, done, refused, refusal, _>>=_, foldStages}
-use Rattle.rules.specs.Plain.{countFrom, upTo}
+use Rattle.rules.specs.Outcome.{Outcome, done, refused, refusal, _>>=_}
 use Rattle.rules.specs.Number.{_⊕_, _⊖_, _⊗_, _⊘_, 1·, float}
 use Rattle.rules.specs.Root.{root}
 use Rattle.rules.specs.Flow.{Flow, flow, pushed, gap, length², shaken}
@@ -20,7 +17,7 @@ use Rattle.force.specs.declared.draws.Spent.{Spent}
 use Rattle.force.specs.Draws.{shakenOf, spentOf}
 use Rattle.link_tally.specs.Tally.{strengthOr}
 use Rattle.list_checks.specs.Checks.{endsAt}
-use Rattle.list_checks.proofs.Scans.{endsLeft, ends-first, ends-left, ends-none, count-left}
+use Rattle.list_checks.proofs.Scans.{endsLeft, ends-first, ends-left, ends-none}
 
 -- ---- strengths
 
@@ -31,7 +28,7 @@ strength-is es (s ∷ ss) k e = refl
 
 -- ---- both ends pulled
 
-module _ (at : List Float) (es : List Ends) (ss ds : List Float) (alpha : Float) (k : ℕ) (e : Ends) where
+module _ (es : List Ends) (ss ds : List Float) (alpha : Float) (k : ℕ) (e : Ends) where
   -- the velocities vs' are what the code makes of vs: s and t are the ends, f and u their counts
   pub tied-is : (x y : Float) (vs vs' : List Float) (s t f u : ℕ) (strength l b : Float)
       → s ≡ e .source → t ≡ e .target → f ≡ countEnds es (e .source) → u ≡ countEnds es (e .target)
@@ -39,10 +36,11 @@ module _ (at : List Float) (es : List Ends) (ss ds : List Float) (alpha : Float)
       → l ≡ (root (length² (gap x y)) ⊖ getD ds k nan) ⊘ root (length² (gap x y)) ⊗ alpha ⊗ strength
       → b ≡ float f ⊘ float (f + u)
       → vs' ≡ pushed _⊕_ (pushed _⊖_ vs t (x ⊗ l ⊗ b) (y ⊗ l ⊗ b)) s (x ⊗ l ⊗ (1· ⊖ b)) (y ⊗ l ⊗ (1· ⊖ b))
-      → vs' ≡ tied at es ss ds alpha k e (gap x y) vs
+      → vs' ≡ tied es ss ds alpha k e (gap x y) vs
   unfolding tied bias
   tied-is x y vs vs' s t f u strength l b es' et ef eu eq el eb h = h ∙ cc (strength-is es ss k e)
 
+module _ (at : List Float) (es : List Ends) (ss ds : List Float) (alpha : Float) (k : ℕ) (e : Ends) where
   -- ---- one link
 
   pub pull-self : (σ : Flow) → e .source ≡ e .target → done σ ≡ pull at es ss ds alpha k e σ
@@ -65,11 +63,10 @@ module _ (at : List Float) (es : List Ends) (ss ds : List Float) (alpha : Float)
     unfolding pull shakenOf
     pull-dry h = rw (ne-eqb _ _ apart, ← gap-is, h)
 
-    -- the places at' are no part of what is tied
-    pub pull-tied : g .dry ≡ false → (at' vs' : List Float) → vs' ≡ tied at' es ss ds alpha k e (gap (g .x) (g .y)) vs
+    pub pull-tied : g .dry ≡ false → (vs' : List Float) → vs' ≡ tied es ss ds alpha k e (gap (g .x) (g .y)) vs
         → done (flow vs' (drop (g .used) draws)) ≡ pull at es ss ds alpha k e (flow vs (drop used draws))
     unfolding pull shakenOf tied
-    pull-tied h at' vs' e' = rw (ne-eqb _ _ apart, ← gap-is, h, e')
+    pull-tied h vs' e' = rw (ne-eqb _ _ apart, ← gap-is, h, e')
 
 -- ---- all links
 
@@ -107,28 +104,3 @@ module _ (at : List Float) (links : List ℕ) (ss ds : List Float) (alpha : Floa
   pub all-end : (k : ℕ) (σ : Flow) → length links / 2 ≤ k → done σ ≡ pullLeft k σ
   unfolding pullFrom
   all-end k σ h = rw (ends-none links k h)
-
--- ---- all iterations, of a stage that gives spentOf
-
-module _ (f : Flow → Outcome Flow) where
-  abbrev pub stagesLeft : ℕ → ℕ → Flow → Outcome Flow
-  stagesLeft n i σ = foldStages (λ σ _. f σ) σ (countFrom i (n - i))
-
-  pub stages-first : (n : ℕ) (σ : Flow) → foldStages (λ σ _. f σ) σ (upTo n) ≡ stagesLeft n 0 σ
-  stages-first n σ = rw sub-zero
-
-  stage-next : (n i : ℕ) (σ : Flow) → i < n → stagesLeft n i σ ≡ f σ >>= λ σ. stagesLeft n (i + 1) σ
-  stage-next n i σ h = rw (count-left n i h)
-
-  module _ (n i : ℕ) (h : i < n) (σ : Flow) (vs draws : List Float) (r : Spent) (is : spentOf vs draws r ≡ f σ) where
-    pub stage-dry : r .dry ≡ true → refused (refusal 8 0) ≡ stagesLeft n i σ
-    stage-dry d = sym (stage-next n i σ h ∙ rw (← is, spent-dry vs draws r d))
-
-    pub stage-on : r .dry ≡ false → stagesLeft n i σ ≡ stagesLeft n (i + 1) (flow vs (drop (r .used) draws))
-    stage-on d = stage-next n i σ h ∙ rw (← is, spent-on vs draws r d)
-
-  pub stages-end : (n i : ℕ) (σ : Flow) → n ≤ i → done σ ≡ stagesLeft n i σ
-  stages-end n i σ h = rw e
-    where
-      e : n - i ≡ 0
-      e = omega arith

@@ -12,6 +12,7 @@ use lib.ListN.{length, getD, take, replicate, length-set, length-map}
 use lib.Seq.{getD-set-same, getD-set-other, ext-getD}
 use lib.Ieee.{Float}
 use Rattle.rules.specs.Plain.{countFrom, upTo}
+use Rattle.rules.specs.Refusal.{mostLinks}
 use Rattle.rules.specs.Link.{Ends, ends, countEnds}
 use Rattle.rules.specs.Force.{endsFrom, endsOf}
 use Rattle.rules.proofs.CellCount.{length-upTo}
@@ -102,7 +103,7 @@ module _ {n : ℕ} {links : List ℕ} (lent : EndsLent n links) (k : ℕ) (h : k
   long : length cs ≡ n
   long = ap length is ∙ tally-length n (endsFrom links k)
 
-  small : (j : ℕ) → j < n → getD cs j 0 ≤ 16384
+  small : (j : ℕ) → j < n → getD cs j 0 ≤ 2 * mostLinks
   small j hj =
       omega (
         arith,
@@ -144,7 +145,7 @@ module _ {vs : List Float} {links cs : List ℕ} (r : Ready vs links cs) where
   pub ready-count : (j : ℕ) → j < length cs → getD cs j 0 ≡ countEnds (endsOf links) j
   ready-count j h = ap (λ (l : List ℕ). getD l j 0) (r .tallied) ∙ tally-at (length cs) (endsOf links) j h
 
-  pub ready-small : (j : ℕ) → j < length cs → getD cs j 0 ≤ 16384
+  pub ready-small : (j : ℕ) → j < length cs → getD cs j 0 ≤ 2 * mostLinks
   ready-small j h =
       omega (arith, ready-count j h, count-most (endsOf links) j, ends-length links (length links / 2) (omega arith), r .lent .few)
 

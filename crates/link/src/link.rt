@@ -4,13 +4,13 @@ use force::Spent;
 use force::push_back;
 use force::push_on;
 use force::shaken;
-use number::wide;
-use rules::Refusal;
-use tree_slots::Quadtree;
-use square_root::root;
 use link_tally::bias;
 use link_tally::count_link;
 use link_tally::strength_at;
+use number::wide;
+use rules::MOST_PARTICLES;
+use rules::Progress;
+use square_root::root;
 ghost use mathlib.Core.Path.{_≡_};
 ghost use mathlib.Core.List.{[]};
 ghost use Prim.Native.Nat.{_+_, _*_, _/_, _%_, _≤_, _<_};
@@ -23,8 +23,8 @@ ghost use Rattle.rules.specs.Flow.{flow, gap, length², pushed};
 ghost use Rattle.rules.specs.Link as Link;
 ghost use Rattle.rules.specs.Force.{endsOf};
 ghost use Rattle.force.specs.Draws.{spentOf, From};
-ghost use Rattle.force.specs.Ran.{Runs, visited};
-ghost use Rattle.link.specs.Links.{EndsLent, ListsLent, Ready, tallies};
+ghost use Rattle.force.specs.Ran.{flowAt, RanAs};
+ghost use Rattle.link.specs.Links.{EndsLent, NumbersLent, Ready, tallies, pullAt, pullEach, linkOutcome};
 ghost use Rattle.list_checks.specs.Checks.{endsAt};
 
 // How many ends each particle has, from counts that are all zero.
@@ -79,8 +79,9 @@ fn tie(
     x: f64,
     y: f64,
 )
-    requires { ⌜ Ready (now vs) (now links) (now counts) × ListsLent (now links) (now strengths) (now distances) × (k < length (now links) / 2) ⌝ }
-    ensures { λ _. ⌜ now (vs .exit) ≡ Link.tied [] (endsOf (now (links .entry))) (now (strengths .entry)) (now (distances .entry)) alpha k (endsAt (now (links .entry)) k) (gap x y) (now (vs .entry)) ⌝ }
+    requires { ⌜ Ready (now vs) (now links) (now counts) × NumbersLent (now links) (now strengths) (now distances) × (k < length (now links) / 2) ⌝ }
+    ensures { λ _. ⌜ now (vs .exit)
+        ≡ Link.tied (endsOf (now (links .entry))) (now (strengths .entry)) (now (distances .entry)) alpha k (endsAt (now (links .entry)) k) (gap x y) (now (vs .entry)) ⌝ }
 {
     let i = k * 2;
     let source = wide(links[i]);
@@ -110,8 +111,10 @@ fn pull(
     draws: &[f64],
     used: usize,
 ) -> Spent
-    requires { ⌜ Ready (now vs) (now links) (now counts) × ListsLent (now links) (now strengths) (now distances) × (length (now at) ≡ length (now vs)) × (k < length (now links) / 2) × (used ≤ length (now draws)) ⌝ }
-    ensures is { λ r. ⌜ spentOf (now (vs .exit)) (now (draws .entry)) r ≡ Link.pull (now (at .entry)) (endsOf (now (links .entry))) (now (strengths .entry)) (now (distances .entry)) alpha k (endsAt (now (links .entry)) k) (flow (now (vs .entry)) (drop used (now (draws .entry)))) ⌝ }
+    requires { ⌜ Ready (now vs) (now links) (now counts) × NumbersLent (now links) (now strengths) (now distances)
+        × (length (now at) ≡ length (now vs)) × (k < length (now links) / 2) × (used ≤ length (now draws)) ⌝ }
+    ensures is { λ r. ⌜ spentOf (now (vs .exit)) (now (draws .entry)) r
+        ≡ pullAt (now (at .entry)) (now (links .entry)) (now (strengths .entry)) (now (distances .entry)) alpha k (flow (now (vs .entry)) (drop used (now (draws .entry)))) ⌝ }
     ensures from { λ r. ⌜ From (now (draws .entry)) used (r .used) ⌝ }
 {
     let i = k * 2;
@@ -144,8 +147,10 @@ fn pull_all(
     draws: &[f64],
     used: usize,
 ) -> Spent
-    requires { ⌜ Ready (now vs) (now links) (now counts) × ListsLent (now links) (now strengths) (now distances) × (length (now at) ≡ length (now vs)) × (used ≤ length (now draws)) ⌝ }
-    ensures is { λ r. ⌜ spentOf (now (vs .exit)) (now (draws .entry)) r ≡ Link.pullFrom (now (at .entry)) (endsOf (now (links .entry))) (now (strengths .entry)) (now (distances .entry)) alpha 0 (endsOf (now (links .entry))) (flow (now (vs .entry)) (drop used (now (draws .entry)))) ⌝ }
+    requires { ⌜ Ready (now vs) (now links) (now counts) × NumbersLent (now links) (now strengths) (now distances)
+        × (length (now at) ≡ length (now vs)) × (used ≤ length (now draws)) ⌝ }
+    ensures is { λ r. ⌜ spentOf (now (vs .exit)) (now (draws .entry)) r
+        ≡ pullEach (now (at .entry)) (now (links .entry)) (now (strengths .entry)) (now (distances .entry)) alpha (flow (now (vs .entry)) (drop used (now (draws .entry)))) ⌝ }
     ensures from { λ r. ⌜ From (now (draws .entry)) used (r .used) ⌝ }
 {
     let n = links.len() / 2;
@@ -189,16 +194,16 @@ fn iterate(
     strengths: &[f64],
     distances: &[f64],
     iterations: usize,
-    alpha: f64,
     draws: &[f64],
-    used: usize,
-    visits: u64,
+    p: Progress,
 ) -> Ran
-    requires { ⌜ EndsLent (length (now counts)) (now links) × ListsLent (now links) (now strengths) (now distances) × (now counts ≡ tallies (length (now counts)) []) × (length (now at) ≡ length (now counts) * 2) × (length (now vs) ≡ length (now counts) * 2) × (used ≤ length (now draws)) ⌝ }
-    ensures { λ r. ⌜ Runs (now (vs .exit)) (now (draws .entry)) used r (visited visits (Link.runLink (now (at .entry)) (endsOf (now (links .entry))) (now (strengths .entry)) (now (distances .entry)) iterations alpha (flow (now (vs .entry)) (drop used (now (draws .entry)))))) ⌝ }
+    requires { ⌜ EndsLent (length (now counts)) (now links) × NumbersLent (now links) (now strengths) (now distances) × (now counts ≡ tallies (length (now counts)) [])
+        × (length (now at) ≡ length (now counts) * 2) × (length (now vs) ≡ length (now counts) * 2) × (p .used ≤ length (now draws)) ⌝ }
+    ensures { λ r. ⌜ RanAs (now (vs .exit)) (now (draws .entry)) p r
+        (linkOutcome (now (at .entry)) (now (links .entry)) (now (strengths .entry)) (now (distances .entry)) iterations (p .alpha) (flowAt (now (vs .entry)) (now (draws .entry)) p)) ⌝ }
 {
     count_ends(links, counts);
-    let mut spent = used;
+    let mut reached = p;
     let mut i: usize = 0;
     while i < iterations {
         let s = pull_all(
@@ -208,32 +213,18 @@ fn iterate(
             counts,
             strengths,
             distances,
-            alpha,
+            p.alpha,
             draws,
-            spent,
+            reached.used,
         );
         let dry = s.dry;
-        spent = s.used;
+        reached.used = s.used;
         if dry {
-            return Ran {
-                refusal: Refusal {
-                    number: 8,
-                    place: 0,
-                },
-                used: spent,
-                visits,
-            };
+            return Ran::dry(reached);
         }
         i = i + 1;
     }
-    Ran {
-        refusal: Refusal {
-            number: 0,
-            place: 0,
-        },
-        used: spent,
-        visits,
-    }
+    Ran::done(reached)
 }
 
 // The force. No node is handed out: the visits stay as they were handed in.
@@ -244,16 +235,16 @@ pub fn link(
     strengths: &[f64],
     distances: &[f64],
     iterations: usize,
-    alpha: f64,
     draws: &[f64],
-    used: usize,
-    visits: u64,
+    p: Progress,
 ) -> Ran
-    requires { ⌜ EndsLent (length (now vs) / 2) (now links) × ListsLent (now links) (now strengths) (now distances) × (length (now at) ≡ length (now vs)) × (length (now vs) % 2 ≡ 0) × (length (now vs) ≤ 2 * mostParticles) × (used ≤ length (now draws)) ⌝ }
-    ensures { λ r. ⌜ Runs (now (vs .exit)) (now (draws .entry)) used r (visited visits (Link.runLink (now (at .entry)) (endsOf (now (links .entry))) (now (strengths .entry)) (now (distances .entry)) iterations alpha (flow (now (vs .entry)) (drop used (now (draws .entry)))))) ⌝ }
+    requires { ⌜ EndsLent (length (now vs) / 2) (now links) × NumbersLent (now links) (now strengths) (now distances) × (length (now at) ≡ length (now vs))
+        × (length (now vs) % 2 ≡ 0) × (length (now vs) ≤ 2 * mostParticles) × (p .used ≤ length (now draws)) ⌝ }
+    ensures { λ r. ⌜ RanAs (now (vs .exit)) (now (draws .entry)) p r
+        (linkOutcome (now (at .entry)) (now (links .entry)) (now (strengths .entry)) (now (distances .entry)) iterations (p .alpha) (flowAt (now (vs .entry)) (now (draws .entry)) p)) ⌝ }
 {
     let n = vs.len() / 2;
-    let mut counts = [0u32; Quadtree::MOST_PARTICLES];
+    let mut counts = [0u32; MOST_PARTICLES];
     iterate(
         at,
         vs,
@@ -262,9 +253,7 @@ pub fn link(
         strengths,
         distances,
         iterations,
-        alpha,
         draws,
-        used,
-        visits,
+        p,
     )
 }

@@ -3,8 +3,6 @@ use force_call::input_lengths;
 use force_call::refused;
 use force_call::settle;
 use link::link::link;
-use list_checks::MOST_ITERATIONS;
-use list_checks::MOST_LINKS;
 use list_checks::count_check;
 use list_checks::distances_check;
 use list_checks::draws_check;
@@ -15,19 +13,24 @@ use list_checks::points_check;
 use list_checks::setting_check;
 use list_checks::strengths_check;
 use rules::Counts;
+use rules::MOST_ITERATIONS;
+use rules::MOST_LINKS;
+use rules::MOST_PARTICLES;
+use rules::PAIR_SIZE;
+use rules::Progress;
 use rules::Refusal;
-use tree_slots::Quadtree;
 ghost use mathlib.Core.Path.{_≡_};
 ghost use mathlib.Core.Bool.{_&&_};
-ghost use mathlib.Core.List.{[], _∷_};
+ghost use mathlib.Core.List.{[]};
 ghost use Prim.Native.Nat.{_*_, _/_, _%_};
 ghost use lib.Dec.{eqb};
 ghost use lib.ListN.{length};
 ghost use Rattle.rules.specs.Outcome.{fine, refusalOf};
+ghost use Rattle.rules.specs.Sheet.{pairSize};
 ghost use Rattle.rules.specs.Force as Force;
 ghost use Rattle.rules.specs.Force.{endsOf, pushLengths};
-ghost use Rattle.rules.specs.Calls.{inputLengths, linkResult};
-ghost use Rattle.force_call.specs.Calls.{lent, lentCheck, numbersCheck, Answered};
+ghost use Rattle.rules.specs.Calls.{inputLengths, linkResult, lentCheck, numbersCheck};
+ghost use Rattle.force_call.specs.Calls.{lent, AfterForce};
 
 // Whole pairs of places and of ends, velocities within the buffer, a distance for each link, and a strength for each or none.
 fn lengths_agree(
@@ -38,7 +41,8 @@ fn lengths_agree(
     strengths: &[f64],
     distances: &[f64],
 ) -> bool
-    ensures { λ r. ⌜ r ≡ inputLengths (lent (now (places .entry)) (now (buffer .entry)) start [] []) && eqb (length (now (links .entry)) % 2) 0 && pushLengths (length (now (places .entry)) / 2) (Force.link (endsOf (now (links .entry))) (now (strengths .entry)) (now (distances .entry)) 0) ⌝ }
+    ensures { λ r. ⌜ r ≡ inputLengths (lent (now (places .entry)) (now (buffer .entry)) start [] []) && eqb (length (now (links .entry)) % 2) 0
+        && pushLengths (length (now (places .entry)) / 2) (Force.link (endsOf (now (links .entry))) (now (strengths .entry)) (now (distances .entry)) 0) ⌝ }
 {
     if !input_lengths(places, buffer, start) {
         return false;
@@ -66,10 +70,11 @@ fn lent_check(
     distances: &[f64],
     iterations: usize,
 ) -> Refusal
-    ensures { λ r. ⌜ r ≡ refusalOf (lentCheck (lent (now (places .entry)) (now (buffer .entry)) start [] []) (Force.link (endsOf (now (links .entry))) (now (strengths .entry)) (now (distances .entry)) iterations) (eqb (length (now (links .entry)) % 2) 0)) ⌝ }
+    ensures { λ r. ⌜ r ≡ refusalOf (lentCheck (lent (now (places .entry)) (now (buffer .entry)) start [] [])
+        (Force.link (endsOf (now (links .entry))) (now (strengths .entry)) (now (distances .entry)) iterations) (eqb (length (now (links .entry)) % 2) 0)) ⌝ }
 {
     let n = places.len() / 2;
-    let particles = count_check(Quadtree::MOST_PARTICLES, n);
+    let particles = count_check(MOST_PARTICLES, n);
     let counts = first(
         count_check(MOST_LINKS, links.len() / 2),
         count_check(MOST_ITERATIONS, iterations),
@@ -91,7 +96,8 @@ fn numbers_check(
     alpha: f64,
 ) -> Refusal
     requires { ⌜ length (now speeds) ≡ length (now places) ⌝ }
-    ensures { λ r. ⌜ r ≡ refusalOf (numbersCheck (now (places .entry)) (now (speeds .entry)) (Force.link [] (now (strengths .entry)) (now (distances .entry)) 0) (now (draws .entry)) (alpha ∷ [])) ⌝ }
+    ensures { λ r. ⌜ r ≡ refusalOf (numbersCheck (now (places .entry)) (now (speeds .entry))
+        (Force.link [] (now (strengths .entry)) (now (distances .entry)) 0) (now (draws .entry)) alpha) ⌝ }
 {
     let points = points_check(places, speeds);
     let lists = first(strengths_check(strengths), distances_check(distances));
@@ -114,15 +120,22 @@ fn on_part(
     draws: &[f64],
     work: &mut [u64],
 ) -> Counts
-    requires { ⌜ (lentCheck (lent (now places) (now part) 0 [] []) (Force.link (endsOf (now links)) (now strengths) (now distances) iterations) (eqb (length (now links) % 2) 0) ≡ fine) × (length (now part) ≡ length (now places) / 2 * 16) × (length (now speeds) ≡ length (now places)) ⌝ }
-    ensures { λ r. ⌜ Answered (lent (now (places .entry)) (now (part .entry)) 0 (now (draws .entry)) (now (work .entry))) (linkResult (lent (now (places .entry)) (now (part .entry)) 0 (now (draws .entry)) (now (work .entry))) (now (links .entry)) (now (strengths .entry)) (now (distances .entry)) iterations alpha) r (now (part .exit)) (now (work .exit)) ⌝ }
+    requires { ⌜ (lentCheck (lent (now places) (now part) 0 [] []) (Force.link (endsOf (now links)) (now strengths) (now distances) iterations) (eqb (length (now links) % 2) 0) ≡ fine)
+        × (length (now part) ≡ length (now places) / 2 * pairSize) × (length (now speeds) ≡ length (now places)) ⌝ }
+    ensures { λ r. ⌜ (let l = lent (now (places .entry)) (now (part .entry)) 0 (now (draws .entry)) (now (work .entry)) in
+        AfterForce l (linkResult l (now (links .entry)) (now (strengths .entry)) (now (distances .entry)) iterations alpha) r (now (part .exit)) (now (work .exit))) ⌝ }
 {
-    sheet::read_pairs(part, 16, 0, speeds);
+    sheet::read_pairs(part, PAIR_SIZE, 0, speeds);
     let r = numbers_check(places, speeds, strengths, distances, draws, alpha);
     let number = r.number;
     if number != 0 {
         return refused(r);
     }
+    let p = Progress {
+        alpha,
+        used: 0,
+        visits: 0,
+    };
     let ran = link(
         places,
         speeds,
@@ -130,10 +143,8 @@ fn on_part(
         strengths,
         distances,
         iterations,
-        alpha,
         draws,
-        0,
-        0,
+        p,
     );
     settle(places, part, speeds, ran, work)
 }
@@ -150,11 +161,13 @@ fn with_speeds(
     draws: &[f64],
     work: &mut [u64],
 ) -> Counts
-    requires { ⌜ (lentCheck (lent (now places) (now part) 0 [] []) (Force.link (endsOf (now links)) (now strengths) (now distances) iterations) (eqb (length (now links) % 2) 0) ≡ fine) × (length (now part) ≡ length (now places) / 2 * 16) ⌝ }
-    ensures { λ r. ⌜ Answered (lent (now (places .entry)) (now (part .entry)) 0 (now (draws .entry)) (now (work .entry))) (linkResult (lent (now (places .entry)) (now (part .entry)) 0 (now (draws .entry)) (now (work .entry))) (now (links .entry)) (now (strengths .entry)) (now (distances .entry)) iterations alpha) r (now (part .exit)) (now (work .exit)) ⌝ }
+    requires { ⌜ (lentCheck (lent (now places) (now part) 0 [] []) (Force.link (endsOf (now links)) (now strengths) (now distances) iterations) (eqb (length (now links) % 2) 0) ≡ fine)
+        × (length (now part) ≡ length (now places) / 2 * pairSize) ⌝ }
+    ensures { λ r. ⌜ (let l = lent (now (places .entry)) (now (part .entry)) 0 (now (draws .entry)) (now (work .entry)) in
+        AfterForce l (linkResult l (now (links .entry)) (now (strengths .entry)) (now (distances .entry)) iterations alpha) r (now (part .exit)) (now (work .exit))) ⌝ }
 {
     let n = places.len();
-    let mut speeds = [0.0f64; 2 * Quadtree::MOST_PARTICLES];
+    let mut speeds = [0.0f64; 2 * MOST_PARTICLES];
     on_part(
         places,
         part,
@@ -182,7 +195,8 @@ pub fn link_call(
     draws: &[f64],
     work: &mut [u64],
 ) -> Counts
-    ensures { λ r. ⌜ Answered (lent (now (places .entry)) (now (buffer .entry)) start (now (draws .entry)) (now (work .entry))) (linkResult (lent (now (places .entry)) (now (buffer .entry)) start (now (draws .entry)) (now (work .entry))) (now (links .entry)) (now (strengths .entry)) (now (distances .entry)) iterations alpha) r (now (buffer .exit)) (now (work .exit)) ⌝ }
+    ensures { λ r. ⌜ (let l = lent (now (places .entry)) (now (buffer .entry)) start (now (draws .entry)) (now (work .entry)) in
+        AfterForce l (linkResult l (now (links .entry)) (now (strengths .entry)) (now (distances .entry)) iterations alpha) r (now (buffer .exit)) (now (work .exit))) ⌝ }
 {
     let r = lent_check(
         places,
@@ -197,7 +211,7 @@ pub fn link_call(
     if number != 0 {
         return refused(r);
     }
-    let end = start + places.len() / 2 * 16;
+    let end = start + places.len() / 2 * PAIR_SIZE;
     let part = &mut buffer[start..end];
     with_speeds(
         places,

@@ -11,7 +11,7 @@ use Rattle.rules.specs.Plain.{all}
 use Rattle.rules.specs.Number.{within, finite}
 use Rattle.rules.specs.Outcome.{done, refused, Check, fine, require, _then_, _>>=_, refusalOf}
 use Rattle.rules.specs.Refusal.{resultCheck}
-use Rattle.rules.specs.Force.{noneOr}
+use Rattle.rules.specs.Force.{strengthsAgree}
 use Rattle.rules.proofs.RefusalLaws.{Refuses, _then·_}
 use Rattle.rules.proofs.RefusalNumbers.{Early}
 use Rattle.list_checks.specs.Checks.{firstOf}
@@ -29,6 +29,10 @@ bind-both (refused r) d h = absurd (let z : _≡_ {A = ℕ} 0 1 = cc in omega ar
 pub then-fine : (c : Check) → c then fine ≡ c
 then-fine (done t) = refl
 then-fine (refused r) = refl
+
+pub bind-fine : (c : Check) → (c >>= λ _. fine) ≡ c
+bind-fine (done t) = refl
+bind-fine (refused r) = refl
 
 pub require-true : (ok : Bool) (n i : ℕ) → require ok n i ≡ fine → ok ≡ true
 require-true true n i h = refl
@@ -63,5 +67,5 @@ pub first-four : (c d e g : Check) → Refuses Early c → Refuses Early d → R
 first-four c d e g hc hd he = rw (first-three c d e hc hd) (first-then (c then d then e) g (hc then· hd then· he))
 
 -- one for each, or none
-pub as-many : (k m : ℕ) → 0 < k → noneOr m k ≡ true → k ≡ m
+pub as-many : (k m : ℕ) → 0 < k → strengthsAgree m k ≡ true → k ≡ m
 as-many k m some e = eqb-true k m (rw (ne-eqb k 0 (λ z. omega arith)) at e)

@@ -11,17 +11,18 @@ use lib.Dec.{eqb}
 use lib.ListN.{length, getD, drop}
 use lib.Seq.{drop-cons}
 use lib.Ieee.{Float}
+use Rattle.rules.specs.Refusal.{pairsCheck}
 use Rattle.rules.specs.declared.Refusal.{Refusal}
 use Rattle.rules.specs.Plain.{all, countFrom, upTo}
-use Rattle.rules.specs.Outcome.{done, refused, refusal, Check, fine, require, _then_, _>>=_, refusalOf, checkFrom, zeroesWork}
+use Rattle.rules.specs.Outcome.{done, refused, refusal, Check, fine, require, _then_, _>>=_, refusalOf, checkFrom, onTheWay, zeroesWork}
 use Rattle.rules.specs.Link.{Ends}
 use Rattle.rules.specs.Force.{endsFrom, endsOf}
 use Rattle.rules.specs.Number.{xAt, yAt}
-use Rattle.rules.proofs.RefusalLaws.{Refuses, _then·_, of-each}
-use Rattle.rules.proofs.RefusalNumbers.{Early, one, two, three, four, five, ten, coordinate-early, velocity-early}
+use Rattle.rules.proofs.RefusalLaws.{Refuses, of-each}
+use Rattle.rules.proofs.RefusalNumbers.{Early, one, two, three, four, five, ten, place-early, velocity-early}
 use Rattle.list_checks.specs.declared.Pair.{Pair}
 use Rattle.list_checks.specs.declared.Pair.the-variants.{Place, Velocity}
-use Rattle.list_checks.specs.Checks.{pairCheck, pairsCheck, endsAt, firstOf, coordinatesCheck, velocitiesCheck}
+use Rattle.list_checks.specs.Checks.{pairCheck, endsAt, firstOf}
 use Rattle.sheet.proofs.PairLists.{pair-off}
 
 -- ---- one check and the refusal that was answered for it
@@ -35,6 +36,15 @@ early-keeps q (three i) = refl
 early-keeps q (four i) = refl
 early-keeps q (five i) = refl
 early-keeps q (ten i) = refl
+
+-- it isn't one of those that are met on the way
+pub early-stays : (q : Refusal) → Early q → onTheWay q ≡ false
+early-stays q one = refl
+early-stays q two = refl
+early-stays q (three i) = refl
+early-stays q (four i) = refl
+early-stays q (five i) = refl
+early-stays q (ten i) = refl
 
 -- so its number isn't 0, by which the work slots are cleared
 early-numbered : (q : Refusal) → Early q → q .number ≡ 0 → ⊥
@@ -133,11 +143,8 @@ all-unrefused ok i (a ∷ l) = go (ok a) (all-unrefused ok (i + 1) l)
 -- ---- the checks of pairs refuse by 4 and 5
 
 pub pair-early : (pair : Pair) (i : ℕ) (x y : Float) → Refuses Early (pairCheck pair i x y)
-pair-early Place i x y = coordinate-early i x y
+pair-early Place i x y = place-early i x y
 pair-early Velocity i x y = velocity-early i x y
 
 pub pairs-early : (pair : Pair) (n : ℕ) (l : List Float) → Refuses Early (pairsCheck (pairCheck pair) n l)
 pairs-early pair n l = of-each (λ i _. pair-early pair i (xAt l i) (yAt l i)) (upTo n)
-
-pub points-early : (n m : ℕ) (places speeds : List Float) → Refuses Early (coordinatesCheck n places then velocitiesCheck m speeds)
-points-early n m places speeds = pairs-early Place n places then· pairs-early Velocity m speeds

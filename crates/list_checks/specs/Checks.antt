@@ -6,11 +6,10 @@ use lib.Dec.{eqb}
 use lib.ListN.{getD}
 use lib.Ieee.{Float}
 use Rattle.rules.specs.declared.Refusal.{Refusal}
-use Rattle.rules.specs.Plain.{upTo}
-use Rattle.rules.specs.Outcome.{Check, checkEach}
-use Rattle.rules.specs.Number.{xAt, yAt, within, finite, distanceRange, drawRange}
+use Rattle.rules.specs.Outcome.{Check}
+use Rattle.rules.specs.Number.{within, finite, distanceRange, drawRange}
 use Rattle.rules.specs.Link.{Ends, ends}
-use Rattle.rules.specs.Refusal.{coordinateCheck, velocityCheck}
+use Rattle.rules.specs.Refusal.{placeCheck, velocityCheck}
 use Rattle.list_checks.specs.declared.Range.{Range}
 use Rattle.list_checks.specs.declared.Range.the-variants.{Within, Distance, Draw, Finite}
 use Rattle.list_checks.specs.declared.Pair.{Pair}
@@ -25,20 +24,8 @@ inRange Finite x = finite x
 
 -- particle i's place, or its velocity
 abbrev pub pairCheck : Pair → ℕ → Float → Float → Check
-pairCheck Place i x y = coordinateCheck i x y
+pairCheck Place i x y = placeCheck i x y
 pairCheck Velocity i x y = velocityCheck i x y
-
--- the check of each of n pairs
-abbrev pub pairsCheck : (ℕ → Float → Float → Check) → ℕ → List Float → Check
-pairsCheck check n pairs = checkEach (λ i _. check i (xAt pairs i) (yAt pairs i)) (upTo n)
-
--- 4, of n places
-abbrev pub coordinatesCheck : ℕ → List Float → Check
-coordinatesCheck n places = pairsCheck coordinateCheck n places
-
--- 5, of n velocities
-abbrev pub velocitiesCheck : ℕ → List Float → Check
-velocitiesCheck n speeds = pairsCheck velocityCheck n speeds
 
 -- the ends of link number k
 abbrev pub endsAt : List ℕ → ℕ → Ends

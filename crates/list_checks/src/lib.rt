@@ -1,11 +1,11 @@
-// The checks of the lists that a force is lent and of what it leaves, and the limits behind refusal 1. Number 0 at place 0 where nothing is refused.
+// The checks of the lists that a force is lent and of what it leaves. Number 0 at place 0 where nothing is refused.
 use number::distance_range;
 use number::draw_range;
 use number::is_finite;
 use number::wide;
 use number::within;
 use rules::Refusal;
-use sheet::coordinate_check;
+use sheet::place_check;
 use sheet::velocity_check;
 ghost use mathlib.Core.Path.{_≡_};
 ghost use mathlib.Core.List.{[], _∷_};
@@ -13,21 +13,10 @@ ghost use Prim.Native.Nat.{_/_};
 ghost use lib.ListN.{length};
 ghost use Rattle.rules.specs.Plain.{all};
 ghost use Rattle.rules.specs.Outcome.{refusalOf, requireAll, _then_};
-ghost use Rattle.rules.specs.Refusal.{strengthsCheck, distancesCheck, drawsCheck, settingsCheck, resultCheck, countCheck, lengthsCheck};
+ghost use Rattle.rules.specs.Refusal.{strengthsCheck, distancesCheck, drawsCheck, settingsCheck, resultCheck, countCheck, lengthsCheck, pairsCheck, coordinatesCheck, velocitiesCheck};
 ghost use Rattle.rules.specs.Link.{ends};
 ghost use Rattle.rules.specs.Force.{endsOf, endsRange};
-ghost use Rattle.list_checks.specs.Checks.{inRange, pairCheck, pairsCheck, coordinatesCheck, velocitiesCheck, firstOf};
-
-// What refusal 1 allows beside `Quadtree::MOST_PARTICLES`: links of one Link force, ticks of one step, iterations of one force, corners of one outline, edits of one list.
-pub const MOST_LINKS: usize = 8192;
-
-pub const MOST_TICKS: usize = 4096;
-
-pub const MOST_ITERATIONS: usize = 64;
-
-pub const MOST_CORNERS: usize = 4096;
-
-pub const MOST_EDITS: usize = 4096;
+ghost use Rattle.list_checks.specs.Checks.{inRange, pairCheck, firstOf};
 
 // What a number of a list is to be.
 enum Range {
@@ -55,17 +44,11 @@ fn range_check(range: Range, l: &[f64]) -> Refusal
     let mut i: usize = 0;
     while i < l.len() {
         if !in_range(range, l[i]) {
-            return Refusal {
-                number: 5,
-                place: i as u64,
-            };
+            return Refusal::at(5, i as u64);
         }
         i = i + 1;
     }
-    Refusal {
-        number: 0,
-        place: 0,
-    }
+    Refusal::none()
 }
 
 pub fn strengths_check(l: &[f64]) -> Refusal
@@ -91,16 +74,7 @@ pub fn draws_check(l: &[f64]) -> Refusal
 pub fn setting_check(x: f64) -> Refusal
     ensures { λ r. ⌜ r ≡ refusalOf (settingsCheck (x ∷ [])) ⌝ }
 {
-    if within(x) {
-        return Refusal {
-            number: 0,
-            place: 0,
-        };
-    }
-    Refusal {
-        number: 5,
-        place: 0,
-    }
+    Refusal::unless(within(x), 5, 0)
 }
 
 // Whether both ends of a link are among n particles.
@@ -119,17 +93,11 @@ pub fn ends_check(links: &[u32], n: usize) -> Refusal
     while k < m {
         let j = k * 2;
         if !ends_range(n, links[j], links[j + 1]) {
-            return Refusal {
-                number: 3,
-                place: k as u64,
-            };
+            return Refusal::at(3, k as u64);
         }
         k = k + 1;
     }
-    Refusal {
-        number: 0,
-        place: 0,
-    }
+    Refusal::none()
 }
 
 // What pairs of numbers are of particles.
@@ -142,7 +110,7 @@ fn pair_check(pair: Pair, i: u64, x: f64, y: f64) -> Refusal
     ensures { λ r. ⌜ r ≡ refusalOf (pairCheck pair i x y) ⌝ }
 {
     match pair {
-        Pair::Place => coordinate_check(i, x, y),
+        Pair::Place => place_check(i, x, y),
         Pair::Velocity => velocity_check(i, x, y),
     }
 }
@@ -162,10 +130,7 @@ fn pairs_check(pair: Pair, l: &[f64]) -> Refusal
         }
         i = i + 1;
     }
-    Refusal {
-        number: 0,
-        place: 0,
-    }
+    Refusal::none()
 }
 
 // All of 4, then all of 5.
@@ -189,16 +154,10 @@ fn all_in_range(range: Range, l: &[f64]) -> bool
 pub fn result_check(places: &[f64], speeds: &[f64]) -> Refusal
     ensures { λ r. ⌜ r ≡ refusalOf (resultCheck (now (places .entry)) (now (speeds .entry))) ⌝ }
 {
-    if all_in_range(Range::Within, places) && all_in_range(Range::Finite, speeds) {
-        return Refusal {
-            number: 0,
-            place: 0,
-        };
+    if all_in_range(Range::Within, places) {
+        return Refusal::unless(all_in_range(Range::Finite, speeds), 9, 0);
     }
-    Refusal {
-        number: 9,
-        place: 0,
-    }
+    Refusal::at(9, 0)
 }
 
 // What two checks answer, one after the other.
@@ -216,30 +175,12 @@ pub fn first(a: Refusal, b: Refusal) -> Refusal
 pub fn count_check(most: usize, n: usize) -> Refusal
     ensures { λ r. ⌜ r ≡ refusalOf (countCheck most n) ⌝ }
 {
-    if n <= most {
-        return Refusal {
-            number: 0,
-            place: 0,
-        };
-    }
-    Refusal {
-        number: 1,
-        place: 0,
-    }
+    Refusal::unless(n <= most, 1, 0)
 }
 
 // 2: lengths that disagree.
 pub fn lengths_check(agree: bool) -> Refusal
     ensures { λ r. ⌜ r ≡ refusalOf (lengthsCheck agree) ⌝ }
 {
-    if agree {
-        return Refusal {
-            number: 0,
-            place: 0,
-        };
-    }
-    Refusal {
-        number: 2,
-        place: 0,
-    }
+    Refusal::unless(agree, 2, 0)
 }

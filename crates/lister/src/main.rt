@@ -2,8 +2,9 @@
 ghost use mathlib.Core.Path.{_≡_};
 ghost use Prim.Native.Nat.{_^_, _≤_, min};
 ghost use lib.ListN.{length};
-ghost use Rattle.lister_text.specs.Input.{keptBytes};
+ghost use Rattle.lister_text.specs.Input.{keptBytes, listingBytes};
 use lister_text::KEPT_BYTES;
+use lister_text::LISTING_BYTES;
 
 // Reads on, and answers how many bytes came: 0 at the end.
 fn read_on() -> usize
@@ -43,7 +44,7 @@ fn total_of(n: usize) -> usize
 }
 
 fn list_input(kept: &mut [u8], out: &mut [u8])
-    requires { ⌜ (length (now kept) ≡ keptBytes) × (length (now out) ≡ 16384) ⌝ }
+    requires { ⌜ (length (now kept) ≡ keptBytes) × (length (now out) ≡ listingBytes) ⌝ }
 {
     let n = io::read_full(0, kept);
     let total = total_of(n);
@@ -53,6 +54,6 @@ fn list_input(kept: &mut [u8], out: &mut [u8])
 
 fn main() {
     let mut kept = [0u8; KEPT_BYTES];
-    let mut out = [0u8; 16384];
+    let mut out = [0u8; LISTING_BYTES];
     list_input(&mut kept, &mut out);
 }

@@ -18,7 +18,7 @@ use Rattle.rules.specs.Tree.{Tree, none, leaf, node, depth, nodes, treeOf, tree
 use Rattle.rules.specs.Calls.{treeOfSheet, coverSheet}
 use Rattle.rules.specs.Listing.{mostListed, listerSlots}
 use Rattle.rules.proofs.CoverTerms.{AllNear, Reached, floors}
-use Rattle.rules.proofs.Cover.{cover-all, held-ends}
+use Rattle.rules.proofs.Cover.{cover-all, held-near}
 use Rattle.rules.proofs.CellList.{left, right}
 use Rattle.number.proofs.Flooring.{floor-within}
 use Rattle.lister_text.specs.Told.{Covers, Listed}
@@ -74,7 +74,7 @@ module _ (at : List Float) where
       go zero nothing r e k = ap nodes (no-tree at)
       go (suc n) nothing r e k = absurd (cons≢nil r)
       go zero (holds s) r e k = absurd (cover-none s e)
-      go (suc n) (holds s) r e k = (nodes-some (treeOf at (suc n)) (omega arith), held-ends r)
+      go (suc n) (holds s) r e k = (nodes-some (treeOf at (suc n)) (omega arith), held-near r)
 
 -- ---- an accepted sheet
 

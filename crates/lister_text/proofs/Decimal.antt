@@ -1,21 +1,18 @@
--- Decimal digits: one more at the end, and how many there are. Assumes nothing.
-use mathlib.Core.Path.{_≡_, refl, sym, ap, _∙_, subst}
-use mathlib.Core.Bool.{Bool, true, false}
-use mathlib.Core.List.{List, [], _∷_, _++_}
-use Prim.Native.Nat.{ℕ, zero, suc, _+_, _*_, _/_, _%_, _^_, _≤_, _<_}
+-- Decimal digits: those that the io library spells are the rules', and how many there are. Assumes nothing.
+use mathlib.Core.Path.{_≡_, sym, ap, _∙_}
+use mathlib.Core.List.{List, [], _∷_, _++_, append-nil}
+use Prim.Native.Nat.{ℕ, zero, suc, _+_, _-_, _*_, _/_, _%_, _^_, _≤_, _<_}
 use native.Mathlib.Nat.{pow-suc}
 use native.Mathlib.Decide.{decLt}
 use native.Mathlib.Omega.{arith}
 use borrow.Author.Tests.{lt-ltb, le-ltb}
-use lib.Dec.{ltb}
-use lib.ListN.{length, length-append}
-use Rattle.rules.specs.Plain.{branch}
+use lib.ListN.{length}
+use lib.Seq.{append-snoc}
+use Rattle.io.specs.Digits as Io
 use Rattle.rules.specs.Listing.{digits, decimal}
-use Rattle.lister_text.specs.Text.{Wrote}
-use Rattle.lister_text.proofs.Writing.{wrote-both}
 
 -- the last digit of n
-abbrev pub digit : ℕ → ℕ
+abbrev digit : ℕ → ℕ
 digit n = 48 + n % 10
 
 one-digit-or-more : {P : Type 0} (n : ℕ) → (n < 10 → P) → (10 ≤ n → P) → P
@@ -27,37 +24,45 @@ digits-small k n after h = rw (lt-ltb n 10 h)
 digits-large : (k n : ℕ) (after : List ℕ) → 10 ≤ n → digits (suc k) n after ≡ digits k (n / 10) (digit n ∷ after)
 digits-large k n after h = rw (le-ltb n 10 h)
 
--- what follows stands behind
-digits-after : (k n : ℕ) (a b : List ℕ) → digits k n (a ++ b) ≡ digits k n a ++ b
-digits-after zero n a b = refl
-digits-after (suc k) n a b = go (digits-after k (n / 10) (digit n ∷ a) b) (ltb n 10)
-  where
-    go : digits k (n / 10) (digit n ∷ (a ++ b)) ≡ digits k (n / 10) (digit n ∷ a) ++ b → (t : Bool)
-        → branch t (λ _. (48 + n) ∷ (a ++ b)) (λ _. digits k (n / 10) (digit n ∷ (a ++ b))) ≡ branch t (λ _. (48 + n) ∷ a) (λ _. digits k (n / 10) (digit n ∷ a)) ++ b
-    go e true = refl
-    go e false = e
-
 -- a tenth of n has a digit less
 tenth : (k n : ℕ) → n < 10 ^ suc k → n / 10 < 10 ^ k
 tenth k n h = let e : 10 ^ suc k ≡ 10 ^ k * 10 = pow-suc 10 k in omega arith
 
--- with places enough, one more changes nothing
-digits-enough : (k n : ℕ) (after : List ℕ) → n < 10 ^ suc k → digits (suc k) n after ≡ digits (suc (suc k)) n after
-digits-enough zero n after h = digits-small 0 n after h ∙ sym (digits-small 1 n after h)
-digits-enough (suc k) n after h =
-    one-digit-or-more n
-    (λ small. digits-small (suc k) n after small ∙ sym (digits-small (suc (suc k)) n after small))
-    (λ large. digits-large (suc k) n after large ∙ digits-enough k (n / 10) (digit n ∷ after) (tenth (suc k) n h) ∙ sym (digits-large (suc (suc k)) n after large))
+-- ---- the io library's digits
 
-pub decimal-small : (n : ℕ) → n < 10 → decimal n ≡ (48 + n) ∷ []
-decimal-small n h = digits-small 13 n [] h
+pow-some : (k : ℕ) → 1 ≤ 10 ^ k
+pow-some zero = omega arith
+pow-some (suc k) = let e : 10 ^ suc k ≡ 10 ^ k * 10 = pow-suc 10 k in omega (arith, pow-some k)
 
--- the digits before the last one, then the last
-pub decimal-large : (n : ℕ) → 10 ≤ n → n < 10 ^ 14 → decimal n ≡ decimal (n / 10) ++ (digit n ∷ [])
-decimal-large n h l =
-    digits-large 13 n [] h
-    ∙ digits-after 13 (n / 10) [] (digit n ∷ [])
-    ∙ ap (λ (a : List ℕ). a ++ (digit n ∷ [])) (digits-enough 12 (n / 10) [] (tenth 13 n l))
+glyph-is : (n : ℕ) → Io.glyph (n % 10) ≡ digit n
+glyph-is n = rw (lt-ltb (n % 10) 10 (omega arith))
+
+spelt-from : (k j n : ℕ) (after : List ℕ) → n < 10 ^ suc j → Io.Fewest 10 1 n (suc k) → Io.digits 10 (suc k) n ++ after ≡ digits (suc j) n after
+spelt-from zero j n after h f =
+    let small : n < 10 = f .1 in
+    let e : n % 10 ≡ n = omega arith in
+    ap (λ (d : ℕ). d ∷ after) (glyph-is n ∙ ap (λ (d : ℕ). 48 + d) e) ∙ sym (digits-small j n after small)
+spelt-from (suc k) zero n after h f =
+    let one : suc (suc k) - 1 ≡ suc k = omega arith in
+    let least : 10 ^ suc k ≤ n = rw one at (f .2 (omega arith)) in
+    let e : 10 ^ suc k ≡ 10 ^ k * 10 = pow-suc 10 k in
+    absurd (omega (arith, pow-some k))
+spelt-from (suc k) (suc j) n after h f =
+    let one : suc (suc k) - 1 ≡ suc k = omega arith in
+    let least : 10 ^ suc k ≤ n = rw one at (f .2 (omega arith)) in
+    let e : 10 ^ suc k ≡ 10 ^ k * 10 = pow-suc 10 k in
+    let large : 10 ≤ n = omega (arith, pow-some k) in
+    let fewer : Io.Fewest 10 1 (n / 10) (suc k) = (omega arith, tenth (suc k) n (f .1), λ _. let z : suc k - 1 ≡ k = omega arith in rw z (omega arith)) in
+    append-snoc (Io.digits 10 (suc k) (n / 10)) (Io.glyph (n % 10)) after
+    ∙ ap (λ (d : ℕ). Io.digits 10 (suc k) (n / 10) ++ (d ∷ after)) (glyph-is n)
+    ∙ spelt-from k j (n / 10) (digit n ∷ after) (tenth (suc j) n h) fewer
+    ∙ sym (digits-large (suc j) n after large)
+
+pub spelt : (n k : ℕ) → n < 10 ^ 14 → Io.Fewest 10 1 n k → Io.digits 10 k n ≡ decimal n
+spelt n zero h f = absurd (omega (arith, f .0))
+spelt n (suc k) h f = sym (append-nil (Io.digits 10 (suc k) n)) ∙ spelt-from k 13 n [] h f
+
+-- ---- how many there are
 
 digits-length : (j k n : ℕ) (after : List ℕ) → n < 10 ^ suc j → length (digits k n after) ≤ suc j + length after
 digits-length j zero n after h = omega arith
@@ -87,26 +92,3 @@ digits-most (suc k) n after =
 -- there are never more than 14 digits
 pub decimal-most : (n : ℕ) → length (decimal n) ≤ 14
 decimal-most n = digits-most 14 n []
-
--- ---- a number written, digit by digit
-
-module _ (l : List ℕ) (at n : ℕ) (small : n < 10) where
-  pub room-small : at + length (decimal n) ≤ length l → at + 1 ≤ length l
-  room-small h = let e : length (decimal n) ≡ 1 = ap length (decimal-small n small) in omega arith
-
-  pub wrote-small : (k : List ℕ) (r : ℕ) → Wrote l at ((48 + n) ∷ []) k r → Wrote l at (decimal n) k r
-  wrote-small k r w = subst (λ (t : List ℕ). Wrote l at t k r) (sym (decimal-small n small)) w
-
-module _ (l : List ℕ) (at n : ℕ) (large : 10 ≤ n) (fits : n < 10 ^ 14) (room : at + length (decimal n) ≤ length l) where
-  length-large : length (decimal n) ≡ length (decimal (n / 10)) + 1
-  length-large = ap length (decimal-large n large fits) ∙ length-append (decimal (n / 10)) (digit n ∷ [])
-
-  pub room-tenth : at + length (decimal (n / 10)) ≤ length l
-  room-tenth = let e = length-large in omega arith
-
-  module _ (k : List ℕ) (r : ℕ) (w : Wrote l at (decimal (n / 10)) k r) where
-    pub room-digit : length k ≡ length l → r + 1 ≤ length k
-    room-digit s = let e = length-large in let f = w .next in omega arith
-
-    pub wrote-digit : (j : List ℕ) (q : ℕ) → Wrote k r (digit n ∷ []) j q → Wrote l at (decimal n) j q
-    wrote-digit j q v = subst (λ (t : List ℕ). Wrote l at t j q) (sym (decimal-large n large fits)) (wrote-both l at (decimal (n / 10)) (digit n ∷ []) k j r q room-tenth w v)

@@ -11,8 +11,8 @@ use Rattle.rules.specs.declared.Extent.{Extent}
 use Rattle.rules.specs.declared.TreeAnswer.{TreeAnswer}
 use Rattle.rules.specs.Outcome.{Outcome, done, refused, fine, refusalOf}
 use Rattle.rules.specs.Sheet.{recordSize, countOf}
-use Rattle.rules.specs.Tree.{Tree, rowsOf, chainsOf}
-use Rattle.rules.specs.Calls.{slotsOf, coverSheet, TreeInput, treeLengths, treeResult, treeAnswer}
+use Rattle.rules.specs.Tree.{Tree, rowsOf, rowNumbers, chainsOf}
+use Rattle.rules.specs.Calls.{slotWords, slotsOf, coverSheet, TreeInput, treeLengths, treeResult, treeAnswer}
 use Rattle.rules.specs.Listing.{ascii, decimal, line, extentLine, rowLines, mostListed, listerSlots, lister}
 use Rattle.tree_call.specs.Tree.{AfterTree}
 use Rattle.lister_text.specs.Text.{Wrote}
@@ -24,16 +24,16 @@ use Rattle.lister_text.proofs.Sheets.{lister-bad, lister-many, lister-r
 
 -- the lists that the lister lends
 pub record Lent (l : TreeInput) : Type 0 where
-  pub rows : length (l .rows) ≡ 4096
+  pub rows : length (l .rows) ≡ rowNumbers * listerSlots
   pub chains : length (l .chains) ≡ countOf (l .sheet)
-  pub work : length (l .work) ≡ 8192
+  pub work : length (l .work) ≡ slotWords * listerSlots
 
 module _ {l : TreeInput} (h : Lent l) where
   slots : slotsOf (l .work) ≡ listerSlots
-  slots = ap (λ (n : ℕ). n / 8) (h .work)
+  slots = ap (λ (n : ℕ). n / slotWords) (h .work)
 
   lengths : treeLengths l ≡ fine
-  lengths = rw (eq-eqb _ _ (h .rows ∙ sym (ap (λ (n : ℕ). n * 4) slots)), eq-eqb _ _ (h .chains))
+  lengths = rw (eq-eqb _ _ (h .rows ∙ sym (ap (λ (n : ℕ). n * rowNumbers) slots)), eq-eqb _ _ (h .chains))
 
   module _ {r : TreeAnswer} {rows chains work : List ℕ} (ends : AfterTree l (treeResult mostListed l) r rows chains work) where
     number : r .refusal .number ≡ refusalOf (treeResult mostListed l) .number
@@ -75,8 +75,8 @@ module _ {l : TreeInput} (h : Lent l) where
             absurd (omega (arith, n, number-is mostListed l q e .0))
 
 -- a part of the list for chains
-pub first-chains : (n : ℕ) → n ≤ 512 → length (take n (replicate {A = ℕ} 512 0)) ≡ n
-first-chains n h = length-take-le n (replicate {A = ℕ} 512 0) (omega (arith, length-replicate {A = ℕ} 512 0))
+pub first-chains : (n : ℕ) → n ≤ mostListed → length (take n (replicate {A = ℕ} mostListed 0)) ≡ n
+first-chains n h = length-take-le n (replicate {A = ℕ} mostListed 0) (omega (arith, length-replicate {A = ℕ} mostListed 0))
 
 -- ---- an input of `total` bytes
 

@@ -10,10 +10,10 @@ use lib.Seq.{take-append-le, drop-append-le}
 use Rattle.rules.specs.declared.Extent.{Extent}
 use Rattle.rules.specs.Plain.{padded}
 use Rattle.rules.specs.Cover.{Square, square, whole, Covered, nothing, holds, extentOf}
-use Rattle.rules.specs.Tree.{Tree, Row, rowsOf, flat, chainsOf}
+use Rattle.rules.specs.Tree.{Tree, Row, rowsOf, flat, chainsOf, rowNumbers}
 use Rattle.rules.specs.Listing.{extentLine, rowLines}
-use Rattle.rules.proofs.CoverTerms.{Ends}
-use Rattle.lister_text.specs.Told.{integer, squareOf, WholeEnds, rowsAt, chained, Told}
+use Rattle.rules.proofs.CoverTerms.{NearZero}
+use Rattle.lister_text.specs.Told.{integer, squareOf, WholeExtent, rowsAt, chained, Told}
 use Rattle.lister_text.proofs.Whole.{integer-whole, is-whole}
 use Rattle.lister_text.proofs.Rows.{rowLine}
 use Rattle.lister_text.proofs.Sizes.{rows-chained}
@@ -25,7 +25,7 @@ rows-flat : (rs : List Row) (more : List ℕ) → rowsAt (length rs) (flat rs ++
 rows-flat [] more = refl
 rows-flat (r ∷ rs) more = ap (λ (l : List Row). r ∷ l) (rows-flat rs more)
 
-flat-length : (rs : List Row) → length (flat rs) ≡ 4 * length rs
+flat-length : (rs : List Row) → length (flat rs) ≡ rowNumbers * length rs
 flat-length [] = refl
 flat-length (r ∷ rs) = let e = flat-length rs in omega arith
 
@@ -43,7 +43,7 @@ pad-room k l m e = let a = ap length e ∙ length-append m (replicate (k - lengt
 
 -- ---- the extent
 
-module _ (s : Square) (e : Extent) (i : e ≡ extentOf (holds s)) (h : Ends s) where
+module _ (s : Square) (e : Extent) (i : e ≡ extentOf (holds s)) (h : NearZero s) where
   at-x0 : e .x0 ≡ whole (s .x0)
   unfolding extentOf
   at-x0 = ap (λ (c : Extent). c .x0) i
@@ -63,8 +63,8 @@ module _ (s : Square) (e : Extent) (i : e ≡ extentOf (holds s)) (h : Ends s) w
   back : (x : Float) (z : ℤ) → x ≡ whole z → natAbs z ≤ 2 ^ 44 → integer x ≡ z
   back x z q n = ap integer q ∙ integer-whole z n
 
-  ends-whole : WholeEnds e
-  ends-whole = record {
+  extent-whole : WholeExtent e
+  extent-whole = record {
     x0 = is-whole (e .x0) (s .x0) at-x0 (h .x0);
     y0 = is-whole (e .y0) (s .y0) at-y0 (h .y0);
     x1 = is-whole (e .x1) (s .x1) at-x1 (h .x1);
@@ -83,7 +83,7 @@ module _ (c : Covered) (t : Tree Extent) (e : Extent) (n : ℕ) (rows chains : L
   rows-told : rowsAt n rows ≡ rowsOf t
   rows-told = ap₂ rowsAt count (h .rows-are) ∙ rows-flat (rowsOf t) (replicate (h .rows-length - length (flat (rowsOf t))) 0)
 
-  pub rows-room : 4 * n ≤ length rows
+  pub rows-room : rowNumbers * n ≤ length rows
   rows-room = omega (arith, pad-room (h .rows-length) rows (flat (rowsOf t)) (h .rows-are), flat-length (rowsOf t), count)
 
   pub chains-room : chained (rowsAt n rows) ≤ length chains
@@ -105,9 +105,9 @@ none-told nothing t e n rows chains h z = ap (λ (rs : List Row). extentLine not
 none-told (holds s) t e n rows chains h z = let some = h .listed .covers .0 in let m = h .count-is in absurd (omega arith)
 
 -- nodes: the ends are whole
-pub some-ends : (c : Covered) (t : Tree Extent) (e : Extent) (n : ℕ) (rows chains : List ℕ) → Told c t e n rows chains → (n ≡ 0 → ⊥) → WholeEnds e
-some-ends nothing t e n rows chains h z = absurd (z (h .count-is ∙ h .listed .covers))
-some-ends (holds s) t e n rows chains h z = ends-whole s e (h .extent-is) (h .listed .covers .1)
+pub some-extent : (c : Covered) (t : Tree Extent) (e : Extent) (n : ℕ) (rows chains : List ℕ) → Told c t e n rows chains → (n ≡ 0 → ⊥) → WholeExtent e
+some-extent nothing t e n rows chains h z = absurd (z (h .count-is ∙ h .listed .covers))
+some-extent (holds s) t e n rows chains h z = extent-whole s e (h .extent-is) (h .listed .covers .1)
 
 -- and the text is that of the numbers
 pub some-told : (c : Covered) (t : Tree Extent) (e : Extent) (n : ℕ) (rows chains : List ℕ) → Told c t e n rows chains → (n ≡ 0 → ⊥) → text c t ≡ extentLine (holds (squareOf e)) ++ rowLines (rowsAt n rows) chains

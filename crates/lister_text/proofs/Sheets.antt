@@ -33,7 +33,7 @@ tree-after : (sheet : List ℕ) (most slots : ℕ) (lengths : Check) → treeOfS
 unfolding treeOfSheet
 tree-after sheet most slots lengths = refl
 
--- ---- up to 512 records: the tree call's own answer
+-- ---- not too many records: the tree call's own answer
 
 module _ (l : TreeInput) (slots : slotsOf (l .work) ≡ listerSlots) (lengths : treeLengths l ≡ fine) where
   abbrev result : Outcome (Tree Extent)
@@ -69,7 +69,7 @@ module _ (l : TreeInput) (slots : slotsOf (l .work) ≡ listerSlots) (lengths : 
       chains-are = ap (λ (o : Outcome (Tree Extent)). ifDone o (λ t. padded (length (l .chains)) 0 (chainsOf t)) (l .chains)) e;
     }
 
--- ---- a bad length, and else over 512 records
+-- ---- a bad length, and else too many records
 
 pub lister-bad : (sheet : List ℕ) → (length sheet % recordSize ≡ 0 → ⊥) → lister sheet ≡ line (ascii "refused" ∷ decimal 10 ∷ [])
 unfolding lister wholeRecords

@@ -10,10 +10,11 @@ use lib.ListN.{length, take, drop, length-append, length-take}
 use Rattle.rules.specs.declared.Extent.{Extent}
 use Rattle.rules.specs.Cover.{Square, Covered, nothing, holds}
 use Rattle.rules.specs.Tree.{Tree, none, leaf, node, nodes, Row, rowsFrom, rowsOf, chainsOf}
-use Rattle.rules.specs.Listing.{ascii, decimal, signed, kindWord, line, extentLine, rowLines, mostListed}
-use Rattle.rules.proofs.CoverTerms.{Ends}
+use Rattle.rules.specs.Listing.{ascii, decimal, signed, rowLetter, line, extentLine, rowLines, mostListed}
+use Rattle.rules.proofs.CoverTerms.{NearZero}
 use Rattle.lister_text.specs.Text.{others}
 use Rattle.lister_text.specs.Told.{chained, Covers, Listed}
+use Rattle.lister_text.specs.Input.{listingBytes}
 use Rattle.lister_text.proofs.Decimal.{decimal-length, decimal-most}
 use Rattle.tree_slots.specs.Trees.{Below}
 use Rattle.lister_text.proofs.Rows.{rowLine}
@@ -48,7 +49,7 @@ others-length (n ∷ l) h =
 
 -- ---- a row
 
-kind-length : (k : ℕ) → length (kindWord k) ≤ 1
+kind-length : (k : ℕ) → length (rowLetter k) ≤ 1
 kind-length zero = lit≤ tt
 kind-length (suc zero) = lit≤ tt
 kind-length (suc (suc k)) = lit≤ tt
@@ -60,12 +61,12 @@ pub record Slim (r : Row) : Type 0 where
 
 row-length : (r : Row) (l : List ℕ) → Slim r → Low l → length (rowLine r l) ≤ 10 + 5 * length l
 row-length r l s h =
-    let e : length (rowLine r l) ≡ length (decimal (r .level)) + suc (length (decimal (r .quadrant)) + suc (length (kindWord (r .kind)) + length (others (map decimal l)))) =
+    let e : length (rowLine r l) ≡ length (decimal (r .level)) + suc (length (decimal (r .quadrant)) + suc (length (rowLetter (r .kind)) + length (others (map decimal l)))) =
     length-append (decimal (r .level)) _
-    ∙ ap (λ (n : ℕ). length (decimal (r .level)) + suc n) (length-append (decimal (r .quadrant)) _ ∙ ap (λ (n : ℕ). length (decimal (r .quadrant)) + suc n) (length-append (kindWord (r .kind)) _)) in
+    ∙ ap (λ (n : ℕ). length (decimal (r .level)) + suc n) (length-append (decimal (r .quadrant)) _ ∙ ap (λ (n : ℕ). length (decimal (r .quadrant)) + suc n) (length-append (rowLetter (r .kind)) _)) in
     let f : length (decimal (r .level)) ≤ 5 = decimal-length 4 (r .level) (s .level) in
     let g : length (decimal (r .quadrant)) ≤ 1 = decimal-length 0 (r .quadrant) (s .quadrant) in
-    let i : length (kindWord (r .kind)) ≤ 1 = kind-length (r .kind) in
+    let i : length (rowLetter (r .kind)) ≤ 1 = kind-length (r .kind) in
     let j : length (others (map decimal l)) ≤ 1 + 5 * length l = others-length l h in
     omega arith
 
@@ -131,7 +132,7 @@ signed-length : (z : ℤ) → natAbs z ≤ 2 ^ 44 → length (signed z) ≤ 15
 signed-length (pos n) h = le-trans (decimal-length 13 n (lt-of-le-of-lt h (lit< tt))) (lit≤ tt)
 signed-length (negsuc n) h = let e : length (decimal (suc n)) ≤ 14 = decimal-length 13 (suc n) (lt-of-le-of-lt h (lit< tt)) in omega arith
 
-pub extent-length : (s : Square) → Ends s → length (extentLine (holds s)) ≤ 71
+pub extent-length : (s : Square) → NearZero s → length (extentLine (holds s)) ≤ 71
 extent-length s h =
     let a : length (signed (s .x0)) ≤ 15 = signed-length (s .x0) (h .x0) in
     let b : length (signed (s .y0)) ≤ 15 = signed-length (s .y0) (h .y0) in
@@ -149,8 +150,8 @@ refused-length n =
 
 -- ---- the whole listing
 
--- a listing within the limits is shorter than 2 ^ 14 bytes
-pub listing-length : (c : Covered) (t : Tree Extent) → Listed c t → length (extentLine c ++ rowLines (rowsOf t) (chainsOf t)) ≤ 2 ^ 14
+-- a listing within the limits is no longer than that
+pub listing-length : (c : Covered) (t : Tree Extent) → Listed c t → length (extentLine c ++ rowLines (rowsOf t) (chainsOf t)) ≤ listingBytes
 listing-length c t h =
     let e : length (extentLine c ++ rowLines (rowsOf t) (chainsOf t)) ≡ length (extentLine c) + length (rowLines (rowsOf t) (chainsOf t)) = length-append (extentLine c) (rowLines (rowsOf t) (chainsOf t)) in
     let f : length (rowLines (rowsOf t) (chainsOf t)) ≤ 10 * length (rowsOf t) + 5 * chained (rowsOf t) =

@@ -13,7 +13,7 @@ use Rattle.rules.specs.Cover.{whole}
 use Rattle.rules.specs.Listing.{decimal, signed}
 use Rattle.number.proofs.Integers.{HasInt, lt-int}
 use Rattle.lister_text.specs.Told.{integer, IsWhole}
-use Rattle.tree_cells.proofs.CoverEnds.{has}
+use Rattle.tree_cells.proofs.CoverNear.{has}
 
 -- ---- the float of an integer, read back
 

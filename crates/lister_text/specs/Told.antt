@@ -1,4 +1,4 @@
--- What the tree call's numbers stand for: whole ends, rows of four numbers, a tree. Definitions only.
+-- What the tree call's numbers stand for: whole ends, rows, a tree. Definitions only.
 use mathlib.Core.Path.{_≡_}
 use mathlib.Core.List.{List, [], _∷_}
 use Prim.Native.Nat.{ℕ, zero, suc, _+_, _^_, _≤_, _<_}
@@ -8,10 +8,10 @@ use lib.Ieee.{Float, toSigned}
 use Rattle.rules.specs.declared.Extent.{Extent}
 use Rattle.rules.specs.Plain.{padded}
 use Rattle.rules.specs.Cover.{Square, square, whole, Covered, nothing, holds, extentOf}
-use Rattle.rules.specs.Tree.{Tree, nodes, Row, row, rowsOf, flat, chainsOf}
+use Rattle.rules.specs.Tree.{Tree, nodes, Row, row, rowNumbers, rowsOf, flat, chainsOf}
 use Rattle.tree_slots.specs.Trees.{Below}
 use Rattle.rules.specs.Listing.{mostListed, listerSlots}
-use Rattle.rules.proofs.CoverTerms.{Ends}
+use Rattle.rules.proofs.CoverTerms.{NearZero}
 
 -- ---- ends
 
@@ -27,7 +27,7 @@ pub record IsWhole (x : Float) : Type 0 where
 abbrev pub squareOf : Extent → Square
 squareOf e = square (integer (e .x0)) (integer (e .y0)) (integer (e .x1)) (integer (e .y1))
 
-pub record WholeEnds (e : Extent) : Type 0 where
+pub record WholeExtent (e : Extent) : Type 0 where
   pub x0 : IsWhole (e .x0)
   pub y0 : IsWhole (e .y0)
   pub x1 : IsWhole (e .x1)
@@ -35,10 +35,10 @@ pub record WholeEnds (e : Extent) : Type 0 where
 
 -- ---- rows
 
--- the first n rows of a list that has four numbers for each
+-- the first n rows of a list
 abbrev pub rowsAt : ℕ → List ℕ → List Row
 rowsAt zero l = []
-rowsAt (suc n) l = row (getD l 0 0) (getD l 1 0) (getD l 2 0) (getD l 3 0) ∷ rowsAt n (drop 4 l)
+rowsAt (suc n) l = row (getD l 0 0) (getD l 1 0) (getD l 2 0) (getD l 3 0) ∷ rowsAt n (drop rowNumbers l)
 
 -- how many particles their chains have
 abbrev pub chained : List Row → ℕ
@@ -50,7 +50,7 @@ chained (r ∷ rs) = r .chain + chained rs
 -- without a node nothing is covered, and else a square whose ends are near
 abbrev pub Covers : Covered → ℕ → Type 0
 Covers nothing n = n ≡ 0
-Covers (holds s) n = (0 < n) × Ends s
+Covers (holds s) n = (0 < n) × NearZero s
 
 -- within the lister's limits
 pub record Listed (c : Covered) (t : Tree Extent) : Type 0 where

@@ -3,14 +3,16 @@ ghost use mathlib.Core.List.{[], _∷_, map};
 ghost use Prim.Native.Nat.{_+_, _*_, _^_, _≤_, _<_};
 ghost use lib.ListN.{length};
 ghost use Rattle.rules.specs.Cover.{holds, nothing};
-ghost use Rattle.rules.specs.Listing.{ascii, decimal, signed, line, extentLine, kindWord, rowLines};
+ghost use Rattle.rules.specs.Listing.{ascii, decimal, signed, line, extentLine, rowLetter, rowLines};
+ghost use Rattle.rules.specs.Tree.{rowNumbers};
 ghost use Rattle.lister_text.specs.Text.{Wrote, others};
-ghost use Rattle.lister_text.specs.Told.{IsWhole, integer, WholeEnds, squareOf, rowsAt, chained};
+ghost use Rattle.lister_text.specs.Told.{IsWhole, integer, WholeExtent, squareOf, rowsAt, chained};
 use crate::text::put_byte;
 use crate::text::put_decimal;
 use crate::text::put_text;
 use crate::text::put_whole;
 use rules::Extent;
+use rules::ROW_NUMBERS;
 
 // A space and a number.
 fn put_number(out: &mut [u8], at: usize, n: u64) -> usize
@@ -48,7 +50,7 @@ pub fn put_refused(out: &mut [u8], at: usize, number: u64) -> usize
 }
 
 pub fn put_extent(out: &mut [u8], at: usize, e: Extent) -> usize
-    requires { ⌜ WholeEnds e ⌝ }
+    requires { ⌜ WholeExtent e ⌝ }
     requires { ⌜ at + length (extentLine (holds (squareOf e))) ≤ length (now out) ⌝ }
     ensures { λ r. ⌜ Wrote (now (out .entry)) at (extentLine (holds (squareOf e))) (now (out .exit)) r ⌝ }
 {
@@ -62,8 +64,8 @@ pub fn put_extent(out: &mut [u8], at: usize, e: Extent) -> usize
 
 // I for internal, L for a leaf.
 fn put_kind(out: &mut [u8], at: usize, kind: u32) -> usize
-    requires { ⌜ at + length (kindWord kind) ≤ length (now out) ⌝ }
-    ensures { λ r. ⌜ Wrote (now (out .entry)) at (kindWord kind) (now (out .exit)) r ⌝ }
+    requires { ⌜ at + length (rowLetter kind) ≤ length (now out) ⌝ }
+    ensures { λ r. ⌜ Wrote (now (out .entry)) at (rowLetter kind) (now (out .exit)) r ⌝ }
 {
     if kind == 0 {
         return at;
@@ -90,8 +92,8 @@ fn put_chain(out: &mut [u8], at: usize, chain: &[u32]) -> usize
 
 // One node: level, quadrant, kind, chain.
 fn put_row(out: &mut [u8], at: usize, level: u32, quadrant: u32, kind: u32, chain: &[u32]) -> usize
-    requires { ⌜ at + length (line (decimal level ∷ decimal quadrant ∷ kindWord kind ∷ map decimal (now chain))) ≤ length (now out) ⌝ }
-    ensures { λ r. ⌜ Wrote (now (out .entry)) at (line (decimal level ∷ decimal quadrant ∷ kindWord kind ∷ map decimal (now (chain .entry)))) (now (out .exit)) r ⌝ }
+    requires { ⌜ at + length (line (decimal level ∷ decimal quadrant ∷ rowLetter kind ∷ map decimal (now chain))) ≤ length (now out) ⌝ }
+    ensures { λ r. ⌜ Wrote (now (out .entry)) at (line (decimal level ∷ decimal quadrant ∷ rowLetter kind ∷ map decimal (now (chain .entry)))) (now (out .exit)) r ⌝ }
 {
     let mut next = put_decimal(out, at, level as u64);
     next = put_number(out, next, quadrant as u64);
@@ -102,7 +104,7 @@ fn put_row(out: &mut [u8], at: usize, level: u32, quadrant: u32, kind: u32, chai
 
 // The first `nodes` rows, each with the part of the chains that is its own.
 pub fn put_rows(out: &mut [u8], at: usize, nodes: usize, rows: &[u32], chains: &[u32]) -> usize
-    requires { ⌜ 4 * nodes ≤ length (now rows) ⌝ }
+    requires { ⌜ rowNumbers * nodes ≤ length (now rows) ⌝ }
     requires { ⌜ chained (rowsAt nodes (now rows)) ≤ length (now chains) ⌝ }
     requires { ⌜ at + length (rowLines (rowsAt nodes (now rows)) (now chains)) ≤ length (now out) ⌝ }
     ensures { λ r. ⌜ Wrote (now (out .entry)) at (rowLines (rowsAt nodes (now (rows .entry))) (now (chains .entry))) (now (out .exit)) r ⌝ }
@@ -111,7 +113,7 @@ pub fn put_rows(out: &mut [u8], at: usize, nodes: usize, rows: &[u32], chains: &
     let mut from: usize = 0;
     let mut i: usize = 0;
     while i < nodes {
-        let k = 4 * i;
+        let k = ROW_NUMBERS * i;
         let to = from + rows[k + 3] as usize;
         next = put_row(
             out,

@@ -1,12 +1,13 @@
 // The listing of a tree, from what the tree call told of it.
 ghost use mathlib.Core.List.{_++_};
-ghost use Prim.Native.Nat.{_^_, _≤_};
+ghost use Prim.Native.Nat.{_≤_};
 ghost use lib.ListN.{length};
 ghost use Rattle.rules.specs.Cover.{Covered};
 ghost use Rattle.rules.specs.Tree.{Tree, rowsOf, chainsOf};
 ghost use Rattle.rules.specs.Listing.{extentLine, rowLines};
 ghost use Rattle.lister_text.specs.Text.{Wrote};
 ghost use Rattle.lister_text.specs.Told.{Told, SomeTree};
+ghost use Rattle.lister_text.specs.Input.{listingBytes};
 use crate::lines::put_empty;
 use crate::lines::put_extent;
 use crate::lines::put_rows;
@@ -20,7 +21,7 @@ pub fn write_listing(
     out: &mut [u8],
 ) -> usize
     requires { ⌜ SomeTree extent nodes (now rows) (now chains) ⌝ }
-    requires { ⌜ 2 ^ 14 ≤ length (now out) ⌝ }
+    requires { ⌜ listingBytes ≤ length (now out) ⌝ }
     ensures { λ r. ⌜ ((c : Covered) (t : Tree Extent) → Told c t extent nodes (now (rows .entry)) (now (chains .entry))
         → Wrote (now (out .entry)) 0 (extentLine c ++ rowLines (rowsOf t) (chainsOf t)) (now (out .exit)) r) ⌝ }
 {

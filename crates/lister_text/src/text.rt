@@ -27,16 +27,14 @@ pub fn put_text(out: &mut [u8], at: usize, text: &[u8]) -> usize
     next
 }
 
-// The digits before the last one, then the last.
+// The digits of a number.
 pub fn put_decimal(out: &mut [u8], at: usize, n: u64) -> usize
     requires { ⌜ (n < 10 ^ 14) × (at + length (decimal n) ≤ length (now out)) ⌝ }
     ensures { λ r. ⌜ Wrote (now (out .entry)) at (decimal n) (now (out .exit)) r ⌝ }
 {
-    if n < 10 {
-        return put_byte(out, at, (48 + n) as u8);
-    }
-    let next = put_decimal(out, at, n / 10);
-    put_byte(out, next, (48 + n % 10) as u8)
+    let mut digits = [0u8; 20];
+    let size = io::decimal(n, &mut digits);
+    put_text(out, at, &digits[..size])
 }
 
 // A minus sign before what lies below zero.

@@ -12,7 +12,7 @@ use Rattle.rules.specs.Number.{finite, xAt, yAt}
 use Rattle.rules.specs.Outcome.{done}
 use Rattle.rules.specs.Walk.{tip, after}
 use Rattle.rules.specs.Flow.{Flow, Gap, length²}
-use Rattle.rules.specs.ManyBody.{Charge, leafCharge, gapTo, far, alone, actNear, meetNode, manyBodyStep, standard}
+use Rattle.rules.specs.ManyBody.{Charge, leafCharge, gapTo, far, alone, actNear, manyBodyStep, standard}
 use Rattle.many_body.proofs.OwnLeaf.{own-length, square-unsigned, never-far}
 
 -- ---- a particle alone in its own leaf
@@ -26,7 +26,7 @@ module _ (t : Tuning) (strengths : List Float) (alpha : Float) (i : ℕ) (is : L
   -- So a walk that meets the leaf near goes on with the velocities and the draws as they were.
   pub alone-met : (at : List Float) (c : Extent) (q : Charge) (σ : Flow) → far t c (length² (gapTo at i q)) ≡ false
       → manyBodyStep t at strengths alpha i (tip (c, q) is) σ ≡ done (after σ Continue)
-  unfolding manyBodyStep meetNode
+  unfolding manyBodyStep
   alone-met at c q σ e = rw (e, alone-near (gapTo at i q) (length² (gapTo at i q)) σ)
 
 -- With the standard settings its own leaf is never far. So whatever the cell, a particle alone there draws nothing.

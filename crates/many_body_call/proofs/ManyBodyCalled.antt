@@ -1,6 +1,6 @@
 -- ManyBody called alone: how its checks are answered, and what its run is.
 use mathlib.Core.Path.{_≡_, sym, ap, _∙_}
-use mathlib.Core.Bool.{Bool, true, _&&_}
+use mathlib.Core.Bool.{Bool, _&&_}
 use mathlib.Core.List.{List, [], _∷_}
 use Prim.Native.Nat.{ℕ, _/_}
 use lib.ListN.{length}
@@ -9,39 +9,38 @@ use Rattle.rules.specs.declared.Refusal.{Refusal}
 use Rattle.rules.specs.declared.Tuning.{Tuning}
 use Rattle.rules.specs.Outcome.{Outcome, Check, fine, _then_, refusalOf}
 use Rattle.rules.specs.Number.{within, drawRange}
-use Rattle.rules.specs.Refusal.{countCheck, lengthsCheck, drawsCheck, settingsCheck, strengthsCheck}
+use Rattle.rules.specs.Refusal.{mostParticles, countCheck, lengthsCheck, drawsCheck, settingsCheck, strengthsCheck, coordinatesCheck, velocitiesCheck}
 use Rattle.rules.specs.Walk.{Counted}
 use Rattle.rules.specs.Flow.{Flow}
 use Rattle.rules.specs.ManyBody.{standard, runManyBody}
 use Rattle.rules.specs.Force.{manyBody, pushLengths, run}
-use Rattle.rules.specs.Calls.{ForceInput, count, inputLengths}
+use Rattle.rules.specs.Calls.{ForceInput, noEnds, count, inputLengths, lentCheck, numbersCheck}
 use Rattle.rules.proofs.RefusalLaws.{of-all}
-use Rattle.rules.proofs.RefusalNumbers.{five, count-early}
-use Rattle.list_checks.specs.Checks.{coordinatesCheck, velocitiesCheck, firstOf}
-use Rattle.force_call.specs.Calls.{lentCheck, numbersCheck}
-use Rattle.list_checks.proofs.Scans.{first-then, points-early}
+use Rattle.rules.proofs.RefusalNumbers.{five, count-early, points-early}
+use Rattle.list_checks.specs.Checks.{firstOf}
+use Rattle.list_checks.proofs.Scans.{first-then}
 use Rattle.list_checks.proofs.Checks.{then-fine, first-four}
 
 -- ---- the answers
 
 -- 1 and 2
 pub lent-answer : (l : ForceInput) (ss : List Float) (particles lengths r : Refusal) (agree : Bool)
-    → particles ≡ refusalOf (countCheck 4096 (count l))
-    → agree ≡ inputLengths l && true && pushLengths (count l) (manyBody ss)
+    → particles ≡ refusalOf (countCheck mostParticles (count l))
+    → agree ≡ inputLengths l && noEnds && pushLengths (count l) (manyBody ss)
     → lengths ≡ refusalOf (lengthsCheck agree)
     → r ≡ firstOf particles lengths
-    → r ≡ refusalOf (lentCheck l (manyBody ss) true)
+    → r ≡ refusalOf (lentCheck l (manyBody ss) noEnds)
 lent-answer l ss particles lengths r agree e1 e2 e3 e4 =
-    e4 ∙ rw (e3, e2, e1) (first-then many sizes (count-early 4096 (count l)) ∙ ap refusalOf (sym alone))
+    e4 ∙ rw (e3, e2, e1) (first-then many sizes (count-early mostParticles (count l)) ∙ ap refusalOf (sym alone))
   where
     many : Check
-    many = countCheck 4096 (count l)
+    many = countCheck mostParticles (count l)
 
     sizes : Check
-    sizes = lengthsCheck (inputLengths l && true && pushLengths (count l) (manyBody ss))
+    sizes = lengthsCheck (inputLengths l && noEnds && pushLengths (count l) (manyBody ss))
 
     -- ManyBody has no checks of its own behind 1 and 3
-    alone : lentCheck l (manyBody ss) true ≡ many then sizes
+    alone : lentCheck l (manyBody ss) noEnds ≡ many then sizes
     alone = then-fine (many then fine then sizes) ∙ ap (λ (c : Check). c then sizes) (then-fine many)
 
 -- 4 and 5
@@ -54,7 +53,7 @@ pub numbers-answer : (places vs ss draws : List Float) (alpha : Float) (points s
     → all ≡ firstOf both more
     → setting ≡ refusalOf (settingsCheck (alpha ∷ []))
     → r ≡ firstOf all setting
-    → r ≡ refusalOf (numbersCheck places vs (manyBody ss) draws (alpha ∷ []))
+    → r ≡ refusalOf (numbersCheck places vs (manyBody ss) draws alpha)
 numbers-answer places vs ss draws alpha points some both more all setting r k e1 e2 e3 e4 e5 e6 e7 =
     e7
     ∙ rw (e6, e5, e4, e3, e2, e1, k)
@@ -70,6 +69,6 @@ numbers-answer places vs ss draws alpha points some both more all setting r k e1
 -- ---- the run
 
 pub many-body-runs : (o : Outcome (Counted Flow)) (t : Tuning) (at ss : List Float) (alpha : Float) (slots : ℕ) (m : Counted Flow) → t ≡ standard
-    → o ≡ runManyBody t at ss alpha slots m → o ≡ run (manyBody ss) at alpha slots m
+    → o ≡ runManyBody t at ss alpha slots m → o ≡ run standard (manyBody ss) at alpha slots m
 unfolding run
 many-body-runs o t at ss alpha slots m et e = e ∙ ap (λ (t : Tuning). runManyBody t at ss alpha slots m) et

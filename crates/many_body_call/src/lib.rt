@@ -12,21 +12,25 @@ use list_checks::strengths_check;
 use many_body::many_body::many_body;
 use many_body::standard;
 use rules::Counts;
+use rules::MOST_PARTICLES;
+use rules::PAIR_SIZE;
+use rules::Progress;
 use rules::Refusal;
-use tree_slots::Quadtree;
 ghost use mathlib.Core.Path.{_≡_};
-ghost use mathlib.Core.Bool.{true, _&&_};
-ghost use mathlib.Core.List.{[], _∷_};
+ghost use mathlib.Core.Bool.{_&&_};
+ghost use mathlib.Core.List.{[]};
 ghost use Prim.Native.Nat.{_*_, _/_};
 ghost use lib.ListN.{length};
 ghost use Rattle.rules.specs.Outcome.{fine, refusalOf};
+ghost use Rattle.rules.specs.Sheet.{pairSize};
 ghost use Rattle.rules.specs.Force.{manyBody, pushLengths};
-ghost use Rattle.rules.specs.Calls.{inputLengths, manyBodyResult};
-ghost use Rattle.force_call.specs.Calls.{lent, lentCheck, numbersCheck, Answered};
+ghost use Rattle.rules.specs.Calls.{noEnds, inputLengths, manyBodyResult, lentCheck, numbersCheck};
+ghost use Rattle.force_call.specs.Calls.{lent, AfterForce};
 
 // Whole pairs of places, velocities within the buffer, and a strength for each particle.
 fn lengths_agree(places: &[f64], buffer: &[u8], start: usize, strengths: &[f64]) -> bool
-    ensures { λ r. ⌜ r ≡ inputLengths (lent (now (places .entry)) (now (buffer .entry)) start [] []) && true && pushLengths (length (now (places .entry)) / 2) (manyBody (now (strengths .entry))) ⌝ }
+    ensures { λ r. ⌜ r ≡ inputLengths (lent (now (places .entry)) (now (buffer .entry)) start [] []) && noEnds
+        && pushLengths (length (now (places .entry)) / 2) (manyBody (now (strengths .entry))) ⌝ }
 {
     if !input_lengths(places, buffer, start) {
         return false;
@@ -36,10 +40,10 @@ fn lengths_agree(places: &[f64], buffer: &[u8], start: usize, strengths: &[f64])
 
 // 1 and 2.
 fn lent_check(places: &[f64], buffer: &[u8], start: usize, strengths: &[f64]) -> Refusal
-    ensures { λ r. ⌜ r ≡ refusalOf (lentCheck (lent (now (places .entry)) (now (buffer .entry)) start [] []) (manyBody (now (strengths .entry))) true) ⌝ }
+    ensures { λ r. ⌜ r ≡ refusalOf (lentCheck (lent (now (places .entry)) (now (buffer .entry)) start [] []) (manyBody (now (strengths .entry))) noEnds) ⌝ }
 {
     first(
-        count_check(Quadtree::MOST_PARTICLES, places.len() / 2),
+        count_check(MOST_PARTICLES, places.len() / 2),
         lengths_check(lengths_agree(places, buffer, start, strengths)),
     )
 }
@@ -53,7 +57,7 @@ fn numbers_check(
     alpha: f64,
 ) -> Refusal
     requires { ⌜ length (now speeds) ≡ length (now places) ⌝ }
-    ensures { λ r. ⌜ r ≡ refusalOf (numbersCheck (now (places .entry)) (now (speeds .entry)) (manyBody (now (strengths .entry))) (now (draws .entry)) (alpha ∷ [])) ⌝ }
+    ensures { λ r. ⌜ r ≡ refusalOf (numbersCheck (now (places .entry)) (now (speeds .entry)) (manyBody (now (strengths .entry))) (now (draws .entry)) alpha) ⌝ }
 {
     let points = points_check(places, speeds);
     let lists = first(
@@ -75,24 +79,29 @@ fn on_part(
     draws: &[f64],
     work: &mut [u64],
 ) -> Counts
-    requires { ⌜ (lentCheck (lent (now places) (now part) 0 [] []) (manyBody (now strengths)) true ≡ fine) × (length (now part) ≡ length (now places) / 2 * 16) × (length (now speeds) ≡ length (now places)) × (length (now next) ≡ length (now places) / 2) × (length (now tail) ≡ length (now places) / 2) ⌝ }
-    ensures { λ r. ⌜ Answered (lent (now (places .entry)) (now (part .entry)) 0 (now (draws .entry)) (now (work .entry))) (manyBodyResult (lent (now (places .entry)) (now (part .entry)) 0 (now (draws .entry)) (now (work .entry))) (now (strengths .entry)) alpha) r (now (part .exit)) (now (work .exit)) ⌝ }
+    requires { ⌜ (lentCheck (lent (now places) (now part) 0 [] []) (manyBody (now strengths)) noEnds ≡ fine) × (length (now part) ≡ length (now places) / 2 * pairSize)
+        × (length (now speeds) ≡ length (now places)) × (length (now next) ≡ length (now places) / 2) × (length (now tail) ≡ length (now places) / 2) ⌝ }
+    ensures { λ r. ⌜ (let l = lent (now (places .entry)) (now (part .entry)) 0 (now (draws .entry)) (now (work .entry)) in
+        AfterForce l (manyBodyResult l (now (strengths .entry)) alpha) r (now (part .exit)) (now (work .exit))) ⌝ }
 {
-    sheet::read_pairs(part, 16, 0, speeds);
+    sheet::read_pairs(part, PAIR_SIZE, 0, speeds);
     let r = numbers_check(places, speeds, strengths, draws, alpha);
     let number = r.number;
     if number != 0 {
         return refused(r);
     }
+    let p = Progress {
+        alpha,
+        used: 0,
+        visits: 0,
+    };
     let ran = many_body(
         standard(),
         places,
         speeds,
         strengths,
-        alpha,
         draws,
-        0,
-        0,
+        p,
         next,
         tail,
         work,
@@ -109,14 +118,15 @@ fn with_lists(
     draws: &[f64],
     work: &mut [u64],
 ) -> Counts
-    requires { ⌜ (lentCheck (lent (now places) (now part) 0 [] []) (manyBody (now strengths)) true ≡ fine) × (length (now part) ≡ length (now places) / 2 * 16) ⌝ }
-    ensures { λ r. ⌜ Answered (lent (now (places .entry)) (now (part .entry)) 0 (now (draws .entry)) (now (work .entry))) (manyBodyResult (lent (now (places .entry)) (now (part .entry)) 0 (now (draws .entry)) (now (work .entry))) (now (strengths .entry)) alpha) r (now (part .exit)) (now (work .exit)) ⌝ }
+    requires { ⌜ (lentCheck (lent (now places) (now part) 0 [] []) (manyBody (now strengths)) noEnds ≡ fine) × (length (now part) ≡ length (now places) / 2 * pairSize) ⌝ }
+    ensures { λ r. ⌜ (let l = lent (now (places .entry)) (now (part .entry)) 0 (now (draws .entry)) (now (work .entry)) in
+        AfterForce l (manyBodyResult l (now (strengths .entry)) alpha) r (now (part .exit)) (now (work .exit))) ⌝ }
 {
     let pairs = places.len();
-    let n = places.len() / 2;
-    let mut speeds = [0.0f64; 2 * Quadtree::MOST_PARTICLES];
-    let mut next = [0u32; Quadtree::MOST_PARTICLES];
-    let mut tail = [0u32; Quadtree::MOST_PARTICLES];
+    let n = pairs / 2;
+    let mut speeds = [0.0f64; 2 * MOST_PARTICLES];
+    let mut next = [0u32; MOST_PARTICLES];
+    let mut tail = [0u32; MOST_PARTICLES];
     on_part(
         places,
         part,
@@ -140,14 +150,15 @@ pub fn many_body_call(
     draws: &[f64],
     work: &mut [u64],
 ) -> Counts
-    ensures { λ r. ⌜ Answered (lent (now (places .entry)) (now (buffer .entry)) start (now (draws .entry)) (now (work .entry))) (manyBodyResult (lent (now (places .entry)) (now (buffer .entry)) start (now (draws .entry)) (now (work .entry))) (now (strengths .entry)) alpha) r (now (buffer .exit)) (now (work .exit)) ⌝ }
+    ensures { λ r. ⌜ (let l = lent (now (places .entry)) (now (buffer .entry)) start (now (draws .entry)) (now (work .entry)) in
+        AfterForce l (manyBodyResult l (now (strengths .entry)) alpha) r (now (buffer .exit)) (now (work .exit))) ⌝ }
 {
     let r = lent_check(places, buffer, start, strengths);
     let number = r.number;
     if number != 0 {
         return refused(r);
     }
-    let end = start + places.len() / 2 * 16;
+    let end = start + places.len() / 2 * PAIR_SIZE;
     let part = &mut buffer[start..end];
     with_lists(places, part, strengths, alpha, draws, work)
 }

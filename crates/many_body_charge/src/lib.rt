@@ -12,9 +12,10 @@ ghost use Prim.Native.Nat.{_+_, _*_, _≤_, _<_};
 ghost use lib.ListN.{length};
 ghost use Rattle.rules.specs.Plain.{foldl};
 ghost use Rattle.rules.specs.Number.{_⊗_};
+ghost use Rattle.rules.specs.Calls.{slotWords};
 ghost use Rattle.rules.specs.ManyBody.{withChild, nodeCharge, leafCharge};
 ghost use Rattle.tree_slots.specs.Trees.{Stands};
-ghost use Rattle.tree_walk.specs.WalkAfter.{Lent, KidsLent, valuesAt, kidValues};
+ghost use Rattle.tree_walk.specs.WalkAfter.{KidIn, KidsIn, valuesAt, kidValues};
 ghost use Rattle.many_body_chains.specs.Chain.{Chain};
 ghost use Rattle.many_body_charge.specs.Charge.{chargeOf, sumsOf, readCharge, putCharge, Charged};
 
@@ -48,7 +49,7 @@ fn leaf_charge(at: &[f64], strengths: &[f64], next: &[u32], f: usize) -> Charge
 }
 
 pub fn charge_at(m: &[u64], s: usize) -> Charge
-    requires { ⌜ s * 8 + 8 ≤ length (now m) ⌝ }
+    requires { ⌜ s * slotWords + slotWords ≤ length (now m) ⌝ }
     ensures { λ r. ⌜ chargeOf r ≡ readCharge (now (m .entry)) s ⌝ }
 {
     let x = store::node_value(m, s, 0);
@@ -58,7 +59,7 @@ pub fn charge_at(m: &[u64], s: usize) -> Charge
 }
 
 fn put_charge(m: &mut [u64], s: usize, q: Charge)
-    requires { ⌜ s * 8 + 8 ≤ length (now m) ⌝ }
+    requires { ⌜ s * slotWords + slotWords ≤ length (now m) ⌝ }
     ensures { λ _. ⌜ now (m .exit) ≡ putCharge (now (m .entry)) s (chargeOf q) ⌝ }
 {
     store::put_value(m, s, 0, q.x);
@@ -88,7 +89,7 @@ fn with_child(s: Sums, q: Charge) -> Sums
 
 // The same where there is a child.
 fn with_link(m: &[u64], child: u32, s: Sums) -> Sums
-    requires { ⌜ Lent (now m) child ⌝ }
+    requires { ⌜ KidIn (now m) child ⌝ }
     ensures { λ r. ⌜ sumsOf r ≡ foldl withChild (sumsOf s) (valuesAt readCharge (now (m .entry)) child) ⌝ }
 {
     if child == 0 {
@@ -99,7 +100,7 @@ fn with_link(m: &[u64], child: u32, s: Sums) -> Sums
 
 // The centre of the children, by weight.
 fn node_charge(m: &[u64], s: usize) -> Charge
-    requires { ⌜ (s * 8 + 8 ≤ length (now m)) × KidsLent (now m) s ⌝ }
+    requires { ⌜ (s * slotWords + slotWords ≤ length (now m)) × KidsIn (now m) s ⌝ }
     ensures { λ r. ⌜ chargeOf r ≡ nodeCharge (kidValues readCharge (now (m .entry)) s) ⌝ }
 {
     let children = store::children(m, s);

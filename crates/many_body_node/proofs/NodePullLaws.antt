@@ -17,33 +17,33 @@ use Rattle.rules.specs.Outcome.{Outcome, done, refused, refusal, _>>=_}
 use Rattle.rules.specs.Number.{_⊕_, _⊗_, _⊘_}
 use Rattle.rules.specs.Walk.{internal, tip, After, after}
 use Rattle.rules.specs.Flow.{Flow, flow, Gap, gap, length², pushed}
-use Rattle.rules.specs.ManyBody.{Charge, far, alone, pullWhole, pullMembers, acted, actFar, actNear, meetNode, gapTo, manyBodyStep}
+use Rattle.rules.specs.ManyBody.{Charge, far, alone, pullWhole, pullMembers, acted, actFar, actNear, gapTo, manyBodyStep}
 use Rattle.tree_slots.specs.Trees.{Follows, first}
 use Rattle.force.specs.declared.draws.Spent.{Spent}
 use Rattle.many_body_pulls.specs.declared.aim.Aim.{Aim}
 use Rattle.many_body_pulls.specs.Aims.{aimed, aimOf}
 use Rattle.many_body_pulls.proofs.AimLaws.{acted-dry, acted-on}
-use Rattle.many_body_node.specs.declared.Met.{Met}
+use Rattle.many_body_node.specs.declared.NodeLeft.{NodeLeft}
 use Rattle.force.specs.Draws.{spentOf}
 use Rattle.many_body_chains.specs.Chain.{Chain}
-use Rattle.many_body_node.specs.NodePull.{metOf}
+use Rattle.many_body_node.specs.NodePull.{nodeLeftOf}
 
 -- ---- a far cell
 
 module _ (t : Tuning) (alpha : Float) (i : ℕ) (q : Charge) (g : Gap) (l : Float) (vs left : List Float) where
-  pub far-none : lt l (t .greatest2) ≡ false → done (flow vs left) ≡ actFar t [] alpha i q g l (flow vs left)
+  pub far-none : lt l (t .greatest2) ≡ false → done (flow vs left) ≡ actFar t alpha i q g l (flow vs left)
   unfolding actFar
   far-none e = rw e
 
   module _ (ds : List Float) (a : Aim) (h : lt l (t .greatest2) ≡ true) (e : aimOf ds a ≡ aimed t g l left) where
-    pub far-dry : a .dry ≡ true → refused (refusal 8 0) ≡ actFar t [] alpha i q g l (flow vs left)
+    pub far-dry : a .dry ≡ true → refused (refusal 8 0) ≡ actFar t alpha i q g l (flow vs left)
     unfolding actFar
-    far-dry d = rw (h, ← acted-dry t [] alpha i (pullWhole t [] alpha i (q .strength)) g l vs left ds a e d)
+    far-dry d = rw (h, ← acted-dry t (pullWhole alpha i (q .strength)) g l vs left ds a e d)
 
     pub far-on : a .dry ≡ false → {ws : List Float} → ws ≡ pushed _⊕_ vs i (a .x ⊗ q .strength ⊗ alpha ⊘ a .l) (a .y ⊗ q .strength ⊗ alpha ⊘ a .l)
-        → done (flow ws (drop (a .used) ds)) ≡ actFar t [] alpha i q g l (flow vs left)
+        → done (flow ws (drop (a .used) ds)) ≡ actFar t alpha i q g l (flow vs left)
     unfolding actFar pullWhole
-    far-on d p = rw (h, ← acted-on t [] alpha i (pullWhole t [] alpha i (q .strength)) g l vs left ds a e d p)
+    far-on d p = rw (h, ← acted-on t (pullWhole alpha i (q .strength)) g l vs left ds a e d p)
 
 -- ---- a near leaf
 
@@ -57,18 +57,18 @@ module _ (t : Tuning) (strengths : List Float) (alpha : Float) (i : ℕ) (g : Ga
   unfolding actNear
   near-beyond is σ e = rw e (go (alone i is))
     where
-      go : (b : Bool) → done σ ≡ branch (b || true) (λ _. done σ) (λ _. acted t strengths alpha i (pullMembers t strengths alpha i is) g l σ)
+      go : (b : Bool) → done σ ≡ branch (b || true) (λ _. done σ) (λ _. acted t (pullMembers strengths alpha i is) g l σ)
       go true = refl
       go false = refl
 
   module _ (is : List ℕ) (vs left ds : List Float) (a : Aim) (n : alone i is ≡ false) (h : le (t .greatest2) l ≡ false) (e : aimOf ds a ≡ aimed t g l left) where
     pub near-dry : a .dry ≡ true → refused (refusal 8 0) ≡ actNear t strengths alpha i is g l (flow vs left)
     unfolding actNear
-    near-dry d = rw (n, h, ← acted-dry t strengths alpha i (pullMembers t strengths alpha i is) g l vs left ds a e d)
+    near-dry d = rw (n, h, ← acted-dry t (pullMembers strengths alpha i is) g l vs left ds a e d)
 
-    pub near-on : a .dry ≡ false → {ws : List Float} → ws ≡ pullMembers t strengths alpha i is (gap (a .x) (a .y)) (a .l) vs → done (flow ws (drop (a .used) ds)) ≡ actNear t strengths alpha i is g l (flow vs left)
+    pub near-on : a .dry ≡ false → {ws : List Float} → ws ≡ pullMembers strengths alpha i is (gap (a .x) (a .y)) (a .l) vs → done (flow ws (drop (a .used) ds)) ≡ actNear t strengths alpha i is g l (flow vs left)
     unfolding actNear
-    near-on d p = rw (n, h, ← acted-on t strengths alpha i (pullMembers t strengths alpha i is) g l vs left ds a e d p)
+    near-on d p = rw (n, h, ← acted-on t (pullMembers strengths alpha i is) g l vs left ds a e d p)
 
 -- whether a chain's first particle is alone in it
 module _ {next : List ℕ} {n f : ℕ} (i : ℕ) (h : Chain next n f) where
@@ -90,58 +90,44 @@ module _ {next : List ℕ} {n f : ℕ} (i : ℕ) (h : Chain next n f) where
 
 -- ---- a node
 
--- a far cell acts with its own strength alone
-any-strengths : (t : Tuning) (strengths : List Float) (alpha : Float) (i : ℕ) (q : Charge) (g : Gap) (l : Float) (σ : Flow) → actFar t [] alpha i q g l σ ≡ actFar t strengths alpha i q g l σ
-unfolding actFar pullWhole
-any-strengths t strengths alpha i q g l σ = refl
+-- what was spent there, and how the walk goes on
+spent-left : (vs ds : List Float) (a : Spent) (v : Visit) → nodeLeftOf vs ds (record { used = a .used; dry = a .dry; visit = v }) ≡ spentOf vs ds a >>= λ σ. done (after σ v)
+unfolding nodeLeftOf spentOf
+spent-left vs ds a v = go (a .dry)
+  where
+    go : (b : Bool) → cond b (refused (refusal 8 0)) (done (after (flow vs (drop (a .used) ds)) v)) ≡ cond b (refused (refusal 8 0)) (done (flow vs (drop (a .used) ds))) >>= λ σ. done (after σ v)
+    go true = refl
+    go false = refl
 
-module _ (t : Tuning) (strengths : List Float) (alpha : Float) (i : ℕ) (c : Extent) (q : Charge) (g : Gap) (near : Gap → Float → Flow → Outcome Flow) (σ : Flow) (vs ds : List Float) (a : Spent) where
-  pub meet-far : far t c (length² g) ≡ true → spentOf vs ds a ≡ actFar t [] alpha i q g (length² g) σ → metOf vs ds (record { used = a .used; dry = a .dry; visit = Skip }) ≡ meetNode t strengths alpha i c q g near σ
-  unfolding meetNode metOf spentOf
-  meet-far e h = rw e (sym (ap (λ (o : Outcome Flow). o >>= λ σ. done (after σ Skip)) (sym (h ∙ any-strengths t strengths alpha i q g (length² g) σ)) ∙ go (a .dry)))
-    where
-      go : (b : Bool) → (cond b (refused (refusal 8 0)) (done (flow vs (drop (a .used) ds))) >>= λ σ. done (after σ Skip)) ≡ cond b (refused (refusal 8 0)) (done (after (flow vs (drop (a .used) ds)) Skip))
-      go true = refl
-      go false = refl
-
-  pub meet-near : far t c (length² g) ≡ false → spentOf vs ds a ≡ near g (length² g) σ → metOf vs ds (record { used = a .used; dry = a .dry; visit = Continue }) ≡ meetNode t strengths alpha i c q g near σ
-  unfolding meetNode metOf spentOf
-  meet-near e h = rw (e, ← h) (go (a .dry))
-    where
-      go : (b : Bool) → cond b (refused (refusal 8 0)) (done (after (flow vs (drop (a .used) ds)) Continue)) ≡ (cond b (refused (refusal 8 0)) (done (flow vs (drop (a .used) ds))) >>= λ σ. done (after σ Continue))
-      go true = refl
-      go false = refl
-
--- ---- the step at a node whose charge was read as p
-
-module _ (t : Tuning) (at strengths : List Float) (alpha : Float) (i : ℕ) (c : Extent) (p q : Charge) (same : p ≡ q) (σ : Flow) (vs ds : List Float) (a : Spent) where
+-- the step at a node whose charge was read as p
+module _ (t : Tuning) (at strengths : List Float) (alpha : Float) (i : ℕ) (c : Extent) (p q : Charge) (same : p ≡ q) (σ : Flow) where
   -- a far cell, internal or a leaf
-  module _ (far! : far t c (length² (gapTo at i p)) ≡ true) (h : spentOf vs ds a ≡ actFar t [] alpha i p (gapTo at i p) (length² (gapTo at i p)) σ) where
-    pub far-inner : metOf vs ds (record { used = a .used; dry = a .dry; visit = Skip }) ≡ manyBodyStep t at strengths alpha i (internal (c, q)) σ
+  module _ (vs ds : List Float) (a : Spent) (far! : far t c (length² (gapTo at i p)) ≡ true) (h : spentOf vs ds a ≡ actFar t alpha i p (gapTo at i p) (length² (gapTo at i p)) σ) where
+    pub far-inner : nodeLeftOf vs ds (record { used = a .used; dry = a .dry; visit = Skip }) ≡ manyBodyStep t at strengths alpha i (internal (c, q)) σ
     unfolding manyBodyStep
-    far-inner = rw (← same) (meet-far t strengths alpha i c p (gapTo at i p) (λ g l σ. done σ) σ vs ds a far! h)
+    far-inner = rw (← same, far!, ← h) (spent-left vs ds a Skip)
 
-    pub far-leaf : (is : List ℕ) → metOf vs ds (record { used = a .used; dry = a .dry; visit = Skip }) ≡ manyBodyStep t at strengths alpha i (tip (c, q) is) σ
+    pub far-leaf : (is : List ℕ) → nodeLeftOf vs ds (record { used = a .used; dry = a .dry; visit = Skip }) ≡ manyBodyStep t at strengths alpha i (tip (c, q) is) σ
     unfolding manyBodyStep
-    far-leaf is = rw (← same) (meet-far t strengths alpha i c p (gapTo at i p) (actNear t strengths alpha i is) σ vs ds a far! h)
+    far-leaf is = rw (← same, far!, ← h) (spent-left vs ds a Skip)
 
   module _ (near! : far t c (length² (gapTo at i p)) ≡ false) where
-    pub near-inner : spentOf vs ds a ≡ done σ → metOf vs ds (record { used = a .used; dry = a .dry; visit = Continue }) ≡ manyBodyStep t at strengths alpha i (internal (c, q)) σ
+    pub near-inner : done (after σ Continue) ≡ manyBodyStep t at strengths alpha i (internal (c, q)) σ
     unfolding manyBodyStep
-    near-inner h = rw (← same) (meet-near t strengths alpha i c p (gapTo at i p) (λ g l σ. done σ) σ vs ds a near! h)
+    near-inner = rw (← same, near!)
 
-    pub near-leaf : (is : List ℕ) → spentOf vs ds a ≡ actNear t strengths alpha i is (gapTo at i p) (length² (gapTo at i p)) σ
-        → metOf vs ds (record { used = a .used; dry = a .dry; visit = Continue }) ≡ manyBodyStep t at strengths alpha i (tip (c, q) is) σ
+    pub near-leaf : (vs ds : List Float) (a : Spent) (is : List ℕ) → spentOf vs ds a ≡ actNear t strengths alpha i is (gapTo at i p) (length² (gapTo at i p)) σ
+        → nodeLeftOf vs ds (record { used = a .used; dry = a .dry; visit = Continue }) ≡ manyBodyStep t at strengths alpha i (tip (c, q) is) σ
     unfolding manyBodyStep
-    near-leaf is h = rw (← same) (meet-near t strengths alpha i c p (gapTo at i p) (actNear t strengths alpha i is) σ vs ds a near! h)
+    near-leaf vs ds a is h = rw (← same, near!, ← h) (spent-left vs ds a Continue)
 
--- ---- what a node that was met leaves
+-- ---- what a node leaves
 
-module _ (vs ds : List Float) (r : Met) {o : Outcome (After Flow)} (e : metOf vs ds r ≡ o) where
-  pub met-dry : r .dry ≡ true → o ≡ refused (refusal 8 0)
-  unfolding metOf
-  met-dry d = sym e ∙ rw d
+module _ (vs ds : List Float) (r : NodeLeft) {o : Outcome (After Flow)} (e : nodeLeftOf vs ds r ≡ o) where
+  pub node-dry : r .dry ≡ true → o ≡ refused (refusal 8 0)
+  unfolding nodeLeftOf
+  node-dry d = sym e ∙ rw d
 
-  pub met-on : r .dry ≡ false → {v : Visit} → r .visit ≡ v → o ≡ done (after (flow vs (drop (r .used) ds)) v)
-  unfolding metOf
-  met-on d k = sym e ∙ rw (d, k)
+  pub node-on : r .dry ≡ false → {v : Visit} → r .visit ≡ v → o ≡ done (after (flow vs (drop (r .used) ds)) v)
+  unfolding nodeLeftOf
+  node-on d k = sym e ∙ rw (d, k)

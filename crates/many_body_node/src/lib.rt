@@ -1,31 +1,31 @@
 // ManyBody for one particle at one node: a far cell pulls it as a whole, the members of a near leaf one by one.
-use many_body_charge::Charge;
-use many_body_charge::charge_at;
 use force::Spent;
 use force::push_on;
-use number::index;
+use many_body_charge::Charge;
+use many_body_charge::charge_at;
 use many_body_pulls::pull_members;
 use many_body_pulls::take_aim;
+use number::index;
 use rules::Extent;
 use rules::Tuning;
 use rules::Visit;
 use tree_slots::store;
 ghost use mathlib.Core.Path.{_≡_};
-ghost use mathlib.Core.List.{[]};
 ghost use Prim.Native.Nat.{ℕ, _+_, _*_, _-_, _≤_, _<_};
 ghost use lib.ListN.{length, drop};
 ghost use Rattle.rules.specs.Refusal.{mostParticles};
 ghost use Rattle.rules.specs.Flow.{gap, flow};
 ghost use Rattle.rules.specs.ManyBody as Rule;
 ghost use Rattle.rules.specs.Walk.{internal, tip};
+ghost use Rattle.rules.specs.Calls.{slotWords};
 ghost use Rattle.tree_slots.specs.Trees.{word};
 ghost use Rattle.force.specs.Draws.{spentOf, From};
 ghost use Rattle.many_body_chains.specs.Chain.{Chain};
-ghost use Rattle.many_body_charge.specs.Charge.{chargeOf, readCharge};
-ghost use Rattle.many_body_node.specs.NodePull.{metOf, Bodies};
+ghost use Rattle.many_body_charge.specs.Charge.{chargeOf};
+ghost use Rattle.many_body_node.specs.NodePull.{Bodies, nodeAt, nodeLeftOf};
 
-// What a node that was met leaves.
-pub struct Met {
+// What a node leaves.
+pub struct NodeLeft {
     pub used: usize,
     pub dry: bool,
     pub visit: Visit,
@@ -53,7 +53,8 @@ fn act_far(
     used: usize,
 ) -> Spent
     requires { ⌜ (i * 2 + 1 < length (now vs)) × (used ≤ length (now draws)) ⌝ }
-    ensures is { λ r. ⌜ spentOf (now (vs .exit)) (now (draws .entry)) r ≡ Rule.actFar t [] alpha i (chargeOf q) (gap x y) l (flow (now (vs .entry)) (drop used (now (draws .entry)))) ⌝ }
+    ensures is { λ r. ⌜ spentOf (now (vs .exit)) (now (draws .entry)) r
+        ≡ Rule.actFar t alpha i (chargeOf q) (gap x y) l (flow (now (vs .entry)) (drop used (now (draws .entry)))) ⌝ }
     ensures from { λ r. ⌜ From (now (draws .entry)) used (r .used) ⌝ }
 {
     if l < t.greatest2 {
@@ -107,8 +108,10 @@ fn act_near(
     draws: &[f64],
     used: usize,
 ) -> Spent
-    requires { ⌜ (i * 2 + 1 < length (now vs)) × Chain (now next) (length (now strengths)) f × (length (now next) ≡ length (now strengths)) × (length (now strengths) ≤ mostParticles) × (used ≤ length (now draws)) ⌝ }
-    ensures is { λ r. ⌜ ((h : Chain (now (next .entry)) (length (now (strengths .entry))) f) → spentOf (now (vs .exit)) (now (draws .entry)) r ≡ Rule.actNear t (now (strengths .entry)) alpha i (h .members) (gap x y) l (flow (now (vs .entry)) (drop used (now (draws .entry))))) ⌝ }
+    requires { ⌜ (i * 2 + 1 < length (now vs)) × Chain (now next) (length (now strengths)) f × (length (now next) ≡ length (now strengths))
+        × (length (now strengths) ≤ mostParticles) × (used ≤ length (now draws)) ⌝ }
+    ensures is { λ r. ⌜ ((h : Chain (now (next .entry)) (length (now (strengths .entry))) f) → spentOf (now (vs .exit)) (now (draws .entry)) r
+        ≡ Rule.actNear t (now (strengths .entry)) alpha i (h .members) (gap x y) l (flow (now (vs .entry)) (drop used (now (draws .entry))))) ⌝ }
     ensures from { λ r. ⌜ From (now (draws .entry)) used (r .used) ⌝ }
 {
     if is_alone(next, i, f) {
@@ -133,8 +136,8 @@ fn act_near(
     }
 }
 
-// The particle i meets the node at the slot s: a far cell acts whole and is skipped, in a near leaf the members act.
-pub fn meet(
+// The particle i at the node in the slot s: a far cell acts whole and is skipped, in a near leaf the members act.
+pub fn many_body_step(
     t: Tuning,
     at: &[f64],
     vs: &mut [f64],
@@ -147,11 +150,14 @@ pub fn meet(
     c: Extent,
     draws: &[f64],
     used: usize,
-) -> Met
-    requires { ⌜ Bodies (now at) (now vs) (now strengths) (now next) × (i < length (now strengths)) × (s * 8 + 8 ≤ length (now m)) × (used ≤ length (now draws)) ⌝ }
+) -> NodeLeft
+    requires { ⌜ Bodies (now at) (now vs) (now strengths) (now next) × (i < length (now strengths)) × (s * slotWords + slotWords ≤ length (now m)) × (used ≤ length (now draws)) ⌝ }
     requires { ⌜ ((word (now m) s 0 ≡ 0 → ⊥) → Chain (now next) (length (now strengths)) (word (now m) s 0 - 1)) ⌝ }
-    ensures inner { λ r. ⌜ (word (now (m .entry)) s 0 ≡ 0 → metOf (now (vs .exit)) (now (draws .entry)) r ≡ Rule.manyBodyStep t (now (at .entry)) (now (strengths .entry)) alpha i (internal (c, readCharge (now (m .entry)) s)) (flow (now (vs .entry)) (drop used (now (draws .entry))))) ⌝ }
-    ensures leaf { λ r. ⌜ ((word (now (m .entry)) s 0 ≡ 0 → ⊥) → (h : Chain (now (next .entry)) (length (now (strengths .entry))) (word (now (m .entry)) s 0 - 1)) → metOf (now (vs .exit)) (now (draws .entry)) r ≡ Rule.manyBodyStep t (now (at .entry)) (now (strengths .entry)) alpha i (tip (c, readCharge (now (m .entry)) s) (h .members)) (flow (now (vs .entry)) (drop used (now (draws .entry))))) ⌝ }
+    ensures inner { λ r. ⌜ (word (now (m .entry)) s 0 ≡ 0 → nodeLeftOf (now (vs .exit)) (now (draws .entry)) r
+        ≡ Rule.manyBodyStep t (now (at .entry)) (now (strengths .entry)) alpha i (internal (nodeAt (now (m .entry)) s c)) (flow (now (vs .entry)) (drop used (now (draws .entry))))) ⌝ }
+    ensures leaf { λ r. ⌜ ((word (now (m .entry)) s 0 ≡ 0 → ⊥) → (h : Chain (now (next .entry)) (length (now (strengths .entry))) (word (now (m .entry)) s 0 - 1))
+        → nodeLeftOf (now (vs .exit)) (now (draws .entry)) r
+        ≡ Rule.manyBodyStep t (now (at .entry)) (now (strengths .entry)) alpha i (tip (nodeAt (now (m .entry)) s c) (h .members)) (flow (now (vs .entry)) (drop used (now (draws .entry))))) ⌝ }
     ensures from { λ r. ⌜ From (now (draws .entry)) used (r .used) ⌝ }
 {
     let q = charge_at(m, s);
@@ -161,7 +167,7 @@ pub fn meet(
     let l = x * x + y * y;
     if is_far(t, c, l) {
         let a = act_far(t, vs, alpha, i, q, x, y, l, draws, used);
-        return Met {
+        return NodeLeft {
             used: a.used,
             dry: a.dry,
             visit: Visit::Skip,
@@ -169,7 +175,7 @@ pub fn meet(
     }
     let tag = store::tag(m, s);
     if tag == 0 {
-        return Met {
+        return NodeLeft {
             used,
             dry: false,
             visit: Visit::Continue,
@@ -177,7 +183,7 @@ pub fn meet(
     }
     let f = index(tag - 1);
     let a = act_near(t, vs, strengths, alpha, i, next, f, x, y, l, draws, used);
-    Met {
+    NodeLeft {
         used: a.used,
         dry: a.dry,
         visit: Visit::Continue,

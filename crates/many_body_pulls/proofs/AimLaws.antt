@@ -2,7 +2,6 @@
 use mathlib.Core.Path.{_≡_, refl, sym, ap, _∙_}
 use mathlib.Core.Bool.{Bool, true, false, cond}
 use mathlib.Core.List.{List}
-use Prim.Native.Nat.{ℕ}
 use lib.ListN.{drop}
 use lib.Ieee.{Float}
 use Rattle.rules.specs.declared.Tuning.{Tuning}
@@ -30,17 +29,17 @@ module _ (t : Tuning) (ds left : List Float) (g : Gap) (l : Float) where
 
 -- ---- what follows an aim
 
-module _ (t : Tuning) (strengths : List Float) (alpha : Float) (i : ℕ) (pull : Gap → Float → List Float → List Float) (g : Gap) (l : Float) (vs left ds : List Float) (a : Aim) (e : aimOf ds a ≡ aimed t g l left) where
-  acted-aim : acted t strengths alpha i pull g l (flow vs left) ≡ (aimOf ds a >>= λ b. done (flow (pull (b .gap) (b .length) vs) (b .left)))
+module _ (t : Tuning) (pull : Gap → Float → List Float → List Float) (g : Gap) (l : Float) (vs left ds : List Float) (a : Aim) (e : aimOf ds a ≡ aimed t g l left) where
+  acted-aim : acted t pull g l (flow vs left) ≡ (aimOf ds a >>= λ b. done (flow (pull (b .gap) (b .length) vs) (b .left)))
   unfolding aimed
   acted-aim =
       sym (bind-assoc (shaken g left) (λ s. done (aimAt (s .gap) (softened t (lengthened l g (s .gap))) (s .left))) (λ b. done (flow (pull (b .gap) (b .length) vs) (b .left))))
       ∙ ap (λ (o : Outcome Aimed). o >>= λ b. done (flow (pull (b .gap) (b .length) vs) (b .left))) (sym e)
 
-  pub acted-dry : a .dry ≡ true → refused (refusal 8 0) ≡ acted t strengths alpha i pull g l (flow vs left)
+  pub acted-dry : a .dry ≡ true → refused (refusal 8 0) ≡ acted t pull g l (flow vs left)
   unfolding aimOf
   acted-dry d = sym (acted-aim ∙ rw d)
 
-  pub acted-on : a .dry ≡ false → {ws : List Float} → ws ≡ pull (gap (a .x) (a .y)) (a .l) vs → done (flow ws (drop (a .used) ds)) ≡ acted t strengths alpha i pull g l (flow vs left)
+  pub acted-on : a .dry ≡ false → {ws : List Float} → ws ≡ pull (gap (a .x) (a .y)) (a .l) vs → done (flow ws (drop (a .used) ds)) ≡ acted t pull g l (flow vs left)
   unfolding aimOf
   acted-on d {ws} p = sym (acted-aim ∙ rw (d, p))

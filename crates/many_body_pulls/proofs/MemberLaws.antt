@@ -6,24 +6,23 @@ use Prim.Native.Nat.{ℕ}
 use lib.Dec.{eqb}
 use lib.Ieee.{Float}
 use borrow.Author.Tests.{eq-eqb, ne-eqb}
-use Rattle.rules.specs.declared.Tuning.{Tuning}
-use Rattle.rules.specs.Plain.{foldl}
+use Rattle.rules.specs.Plain.{foldl, others}
 use Rattle.rules.specs.Flow.{Gap}
-use Rattle.rules.specs.ManyBody.{others, pullMember, pullMembers}
+use Rattle.rules.specs.ManyBody.{pullMember, pullMembers}
 
-module _ (t : Tuning) (strengths : List Float) (alpha : Float) (i : ℕ) (g : Gap) (l : Float) where
+module _ (strengths : List Float) (alpha : Float) (i : ℕ) (g : Gap) (l : Float) where
   -- the particle itself doesn't act
-  pub member-self : (vs : List Float) (j : ℕ) → j ≡ i → vs ≡ pullMembers t strengths alpha i (j ∷ []) g l vs
+  pub member-self : (vs : List Float) (j : ℕ) → j ≡ i → vs ≡ pullMembers strengths alpha i (j ∷ []) g l vs
   member-self vs j e = rw (eq-eqb j i e)
 
-  pub member-other : (vs ws : List Float) (j : ℕ) → (j ≡ i → ⊥) → ws ≡ pullMember t strengths alpha i g l vs j → ws ≡ pullMembers t strengths alpha i (j ∷ []) g l vs
+  pub member-other : (vs ws : List Float) (j : ℕ) → (j ≡ i → ⊥) → ws ≡ pullMember strengths alpha i g l vs j → ws ≡ pullMembers strengths alpha i (j ∷ []) g l vs
   member-other vs ws j n e = rw (ne-eqb j i n, e)
 
   -- one member after the other
-  pub member-on : (vs ws : List Float) (j : ℕ) → ws ≡ pullMembers t strengths alpha i (j ∷ []) g l vs → (is : List ℕ) → pullMembers t strengths alpha i (j ∷ is) g l vs ≡ pullMembers t strengths alpha i is g l ws
+  pub member-on : (vs ws : List Float) (j : ℕ) → ws ≡ pullMembers strengths alpha i (j ∷ []) g l vs → (is : List ℕ) → pullMembers strengths alpha i (j ∷ is) g l vs ≡ pullMembers strengths alpha i is g l ws
   member-on vs ws j e is = go (eqb j i) e
     where
-      go : (b : Bool) → ws ≡ foldl (pullMember t strengths alpha i g l) vs (cond (not b) (j ∷ []) [])
-          → foldl (pullMember t strengths alpha i g l) vs (cond (not b) (j ∷ others i is) (others i is)) ≡ foldl (pullMember t strengths alpha i g l) ws (others i is)
+      go : (b : Bool) → ws ≡ foldl (pullMember strengths alpha i g l) vs (cond (not b) (j ∷ []) [])
+          → foldl (pullMember strengths alpha i g l) vs (cond (not b) (j ∷ others i is) (others i is)) ≡ foldl (pullMember strengths alpha i g l) ws (others i is)
       go true e = rw e
       go false e = rw e

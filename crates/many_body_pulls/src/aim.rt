@@ -1,11 +1,12 @@
 // How a pull is aimed: the draws that are needed, and the length that follows.
+use force::lengthen;
 use force::shaken;
 use rules::Tuning;
 use square_root::root;
 ghost use mathlib.Core.Path.{_≡_};
 ghost use Prim.Native.Nat.{_≤_};
 ghost use lib.ListN.{length, drop};
-ghost use Rattle.rules.specs.Flow.{gap, lengthened};
+ghost use Rattle.rules.specs.Flow.{gap};
 ghost use Rattle.rules.specs.ManyBody as Rule;
 ghost use Rattle.force.specs.Draws.{From};
 ghost use Rattle.many_body_pulls.specs.Aims.{aimed, aimOf};
@@ -25,22 +26,6 @@ fn soften(t: Tuning, l: f64) -> f64
 {
     if l < t.least2 {
         return root(t.least2 * l);
-    }
-    l
-}
-
-// The square of each draw is added: of the differences x and y as they were, and a and b as they are now.
-fn lengthen(l: f64, x: f64, y: f64, a: f64, b: f64) -> f64
-    ensures { λ r. ⌜ r ≡ lengthened l (gap x y) (gap a b) ⌝ }
-{
-    if x == 0.0 {
-        if y == 0.0 {
-            return l + a * a + b * b;
-        }
-        return l + a * a;
-    }
-    if y == 0.0 {
-        return l + b * b;
     }
     l
 }

@@ -1,6 +1,6 @@
 // A near leaf's members, which pull one by one.
-use many_body_chains::strength_of;
 use force::push_on;
+use many_body_chains::strength_of;
 use number::wide;
 ghost use mathlib.Core.Path.{_≡_};
 ghost use mathlib.Core.List.{[], _∷_};
@@ -9,7 +9,6 @@ ghost use lib.ListN.{length};
 ghost use Rattle.rules.specs.Refusal.{mostParticles};
 ghost use Rattle.rules.specs.Flow.{gap};
 ghost use Rattle.rules.specs.ManyBody as Rule;
-ghost use Rattle.rules.specs.declared.Tuning as T;
 ghost use Rattle.many_body_chains.specs.Chain.{Chain};
 
 // A member j of a near leaf acts, unless it is the particle itself.
@@ -24,7 +23,7 @@ fn pull_member(
     j: usize,
 )
     requires { ⌜ (i * 2 + 1 < length (now vs)) × (j < length (now strengths)) ⌝ }
-    ensures { λ _. ⌜ ((t : T.Tuning) → now (vs .exit) ≡ Rule.pullMembers t (now (strengths .entry)) alpha i (j ∷ []) (gap x y) l (now (vs .entry))) ⌝ }
+    ensures { λ _. ⌜ now (vs .exit) ≡ Rule.pullMembers (now (strengths .entry)) alpha i (j ∷ []) (gap x y) l (now (vs .entry)) ⌝ }
 {
     if j == i {
         return;
@@ -46,7 +45,8 @@ pub fn pull_members(
     f: usize,
 )
     requires { ⌜ (i * 2 + 1 < length (now vs)) × Chain (now next) (length (now strengths)) f × (length (now next) ≡ length (now strengths)) × (length (now strengths) ≤ mostParticles) ⌝ }
-    ensures { λ _. ⌜ ((t : T.Tuning) (h : Chain (now (next .entry)) (length (now (strengths .entry))) f) → now (vs .exit) ≡ Rule.pullMembers t (now (strengths .entry)) alpha i (h .members) (gap x y) l (now (vs .entry))) ⌝ }
+    ensures { λ _. ⌜ ((h : Chain (now (next .entry)) (length (now (strengths .entry))) f)
+        → now (vs .exit) ≡ Rule.pullMembers (now (strengths .entry)) alpha i (h .members) (gap x y) l (now (vs .entry))) ⌝ }
 {
     let mut link = (f + 1) as u32;
     while link != 0 {

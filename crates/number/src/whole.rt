@@ -24,18 +24,12 @@ pub fn try_floor(x: f64) -> FloorAnswer
 {
     if within(x) {
         return FloorAnswer {
-            refusal: Refusal {
-                number: 0,
-                place: 0,
-            },
+            refusal: Refusal::none(),
             value: floor(x),
         };
     }
     FloorAnswer {
-        refusal: Refusal {
-            number: 4,
-            place: 0,
-        },
+        refusal: Refusal::at(4, 0),
         value: 0,
     }
 }

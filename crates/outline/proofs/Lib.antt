@@ -1,3 +1,3 @@
-pub mod Ends
+pub mod OutlineCalled
 mod Steps
 mod Turns

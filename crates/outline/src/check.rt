@@ -1,9 +1,9 @@
 // What is lent, checked in its order: 1, 2, then 5 for a corner and for the centre.
 use crate::way::longitude_range;
-use list_checks::MOST_CORNERS;
 use list_checks::count_check;
 use list_checks::first;
 use list_checks::lengths_check;
+use rules::MOST_CORNERS;
 use rules::Refusal;
 ghost use mathlib.Core.Path.{_≡_};
 ghost use Rattle.rules.specs.Outcome.{refusalOf, requireAll, require};
@@ -16,32 +16,17 @@ fn corners_check(corners: &[i64]) -> Refusal
     let mut i: usize = 0;
     while i < corners.len() {
         if !longitude_range(corners[i]) {
-            return Refusal {
-                number: 5,
-                place: i as u64,
-            };
+            return Refusal::at(5, i as u64);
         }
         i = i + 1;
     }
-    Refusal {
-        number: 0,
-        place: 0,
-    }
+    Refusal::none()
 }
 
 fn centre_check(centre: i64) -> Refusal
     ensures { λ r. ⌜ r ≡ refusalOf (require (Outline.longitudeRange centre) 5 0) ⌝ }
 {
-    if longitude_range(centre) {
-        return Refusal {
-            number: 0,
-            place: 0,
-        };
-    }
-    Refusal {
-        number: 5,
-        place: 0,
-    }
+    Refusal::unless(longitude_range(centre), 5, 0)
 }
 
 // `room` is how many numbers the output holds.

@@ -42,16 +42,7 @@ pub fn closing_check(corners: &[i64], centre: i64) -> Refusal
     requires { ⌜ Sound (now corners) centre ⌝ }
     ensures { λ r. ⌜ r ≡ refusalOf (require (Outline.closes centre (now (corners .entry))) 16 0) ⌝ }
 {
-    if closes(corners, centre) {
-        return Refusal {
-            number: 0,
-            place: 0,
-        };
-    }
-    Refusal {
-        number: 16,
-        place: 0,
-    }
+    Refusal::unless(closes(corners, centre), 16, 0)
 }
 
 // The first corner against the centre, each later one against the one before; what lies behind them stays.

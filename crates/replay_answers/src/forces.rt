@@ -2,9 +2,7 @@
 // 7 and 8 the work slots; 9 the links; 10 the strengths (Collide: the radii); 11 the distances.
 use crate::DRAWS;
 use crate::SLOTS;
-use list_checks::MOST_LINKS;
 use number::float_of;
-use rules::Counts;
 use replay_sample::argument;
 use replay_sample::read_bytes;
 use replay_sample::read_halves;
@@ -12,7 +10,11 @@ use replay_sample::read_numbers;
 use replay_sample::read_words;
 use replay_sample::same_bytes;
 use replay_sample::same_words;
-use tree_slots::Quadtree;
+use rules::Counts;
+use rules::MOST_LINKS;
+use rules::MOST_PARTICLES;
+use rules::PAIR_SIZE;
+use rules::SLOT_WORDS;
 
 fn ended_right(case: &[u8], a: Counts, buffer: &[u8], work: &[u64]) -> bool {
     let r = a.refusal;
@@ -108,11 +110,11 @@ fn run(
 
 // Room for one particle too many, and a strength for each of so many links.
 pub fn force_is_right(case: &[u8], kind: u64) -> bool {
-    let mut places_room = [0.0f64; 2 * (Quadtree::MOST_PARTICLES + 1)];
-    let mut buffer_room = [0u8; 16 * Quadtree::MOST_PARTICLES];
+    let mut places_room = [0.0f64; 2 * (MOST_PARTICLES + 1)];
+    let mut buffer_room = [0u8; PAIR_SIZE * MOST_PARTICLES];
     let mut strengths_room = [0.0f64; MOST_LINKS + 1];
     let mut draws_room = [0.0f64; DRAWS];
-    let mut work_room = [0u64; 8 * SLOTS];
+    let mut work_room = [0u64; SLOT_WORDS * SLOTS];
     let places = read_numbers(case, 3, &mut places_room);
     let buffer = read_bytes(case, 5, &mut buffer_room);
     let strengths = read_numbers(case, 10, &mut strengths_room);

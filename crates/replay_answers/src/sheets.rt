@@ -1,25 +1,27 @@
 // Cases of a tick, and what a case says of a step: the settings, the words of the force slots, and how it ends. The program says what the parts are, and runs the steps.
 use number::float_of;
-use rules::Counts;
-use rules::Settings;
-use rules::StepAnswer;
 use replay_sample::argument;
 use replay_sample::read_words;
 use replay_sample::same_bytes;
 use replay_sample::same_words;
+use rules::Counts;
+use rules::FORCE_WORDS;
+use rules::Settings;
+use rules::StepAnswer;
+use tick_call::settings_of;
 
 pub fn settings(case: &[u8]) -> Settings {
-    Settings {
-        target: float_of(argument(case, 1)),
-        alpha_decay: float_of(argument(case, 2)),
-        velocity_decay: float_of(argument(case, 3)),
-    }
+    settings_of(
+        float_of(argument(case, 1)),
+        float_of(argument(case, 2)),
+        float_of(argument(case, 3)),
+    )
 }
 
-pub fn force_words(case: &[u8]) -> [u64; 56] {
-    let mut forces = [0u64; 56];
-    read_words(case, 5, &mut forces);
-    forces
+pub fn force_words(case: &[u8]) -> [u64; FORCE_WORDS] {
+    let mut words = [0u64; FORCE_WORDS];
+    read_words(case, 5, &mut words);
+    words
 }
 
 pub fn step_ended_right(

@@ -10,11 +10,10 @@ use lib.ListN.{length}
 use lib.Ieee.{Float}
 use borrow.Author.Tests.{eqb-true, ne-eqb}
 use Rattle.rules.specs.declared.Extent.{Extent}
-use Rattle.rules.specs.Plain.{branch, keep, all}
+use Rattle.rules.specs.Plain.{branch, keep, all, others}
 use Rattle.rules.specs.Cell.{quarter}
 use Rattle.rules.specs.Tree.{Tree, none, leaf, node, depth, nodes, chainsOf, same, alike, inQuarter, pointsIn, treeIn}
 use Rattle.rules.specs.Terms.{leaves, distinct}
-use Rattle.rules.specs.Edits.{others}
 use Rattle.rules.proofs.CellList.{In, in-some, both, all-in, all-not, keep-keep, keep-in}
 use Rattle.rules.proofs.CellPoints.{One, one0, one1, one2, one3, one-quarter, same-sym, same-trans}
 use Rattle.rules.proofs.CellIs.{Is, is-unique, grow-is, grown}

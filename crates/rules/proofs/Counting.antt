@@ -26,7 +26,7 @@ use Rattle.rules.specs.Collide as C
 use Rattle.rules.specs.Link as L
 use Rattle.rules.specs.Force.{Push, manyBody, collide, link, run}
 use Rattle.rules.specs.Particle.{centered, closing}
-use Rattle.rules.specs.Tick.{Force, empty, push, center, unknown, State, state, nextAlpha, alphaStage, settled, withSpeeds, pushStage, forceStage, tick, ranFor, onward, ticksFrom}
+use Rattle.rules.specs.Tick.{Force, empty, push, center, unknown, State, state, nextAlpha, alphaStage, ifInRange, withSpeeds, pushStage, forceStage, tickHome, tick, ticksDone, onward, ticksFrom}
 use Rattle.rules.proofs.OutcomeLaws.{bind-cong, bind-assoc}
 use Rattle.rules.specs.Terms.{countEach, walkCounts, uncounted, forceCounts, tickCounts}
 
@@ -198,11 +198,11 @@ once-more v at radii strength slots m =
     turn : Counted Flow → ℕ → Outcome (Counted Flow)
     turn m i = walk (C.collideStep at radii strength i) (C.radiusTree at radii) m
 
-run-more : (v : ℕ) (f : Push) (at : List Float) (alpha : Float) (slots : ℕ) (m : Counted Flow) → run f at alpha slots (more v m) ≡ over (more v) (run f at alpha slots m)
+run-more : (t : Tuning) (v : ℕ) (f : Push) (at : List Float) (alpha : Float) (slots : ℕ) (m : Counted Flow) → run t f at alpha slots (more v m) ≡ over (more v) (run t f at alpha slots m)
 unfolding run C.runCollide
-run-more v (manyBody strengths) at alpha slots m = many-body-more v M.standard at strengths alpha slots m
-run-more v (collide radii strength iterations) at alpha slots m = over-stages (more v) (λ m _. C.collideOnce at radii strength slots m) (λ m _. once-more v at radii strength slots m) (upTo iterations) m
-run-more v (link links strengths distances iterations) at alpha slots m =
+run-more t v (manyBody strengths) at alpha slots m = many-body-more v t at strengths alpha slots m
+run-more t v (collide radii strength iterations) at alpha slots m = over-stages (more v) (λ m _. C.collideOnce at radii strength slots m) (λ m _. once-more v at radii strength slots m) (upTo iterations) m
+run-more t v (link links strengths distances iterations) at alpha slots m =
     over-bind (more v) (L.runLink at links strengths distances iterations alpha (m .state)) (λ σ. done (counted σ (v + m .visits))) (λ σ. done (counted σ (m .visits))) (λ σ. refl)
 
 -- ---- a tick
@@ -214,52 +214,52 @@ later v m = state (m .particles) (m .alpha) (m .draws) (v + m .visits)
 later-back : (m : State) → later (m .visits) (uncounted m) ≡ m
 later-back m = ap (state (m .particles) (m .alpha) (m .draws)) (add-zero (m .visits))
 
-settled-later : (v : ℕ) (ps : List Particle) (m : State) → settled ps (later v m) ≡ over (later v) (settled ps m)
-settled-later v ps m =
+in-range-later : (v : ℕ) (ps : List Particle) (m : State) → ifInRange ps (later v m) ≡ over (later v) (ifInRange ps m)
+in-range-later v ps m =
     over-bind (later v) (resultCheck (placesOf ps) (speedsOf ps)) (λ _. done (state ps (m .alpha) (m .draws) (v + m .visits))) (λ _. done (state ps (m .alpha) (m .draws) (m .visits))) (λ _. refl)
 
-push-later : (v slots : ℕ) (f : Push) (m : State) → pushStage slots f (later v m) ≡ over (later v) (pushStage slots f m)
+push-later : (t : Tuning) (v slots : ℕ) (f : Push) (m : State) → pushStage t slots f (later v m) ≡ over (later v) (pushStage t slots f m)
 unfolding pushStage
-push-later v slots f m =
-    ap (λ (o : Outcome (Counted Flow)). o >>= λ r. settled (withSpeeds (r .state .speeds) ps) (state ps (m .alpha) (r .state .draws) (r .visits)))
-    (run-more v f (placesOf ps) (m .alpha) slots (counted (flow (speedsOf ps) (m .draws)) (m .visits)))
-    ∙ go (run f (placesOf ps) (m .alpha) slots (counted (flow (speedsOf ps) (m .draws)) (m .visits)))
+push-later t v slots f m =
+    ap (λ (o : Outcome (Counted Flow)). o >>= λ r. ifInRange (withSpeeds (r .state .speeds) ps) (state ps (m .alpha) (r .state .draws) (r .visits)))
+    (run-more t v f (placesOf ps) (m .alpha) slots (counted (flow (speedsOf ps) (m .draws)) (m .visits)))
+    ∙ go (run t f (placesOf ps) (m .alpha) slots (counted (flow (speedsOf ps) (m .draws)) (m .visits)))
   where
     ps : List Particle
     ps = m .particles
 
-    go : (o : Outcome (Counted Flow)) → (over (more v) o >>= λ r. settled (withSpeeds (r .state .speeds) ps) (state ps (m .alpha) (r .state .draws) (r .visits)))
-        ≡ over (later v) (o >>= λ r. settled (withSpeeds (r .state .speeds) ps) (state ps (m .alpha) (r .state .draws) (r .visits)))
-    go (done r) = settled-later v (withSpeeds (r .state .speeds) ps) (state ps (m .alpha) (r .state .draws) (r .visits))
+    go : (o : Outcome (Counted Flow)) → (over (more v) o >>= λ r. ifInRange (withSpeeds (r .state .speeds) ps) (state ps (m .alpha) (r .state .draws) (r .visits)))
+        ≡ over (later v) (o >>= λ r. ifInRange (withSpeeds (r .state .speeds) ps) (state ps (m .alpha) (r .state .draws) (r .visits)))
+    go (done r) = in-range-later v (withSpeeds (r .state .speeds) ps) (state ps (m .alpha) (r .state .draws) (r .visits))
     go (refused q) = refl
 
-stage-later : (slots v : ℕ) (m : State) (f : Force) → forceStage slots (later v m) f ≡ over (later v) (forceStage slots m f)
-stage-later slots v m empty = refl
-stage-later slots v m (push f) = push-later v slots f m
-stage-later slots v m (center x y strength) = settled-later v (centered x y strength (m .particles)) m
-stage-later slots v m unknown = refl
+stage-later : (t : Tuning) (slots v : ℕ) (m : State) (f : Force) → forceStage t slots (later v m) f ≡ over (later v) (forceStage t slots m f)
+stage-later t slots v m empty = refl
+stage-later t slots v m (push f) = push-later t v slots f m
+stage-later t slots v m (center x y strength) = in-range-later v (centered x y strength (m .particles)) m
+stage-later t slots v m unknown = refl
 
 tick-later : (v : ℕ) (s : Settings) (fs : List Force) (slots : ℕ) (m : State) → tick s fs slots (later v m) ≡ over (later v) (tick s fs slots m)
-unfolding tick alphaStage
+unfolding tickHome alphaStage
 tick-later v s fs slots m =
     ap (λ (o : Outcome State). o >>= rest)
     (over-bind (later v) (alphaCheck a) (λ _. done (state (m .particles) a (m .draws) (v + m .visits))) (λ _. done (state (m .particles) a (m .draws) (m .visits))) (λ _. refl))
     ∙ bind-over (later v) (alphaCheck a >>= λ _. done (state (m .particles) a (m .draws) (m .visits))) rest
-    (λ m₁. ap (λ (o : Outcome State). o >>= close) (over-stages (later v) (forceStage slots) (stage-later slots v) fs m₁)
-    ∙ bind-over (later v) (foldStages (forceStage slots) m₁ fs) close (λ m₂. settled-later v (closing (s .«velocity_decay») (m .particles) (m₂ .particles)) m₂))
+    (λ m₁. ap (λ (o : Outcome State). o >>= close) (over-stages (later v) (forceStage (s .tuning) slots) (stage-later (s .tuning) slots v) fs m₁)
+    ∙ bind-over (later v) (foldStages (forceStage (s .tuning) slots) m₁ fs) close (λ m₂. in-range-later v (closing (s .«velocity_decay») (placesOf (m .particles)) (m₂ .particles)) m₂))
   where
     a : Float
     a = nextAlpha s (m .alpha)
 
     close : State → Outcome State
-    close m₂ = settled (closing (s .«velocity_decay») (m .particles) (m₂ .particles)) m₂
+    close m₂ = ifInRange (closing (s .«velocity_decay») (placesOf (m .particles)) (m₂ .particles)) m₂
 
     rest : State → Outcome State
-    rest m₁ = foldStages (forceStage slots) m₁ fs >>= close
+    rest m₁ = foldStages (forceStage (s .tuning) slots) m₁ fs >>= close
 
 -- The counts of each force make up what all of them count.
-pub forces-sum : (slots : ℕ) (fs : List Force) (m n : State) → foldStages (forceStage slots) m fs ≡ done n → (ks : List ℕ) × (forceCounts slots m fs ≡ done ks) × (n .visits ≡ m .visits + sum ks)
-forces-sum slots fs m n e = sums (λ m. m .visits) uncounted later (forceStage slots) later-back (λ v m. refl) (λ v m. refl) (stage-later slots) fs m n e
+pub forces-sum : (t : Tuning) (slots : ℕ) (fs : List Force) (m n : State) → foldStages (forceStage t slots) m fs ≡ done n → (ks : List ℕ) × (forceCounts t slots m fs ≡ done ks) × (n .visits ≡ m .visits + sum ks)
+forces-sum t slots fs m n e = sums (λ m. m .visits) uncounted later (forceStage t slots) later-back (λ v m. refl) (λ v m. refl) (stage-later t slots) fs m n e
 
 -- ---- ticks
 
@@ -302,8 +302,8 @@ module _ (s : Settings) (least : Float) (fs : List Force) (slots : ℕ) where
     where
       go : (b : Bool) (o : Outcome State) → tick s fs slots m ≡ over (later (m .visits)) o
           → ((n : State) → (ticksFrom s least fs slots k (t + 1) n .last .visits ≡ n .visits + sum (tickCounts s least fs slots k n)) × (ticksFrom s least fs slots k (t + 1) n .ticks ≡ t + 1 + length (tickCounts s least fs slots k n)))
-          → (branch b (λ _. onward (tick s fs slots m) (λ n. ticksFrom s least fs slots k (t + 1) n) (λ r. ranFor t r m)) (λ _. ranFor t (refusal 0 0) m) .last .visits ≡ m .visits + sum (branch b (λ _. ifDone o (λ n. n .visits ∷ tickCounts s least fs slots k n) []) (λ _. [])))
-          × (branch b (λ _. onward (tick s fs slots m) (λ n. ticksFrom s least fs slots k (t + 1) n) (λ r. ranFor t r m)) (λ _. ranFor t (refusal 0 0) m) .ticks ≡ t + length (branch b (λ _. ifDone o (λ n. n .visits ∷ tickCounts s least fs slots k n) []) (λ _. [])))
+          → (branch b (λ _. onward (tick s fs slots m) (λ n. ticksFrom s least fs slots k (t + 1) n) (λ r. ticksDone t r m)) (λ _. ticksDone t (refusal 0 0) m) .last .visits ≡ m .visits + sum (branch b (λ _. ifDone o (λ n. n .visits ∷ tickCounts s least fs slots k n) []) (λ _. [])))
+          × (branch b (λ _. onward (tick s fs slots m) (λ n. ticksFrom s least fs slots k (t + 1) n) (λ r. ticksDone t r m)) (λ _. ticksDone t (refusal 0 0) m) .ticks ≡ t + length (branch b (λ _. ifDone o (λ n. n .visits ∷ tickCounts s least fs slots k n) []) (λ _. [])))
       go true (done n) e rest =
           let (v, l) = rest (later (m .visits) n) in
           let c = counts-later k (m .visits) n in

@@ -13,13 +13,13 @@ use lib.Seq.{take-suc, take-take, length-take-le, getD-take}
 use lib.Ieee.{Float}
 use borrow.Author.Tests.{eqb-true, eq-eqb, ne-eqb}
 use Rattle.rules.specs.declared.Extent.{Extent}
-use Rattle.rules.specs.Plain.{foldl}
+use Rattle.rules.specs.Plain.{foldl, others}
 use Rattle.rules.specs.Number.{xAt, yAt}
 use Rattle.rules.specs.Floor.{floor}
 use Rattle.rules.specs.Cell.{quarter}
 use Rattle.rules.specs.Cover.{Covered, nothing, coverPoint, coverAll}
 use Rattle.rules.specs.Tree.{same, alike, inQuarter, pointsIn, grow, treeIn}
-use Rattle.rules.specs.Edits.{Edit, insertion, removal, unknown, editOf, editsOf, pointsOf, insertions, Present, others, edited, presentAfter, among, removable}
+use Rattle.rules.specs.Edits.{Edit, insertion, removal, unknown, editOf, editsOf, pointsOf, insertions, Present, edited, presentAfter, among, removable}
 use Rattle.rules.specs.Terms.{times}
 use Rattle.rules.proofs.CellList.{In, in-keep, keep-length, keep-agree, all-agree, foldl-append}
 use Rattle.rules.proofs.CellIs.{grow-none, grow-leaf, grow-node, grow-stop}

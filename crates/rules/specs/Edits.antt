@@ -1,5 +1,5 @@
 -- Document 02, R-9: a list of edits, each an insertion of a point or a removal of an earlier insertion, and the tree that results. Definitions only.
-use mathlib.Core.Bool.{Bool, true, false, not, _&&_, _||_}
+use mathlib.Core.Bool.{Bool, true, false, _&&_, _||_}
 use mathlib.Core.List.{List, [], _∷_, _++_}
 use Prim.Native.Nat.{ℕ, zero, suc, _+_, _*_}
 use lib.Dec.{eqb}
@@ -7,13 +7,13 @@ use lib.ListN.{length}
 use lib.Ieee.{Float}
 use Rattle.rules.specs.declared.Extent.{Extent}
 use Rattle.rules.specs.declared.TreeAnswer.{TreeAnswer}
-use Rattle.rules.specs.Plain.{keep, foldl}
+use Rattle.rules.specs.Plain.{others, foldl}
 use Rattle.rules.specs.Number.{floatOf}
 use Rattle.rules.specs.Outcome.{Outcome, done, Check, fine, require, _then_, _>>=_, checkEach, refusalOf, ifDone, workAfter}
-use Rattle.rules.specs.Refusal.{mostEdits, countCheck, lengthsCheck, coordinateCheck}
+use Rattle.rules.specs.Refusal.{mostEdits, countCheck, lengthsCheck, placeCheck}
 use Rattle.rules.specs.Cell.{nowhere}
 use Rattle.rules.specs.Cover.{coverFirst, extentOf}
-use Rattle.rules.specs.Tree.{Tree, nodes, treeIn, fitsCheck}
+use Rattle.rules.specs.Tree.{Tree, nodes, treeIn, fitsCheck, rowNumbers}
 use Rattle.rules.specs.Calls.{slotsOf, rowsIn, chainsIn}
 
 -- ---- edits, three words each
@@ -63,10 +63,6 @@ pub record Present : Type 0 where
 abbrev pub present : ℕ → List ℕ → Present
 present n is = record { made = n; left = is }
 
--- all but i, in order
-abbrev pub others : ℕ → List ℕ → List ℕ
-others i is = keep (λ j. not (eqb j i)) is
-
 -- an insertion has the next number; a removal takes its number away
 abbrev pub edited : Present → Edit → Present
 edited s (insertion x y) = present (s .made + 1) (s .left ++ (s .made ∷ []))
@@ -113,7 +109,7 @@ module _ (at : List Float) (slots : ℕ) where
 
 -- 4, of edit k
 abbrev pub pointCheck : ℕ → Edit → Check
-pointCheck k (insertion x y) = coordinateCheck k x y
+pointCheck k (insertion x y) = placeCheck k x y
 pointCheck k (removal i) = fine
 pointCheck k unknown = fine
 
@@ -133,9 +129,9 @@ module _ (l : EditsInput) where
   abbrev pub editList : List Edit
   editList = editsOf (l .edits)
 
-  -- the words are whole edits, the first list has four numbers a slot, the second one an insertion
+  -- the words are whole edits, the first list has a row for each slot, the second a number for each insertion
   abbrev pub editLengths : Bool
-  editLengths = eqb (length (l .edits)) (length editList * editWords) && eqb (length (l .rows)) (slotsOf (l .work) * 4) && eqb (length (l .chains)) (insertions editList)
+  editLengths = eqb (length (l .edits)) (length editList * editWords) && eqb (length (l .rows)) (slotsOf (l .work) * rowNumbers) && eqb (length (l .chains)) (insertions editList)
 
   -- 1, then 2, then 4 at the first insertion with a bad coordinate, then 5 at the first unknown kind
   unfoldable pub editInputCheck : Check

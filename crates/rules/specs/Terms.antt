@@ -1,4 +1,4 @@
--- The words in which the theorems about the public calls are put (talemiku/proofs/Theorems and EditTheorems): what makes a tree that of the cell rule, its leaves, distinct points, chains, points in cells, what single walks, forces and ticks count, and the earliest edit that can't be made. Definitions only.
+-- The words in which the theorems about the public calls are put (talemiku/proofs/Theorems and EditTheorems): particles at rest, what makes a tree that of the cell rule, its leaves, distinct points, chains, points in cells, what single walks, forces and ticks count, and the earliest edit that can't be made. Definitions only.
 use mathlib.Core.Path.{_≡_}
 use mathlib.Core.Logic.{_⊎_, _≢_}
 use mathlib.Core.Bool.{Bool, true, false, cond, not, _&&_}
@@ -10,23 +10,33 @@ use lib.Dec.{leb, eqb}
 use lib.ListN.{length, getD, take}
 use lib.Ieee.{Float, lt, le}
 use Rattle.rules.specs.declared.Extent.{Extent}
+use Rattle.rules.specs.declared.Particle.{Particle}
 use Rattle.rules.specs.declared.Refusal.{Refusal}
 use Rattle.rules.specs.declared.Settings.{Settings}
+use Rattle.rules.specs.declared.Tuning.{Tuning}
 use Rattle.rules.specs.Plain.{branch, keep, all, sum, upTo}
 use Rattle.rules.specs.Outcome.{Outcome, done, _>>=_, ifDone}
-use Rattle.rules.specs.Number.{xAt, yAt}
-use Rattle.rules.specs.Sheet.{placesOf, speedsOf}
+use Rattle.rules.specs.Number.{0·, xAt, yAt}
+use Rattle.rules.specs.Sheet.{particle, placesOf, speedsOf}
 use Rattle.rules.specs.Cell.{quarter}
 use Rattle.rules.specs.Cover.{Square}
 use Rattle.rules.specs.Tree.{Tree, none, leaf, node, depth, nodes, greatestLevel, same, alike, pointsIn, treeOf, chainsOf}
 use Rattle.rules.specs.Walk.{Entry, counted, After, walk}
 use Rattle.rules.specs.Flow.{flow}
-use Rattle.rules.specs.ManyBody.{standard, chargedTree, manyBodyStep}
+use Rattle.rules.specs.ManyBody.{chargedTree, manyBodyStep}
 use Rattle.rules.specs.Collide.{radiusTree, collideStep}
 use Rattle.rules.specs.Force.{manyBody, collide, link}
 use Rattle.rules.specs.Tick.{Force, empty, push, center, unknown, State, state, forceStage, tick}
 use Rattle.rules.specs.Edits.{Edit, pointsOf, Present, presentAfter, among, extentNow, treeNow, removable}
 use Rattle.rules.specs.Edits as Edits
+
+-- ---- sheets
+
+-- particles at these points, at rest and with no flag
+abbrev pub resting : List Float → List Particle
+resting [] = []
+resting (x ∷ []) = []
+resting (x ∷ y ∷ at) = particle x y 0· 0· 0 ∷ resting at
 
 -- ---- trees
 
@@ -132,30 +142,30 @@ mostVisited (center x y strength) = 0
 mostVisited unknown = 0
 
 -- k is what a force of a tick hands out in the state m: the sum of its single walks over the tree of the places there, or nothing
-abbrev pub ForceWalked : State → Force → ℕ → Type 0
-ForceWalked m empty k = k ≡ 0
-ForceWalked m (push (manyBody strengths)) k =
+abbrev pub ForceWalked : Tuning → State → Force → ℕ → Type 0
+ForceWalked t m empty k = k ≡ 0
+ForceWalked t m (push (manyBody strengths)) k =
     let at = placesOf (m .particles) in
-    Walked (manyBodyStep standard at strengths (m .alpha)) (chargedTree at strengths) (flow (speedsOf (m .particles)) (m .draws)) (upTo (length strengths)) k (mostNodes (distinct at (upTo (length strengths))))
-ForceWalked m (push (collide radii strength iterations)) k =
+    Walked (manyBodyStep t at strengths (m .alpha)) (chargedTree at strengths) (flow (speedsOf (m .particles)) (m .draws)) (upTo (length strengths)) k (mostNodes (distinct at (upTo (length strengths))))
+ForceWalked t m (push (collide radii strength iterations)) k =
     let at = placesOf (m .particles) in
     Walked (collideStep at radii strength) (radiusTree at radii) (flow (speedsOf (m .particles)) (m .draws)) (repeated iterations (upTo (length radii))) k (mostNodes (distinct at (upTo (length radii))))
-ForceWalked m (push (link links strengths distances iterations)) k = k ≡ 0
-ForceWalked m (center x y strength) k = k ≡ 0
-ForceWalked m unknown k = k ≡ 0
+ForceWalked t m (push (link links strengths distances iterations)) k = k ≡ 0
+ForceWalked t m (center x y strength) k = k ≡ 0
+ForceWalked t m unknown k = k ≡ 0
 
 -- a tick's state with no node counted yet
 abbrev pub uncounted : State → State
 uncounted m = state (m .particles) (m .alpha) (m .draws) 0
 
 -- how many nodes each force of a tick hands out, from the state m
-abbrev pub forceCounts : ℕ → State → List Force → Outcome (List ℕ)
-forceCounts slots m fs = countEach (λ m. m .visits) uncounted (forceStage slots) m fs
+abbrev pub forceCounts : Tuning → ℕ → State → List Force → Outcome (List ℕ)
+forceCounts t slots m fs = countEach (λ m. m .visits) uncounted (forceStage t slots) m fs
 
 -- `visits` is the sum of what these forces hand out, at most what all of them may
-pub record Forced (slots : ℕ) (m : State) (fs : List Force) (visits : ℕ) : Type 0 where
+pub record Forced (t : Tuning) (slots : ℕ) (m : State) (fs : List Force) (visits : ℕ) : Type 0 where
   pub counts : List ℕ
-  pub each : forceCounts slots m fs ≡ done counts
+  pub each : forceCounts t slots m fs ≡ done counts
   pub total : visits ≡ sum counts
   pub few : visits ≤ sum (map mostVisited fs)
 
@@ -165,7 +175,7 @@ tickCounts s alphaMin forces slots zero m = []
 tickCounts s alphaMin forces slots (suc k) m =
     branch (lt alphaMin (m .alpha)) (λ _. ifDone (tick s forces slots (uncounted m)) (λ n. n .visits ∷ tickCounts s alphaMin forces slots k n) []) (λ _. [])
 
--- ---- edits
+-- ---- what makes a tree the right one
 
 -- What document 01 demands of a tree, of the points `is` in the cell c and in this many slots: t keeps the cell rule and is the only one that does; it fits; it has one leaf for each distinct point, and at most 1 + 64 m nodes for m of them;
 -- a leaf's chain is all points that are numerically equal to any of its own, in order; each point stands in exactly one chain, once, and nothing else does; each lies in its leaf's half-open cell.
@@ -178,6 +188,8 @@ pub record Ruled (at : List Float) (c : Extent) (t : Tree Extent) (is : List ℕ
   pub chains : EachLeaf (λ _ js. (i : ℕ) → 0 < times i js → js ≡ keep (same at i) is) t
   pub once : (i : ℕ) → times i (chainsOf t) ≡ cond (among i is) 1 0
   pub inside : EachLeaf (λ d js. all (λ i. inCell d (xAt at i) (yAt at i)) js ≡ true) t
+
+-- ---- edits
 
 module _ (es : List Edit) where
   -- edit k, where there are more than k

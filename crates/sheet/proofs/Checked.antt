@@ -12,6 +12,7 @@ use Rattle.rules.specs.declared.Refusal.{Refusal}
 use Rattle.rules.specs.Plain.{all}
 use Rattle.rules.specs.Outcome.{Outcome, done, refused, Check, fine, require, _then_, _>>=_, refusalOf, checkFrom}
 use Rattle.rules.specs.Number.{between, within, finite, limit, placeRange, xAt, yAt}
+use Rattle.rules.specs.Refusal.{coordinateCheck, placeCheck}
 use Rattle.rules.specs.Sheet.{recordCheck, recordsCheck, placesOf, speedsOf}
 use Rattle.sheet.specs.Columns.{flagsOf}
 
@@ -28,10 +29,25 @@ then-stays r (done t) d e h = absurd (h (ap (λ (r : Refusal). r .number) e))
 then-stays r (refused q) d e h = e
 
 -- where the first of two checks refuses nothing, the second decides
-pub then-on : (r : Refusal) (ok : Bool) (n i : ℕ) (d : Check) → (n ≡ 0 → ⊥) → refusalOf (require ok n i) .number ≡ 0 → r ≡ refusalOf d
-    → r ≡ refusalOf (require ok n i then d)
-then-on r true n i d k z e = e
-then-on r false n i d k z e = absurd (k z)
+pub then-on : (r : Refusal) (c d : Check) → c ≡ fine → r ≡ refusalOf d → r ≡ refusalOf (c then d)
+then-on r c d z e = rw z e
+
+-- a coordinate for which no number is answered is fine
+pub coordinate-fine : (i : ℕ) (x : Float) → refusalOf (coordinateCheck i x) .number ≡ 0 → coordinateCheck i x ≡ fine
+coordinate-fine i x e = go (within x) e
+  where
+    go : (a : Bool) → refusalOf (require a 4 i) .number ≡ 0 → require a 4 i ≡ fine
+    go false e = absurd (omega arith)
+    go true e = refl
+
+-- a place too
+pub place-fine : (i : ℕ) (x y : Float) → refusalOf (placeCheck i x y) .number ≡ 0 → placeCheck i x y ≡ fine
+place-fine i x y e = go (within x) (within y) e
+  where
+    go : (a b : Bool) → refusalOf (require a 4 i then require b 4 i) .number ≡ 0 → require a 4 i then require b 4 i ≡ fine
+    go false b e = absurd (omega arith)
+    go true false e = absurd (omega arith)
+    go true true e = refl
 
 -- where two checks are fine, each is
 both-fine : (c : Check) (f : Unit {0} → Check) → c >>= f ≡ fine → (c ≡ fine) × (f tt ≡ fine)
@@ -51,14 +67,15 @@ pub record Sound (p : Particle) : Type 0 where
 -- a record for which no number is answered is fine
 pub record-fine : (i : ℕ) (p : Particle) → refusalOf (recordCheck i p) .number ≡ 0 → recordCheck i p ≡ fine
 unfolding recordCheck
-record-fine i p e = go (leb (p .flags) 3) (within (p .x) && within (p .y)) (finite (p .vx) && finite (p .vy)) e
+record-fine i p e = go (leb (p .flags) 3) (within (p .x)) (within (p .y)) (finite (p .vx) && finite (p .vy)) e
   where
-    go : (a b c : Bool) → refusalOf (require a 10 i then require b 4 i then require c 5 i) .number ≡ 0
-        → require a 10 i then require b 4 i then require c 5 i ≡ fine
-    go false b c e = absurd (omega arith)
-    go true false c e = absurd (omega arith)
-    go true true false e = absurd (omega arith)
-    go true true true e = refl
+    go : (a b c d : Bool) → refusalOf (require a 10 i then (require b 4 i then require c 4 i) then require d 5 i) .number ≡ 0
+        → require a 10 i then (require b 4 i then require c 4 i) then require d 5 i ≡ fine
+    go false b c d e = absurd (omega arith)
+    go true false c d e = absurd (omega arith)
+    go true true false d e = absurd (omega arith)
+    go true true true false e = absurd (omega arith)
+    go true true true true e = refl
 
 -- what is fine is sound
 fine-sound : (i : ℕ) (p : Particle) → recordCheck i p ≡ fine → Sound p
@@ -67,7 +84,7 @@ fine-sound i p e =
     let g = go (leb (p .flags) 3) (within (p .x)) (within (p .y)) (finite (p .vx)) (finite (p .vy)) (ap (λ (c : Check). refusalOf c .number) e) in
     record { flags = g .0; x = g .1; y = g .2; vx = g .3; vy = g .4 }
   where
-    go : (a b c d f : Bool) → refusalOf (require a 10 i then require (b && c) 4 i then require (d && f) 5 i) .number ≡ 0
+    go : (a b c d f : Bool) → refusalOf (require a 10 i then (require b 4 i then require c 4 i) then require (d && f) 5 i) .number ≡ 0
         → (a ≡ true) × (b ≡ true) × (c ≡ true) × (d ≡ true) × (f ≡ true)
     go false b c d f e = absurd (omega arith)
     go true false c d f e = absurd (omega arith)

@@ -9,7 +9,7 @@ use lib.Seq.{drop-drop, length-take-le}
 use lib.Ieee.{Float}
 use Rattle.rules.specs.declared.Particle.{Particle}
 use Rattle.rules.specs.Plain.{overwritten}
-use Rattle.rules.specs.Sheet.{bytesOf, wordAt, floatAt, floatBytes, recordAt, recordsFrom, countOf, particlesOf, recordBytes, sheetOf, placesOf, speedsOf, pairsFrom, pairsBytes}
+use Rattle.rules.specs.Sheet.{recordSize, bytesOf, wordAt, floatAt, floatBytes, recordAt, recordsFrom, countOf, particlesOf, recordBytes, sheetOf, placesOf, speedsOf, pairsFrom, pairsBytes}
 use Rattle.sheet.specs.Columns.{putPairs, flagsOf}
 use Rattle.sheet.proofs.Lists.{length-zero, overwritten-next, overwritten-after, overwritten-part, overwritten-none, overwritten-length}
 use Rattle.words.proofs.Bytes.{Bytes, bytes-drop, word-kept}
@@ -17,25 +17,25 @@ use Rattle.sheet.proofs.Sheets.{records-drop}
 
 -- ---- reading
 
-places-from : (s : List ℕ) (at k : ℕ) → placesOf (recordsFrom s at k) ≡ pairsFrom 40 s at k
+places-from : (s : List ℕ) (at k : ℕ) → placesOf (recordsFrom s at k) ≡ pairsFrom recordSize s at k
 unfolding recordAt
 places-from s at zero = refl
-places-from s at (suc k) = ap (λ (l : List Float). floatAt s at ∷ floatAt s (at + 8) ∷ l) (places-from s (at + 40) k)
+places-from s at (suc k) = ap (λ (l : List Float). floatAt s at ∷ floatAt s (at + 8) ∷ l) (places-from s (at + recordSize) k)
 
-speeds-from : (s : List ℕ) (at k : ℕ) → speedsOf (recordsFrom s at k) ≡ pairsFrom 40 s (at + 16) k
+speeds-from : (s : List ℕ) (at k : ℕ) → speedsOf (recordsFrom s at k) ≡ pairsFrom recordSize s (at + 16) k
 unfolding recordAt
 speeds-from s at zero = refl
 speeds-from s at (suc k) =
-    ap (λ (l : List Float). floatAt s (at + 16) ∷ floatAt s (at + 24) ∷ l) (speeds-from s (at + 40) k ∙ ap (λ (n : ℕ). pairsFrom 40 s n k) (omega arith))
-    ∙ ap (λ (n : ℕ). floatAt s (at + 16) ∷ floatAt s n ∷ pairsFrom 40 s (at + 16 + 40) k) (omega arith)
+    ap (λ (l : List Float). floatAt s (at + 16) ∷ floatAt s (at + 24) ∷ l) (speeds-from s (at + recordSize) k ∙ ap (λ (n : ℕ). pairsFrom recordSize s n k) (omega arith))
+    ∙ ap (λ (n : ℕ). floatAt s (at + 16) ∷ floatAt s n ∷ pairsFrom recordSize s (at + 16 + recordSize) k) (omega arith)
 
 -- the places of a sheet's particles are its pairs at 0
-pub places-of : (s : List ℕ) → placesOf (particlesOf s) ≡ pairsFrom 40 s 0 (countOf s)
+pub places-of : (s : List ℕ) → placesOf (particlesOf s) ≡ pairsFrom recordSize s 0 (countOf s)
 unfolding particlesOf
 places-of s = places-from s 0 (countOf s)
 
 -- their speeds are its pairs at 16
-pub speeds-of : (s : List ℕ) → speedsOf (particlesOf s) ≡ pairsFrom 40 s 16 (countOf s)
+pub speeds-of : (s : List ℕ) → speedsOf (particlesOf s) ≡ pairsFrom recordSize s 16 (countOf s)
 unfolding particlesOf
 speeds-of s = speeds-from s 0 (countOf s)
 
@@ -68,27 +68,27 @@ past stride p s n at xs e = rw (← e) (put-after stride p s at xs)
 
 -- into a record that is the parts a, v, f, the bytes of a place and of a speed, with t after it
 record-put : (a v f t place speed : List ℕ) (xs vs : List Float) → length a ≡ 16 → length v ≡ 16 → length f ≡ 8 → length place ≡ 16 → length speed ≡ 16
-    → putPairs 40 (overwritten (putPairs 40 (overwritten (a ++ (v ++ (f ++ t))) 0 place) 40 xs) 16 speed) 56 vs
-    ≡ place ++ speed ++ f ++ putPairs 40 (putPairs 40 t 0 xs) 16 vs
+    → putPairs recordSize (overwritten (putPairs recordSize (overwritten (a ++ (v ++ (f ++ t))) 0 place) recordSize xs) 16 speed) 56 vs
+    ≡ place ++ speed ++ f ++ putPairs recordSize (putPairs recordSize t 0 xs) 16 vs
 record-put a v f t place speed xs vs ha hv hf hp hs =
-    let rest = putPairs 40 t 0 xs in
-    let e : putPairs 40 (overwritten (a ++ (v ++ (f ++ t))) 0 place) 40 xs ≡ place ++ (v ++ (f ++ rest)) =
-    ap (λ (l : List ℕ). putPairs 40 l 40 xs) (overwritten-part [] a (v ++ (f ++ t)) 0 place refl (hp ∙ sym ha) ∙ three place v f t)
-    ∙ past 40 (place ++ (v ++ f)) t 40 0 xs (forty place v f hp hv hf)
+    let rest = putPairs recordSize t 0 xs in
+    let e : putPairs recordSize (overwritten (a ++ (v ++ (f ++ t))) 0 place) recordSize xs ≡ place ++ (v ++ (f ++ rest)) =
+    ap (λ (l : List ℕ). putPairs recordSize l recordSize xs) (overwritten-part [] a (v ++ (f ++ t)) 0 place refl (hp ∙ sym ha) ∙ three place v f t)
+    ∙ past recordSize (place ++ (v ++ f)) t recordSize 0 xs (forty place v f hp hv hf)
     ∙ sym (three place v f rest) in
-    ap (λ (l : List ℕ). putPairs 40 (overwritten l 16 speed) 56 vs) e
-    ∙ ap (λ (l : List ℕ). putPairs 40 l 56 vs) (overwritten-part place v (f ++ rest) 16 speed hp (hs ∙ sym hv) ∙ three place speed f rest)
-    ∙ past 40 (place ++ (speed ++ f)) rest 40 16 vs (forty place speed f hp hs hf)
+    ap (λ (l : List ℕ). putPairs recordSize (overwritten l 16 speed) 56 vs) e
+    ∙ ap (λ (l : List ℕ). putPairs recordSize l 56 vs) (overwritten-part place v (f ++ rest) 16 speed hp (hs ∙ sym hv) ∙ three place speed f rest)
+    ∙ past recordSize (place ++ (speed ++ f)) rest recordSize 16 vs (forty place speed f hp hs hf)
     ∙ simp append-assoc
   where
     three : (a b c d : List ℕ) → a ++ (b ++ (c ++ d)) ≡ (a ++ (b ++ c)) ++ d
     three a b c d = simp append-assoc
 
-    forty : (a b c : List ℕ) → length a ≡ 16 → length b ≡ 16 → length c ≡ 8 → length (a ++ (b ++ c)) ≡ 40
+    forty : (a b c : List ℕ) → length a ≡ 16 → length b ≡ 16 → length c ≡ 8 → length (a ++ (b ++ c)) ≡ recordSize
     forty a b c x y z = simp length-append (omega arith)
 
 -- a sheet's first record in three parts
-parts : (s : List ℕ) → s ≡ take 16 s ++ (take 16 (drop 16 s) ++ (take 8 (drop 32 s) ++ drop 40 s))
+parts : (s : List ℕ) → s ≡ take 16 s ++ (take 16 (drop 16 s) ++ (take 8 (drop 32 s) ++ drop recordSize s))
 parts s =
     sym
     (ap (λ (l : List ℕ). take 16 s ++ (take 16 (drop 16 s) ++ (take 8 (drop 32 s) ++ l))) (sym (drop-drop 8 32 s))
@@ -101,30 +101,30 @@ heads : {a b : ℕ} {l m : List ℕ} → a ∷ l ≡ b ∷ m → (a ≡ b) × (l
 heads e = (cc, cc)
 
 -- the flags of the first record and of those after it
-first-flags : (s : List ℕ) (k : ℕ) → flagsOf (recordsFrom s 0 (suc k)) ≡ wordAt s 32 ∷ flagsOf (recordsFrom (drop 40 s) 0 k)
+first-flags : (s : List ℕ) (k : ℕ) → flagsOf (recordsFrom s 0 (suc k)) ≡ wordAt s 32 ∷ flagsOf (recordsFrom (drop recordSize s) 0 k)
 unfolding recordAt
-first-flags s k = ap (λ (l : List Particle). wordAt s 32 ∷ flagsOf l) (records-drop s 40 k)
+first-flags s k = ap (λ (l : List Particle). wordAt s 32 ∷ flagsOf l) (records-drop s recordSize k)
 
 -- the first record's bytes, its flags being the bytes f
 first-bytes : (q : Particle) (f l : List ℕ) → f ≡ bytesOf 8 (q .flags) → floatBytes (q .x) ++ floatBytes (q .y) ++ (floatBytes (q .vx) ++ floatBytes (q .vy)) ++ f ++ l ≡ recordBytes q ++ l
 unfolding recordBytes
 first-bytes q f l e = ap (λ (g : List ℕ). floatBytes (q .x) ++ floatBytes (q .y) ++ (floatBytes (q .vx) ++ floatBytes (q .vy)) ++ g ++ l) e
 
-columns-put : (qs : List Particle) (s : List ℕ) → Bytes s → length s ≡ length qs * 40 → flagsOf (recordsFrom s 0 (length qs)) ≡ flagsOf qs
-    → putPairs 40 (putPairs 40 s 0 (placesOf qs)) 16 (speedsOf qs) ≡ sheetOf qs
+columns-put : (qs : List Particle) (s : List ℕ) → Bytes s → length s ≡ length qs * recordSize → flagsOf (recordsFrom s 0 (length qs)) ≡ flagsOf qs
+    → putPairs recordSize (putPairs recordSize s 0 (placesOf qs)) 16 (speedsOf qs) ≡ sheetOf qs
 columns-put [] s b e h = length-zero s e
 columns-put (q ∷ qs) s b e h =
     let g = heads (sym (first-flags s (length qs)) ∙ h) in
-    ap (λ (l : List ℕ). putPairs 40 (putPairs 40 l 0 (placesOf (q ∷ qs))) 16 (speedsOf (q ∷ qs))) (parts s)
-    ∙ record-put (take 16 s) (take 16 (drop 16 s)) (take 8 (drop 32 s)) (drop 40 s) (floatBytes (q .x) ++ floatBytes (q .y))
+    ap (λ (l : List ℕ). putPairs recordSize (putPairs recordSize l 0 (placesOf (q ∷ qs))) 16 (speedsOf (q ∷ qs))) (parts s)
+    ∙ record-put (take 16 s) (take 16 (drop 16 s)) (take 8 (drop 32 s)) (drop recordSize s) (floatBytes (q .x) ++ floatBytes (q .y))
     (floatBytes (q .vx) ++ floatBytes (q .vy)) (placesOf qs) (speedsOf qs) (length-take-le 16 s (omega arith))
     (length-take-le 16 (drop 16 s) (simp length-drop (omega arith))) (length-take-le 8 (drop 32 s) (simp length-drop (omega arith))) refl refl
     ∙ first-bytes q (take 8 (drop 32 s)) _ (sym (word-kept s 32 b (omega arith)) ∙ ap (bytesOf 8) (g .0))
-    ∙ ap (λ (l : List ℕ). recordBytes q ++ l) (columns-put qs (drop 40 s) (bytes-drop 40 s b) (simp length-drop (omega arith)) (g .1))
+    ∙ ap (λ (l : List ℕ). recordBytes q ++ l) (columns-put qs (drop recordSize s) (bytes-drop recordSize s b) (simp length-drop (omega arith)) (g .1))
 
 -- the places and speeds of particles, written into a sheet with their flags, give the particles' sheet
-pub sheet-of-columns : (qs : List Particle) (s : List ℕ) → Bytes s → length s ≡ length qs * 40 → flagsOf (particlesOf s) ≡ flagsOf qs
-    → putPairs 40 (putPairs 40 s 0 (placesOf qs)) 16 (speedsOf qs) ≡ sheetOf qs
+pub sheet-of-columns : (qs : List Particle) (s : List ℕ) → Bytes s → length s ≡ length qs * recordSize → flagsOf (particlesOf s) ≡ flagsOf qs
+    → putPairs recordSize (putPairs recordSize s 0 (placesOf qs)) 16 (speedsOf qs) ≡ sheetOf qs
 unfolding particlesOf
 sheet-of-columns qs s b e h = columns-put qs s b e (ap (λ (k : ℕ). flagsOf (recordsFrom s 0 k)) c ∙ h)
   where

@@ -5,7 +5,7 @@ use Prim.Native.Nat.{ℕ, suc, _+_, _≤_}
 use native.Mathlib.Nat.{add-assoc, add-zero}
 use native.Mathlib.Numerals.{add-one}
 use native.Mathlib.Omega.{arith}
-use lib.ListN.{length, take, drop, set, length-drop, length-append, length-set, take-append-drop}
+use lib.ListN.{length, take, drop, set, length-drop, length-append, length-set, take-append-drop, drop-of-length-le}
 use lib.Seq.{length-take-le, drop-append-add, take-append-add, drop-drop, drop-at, take-at, sets-eq}
 use Rattle.rules.specs.Plain.{overwritten}
 
@@ -41,6 +41,10 @@ module _ {A : Type 0} where
   -- nothing is written
   pub overwritten-none : (l : List A) (at : ℕ) → overwritten l at [] ≡ l
   overwritten-none l at = rw (append-nil, add-zero) (take-append-drop at l)
+
+  -- over the whole of a list
+  pub overwritten-all : (k v : List A) → length k ≡ length v → overwritten k 0 v ≡ v
+  overwritten-all k v e = ap (λ (l : List A). v ++ l) (drop-of-length-le k {i = 0 + length v} (omega arith)) ∙ append-nil v
 
   -- a part after a front, written over by one of its length
   pub overwritten-part : (p a q : List A) (n : ℕ) (b : List A) → length p ≡ n → length b ≡ length a → overwritten (p ++ (a ++ q)) n b ≡ p ++ (b ++ q)

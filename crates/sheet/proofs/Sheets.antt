@@ -12,7 +12,7 @@ use lib.Ieee.Bits.{ofBits-toBits, toBits-ofBits, toBits-lt}
 use Rattle.rules.specs.declared.Particle.{Particle}
 use Rattle.rules.specs.Outcome.{fine, checkFrom}
 use Rattle.rules.specs.Number.{floatOf, bitsOf}
-use Rattle.rules.specs.Sheet.{wordOf, bytesOf, wordAt, floatAt, floatBytes, particle, recordAt, recordsFrom, countOf, particlesOf, recordBytes, sheetOf, recordCheck, recordsCheck}
+use Rattle.rules.specs.Sheet.{recordSize, wordOf, bytesOf, wordAt, floatAt, floatBytes, particle, recordAt, recordsFrom, countOf, particlesOf, recordBytes, sheetOf, recordCheck, recordsCheck}
 use Rattle.sheet.proofs.Lists.{length-zero}
 use Rattle.words.proofs.Bytes.{Bytes, bytes-drop, word-of-bytes, word-kept, word-fits}
 use Rattle.sheet.proofs.Checked.{Sound, within-number, finite-number, checks-split}
@@ -21,7 +21,7 @@ use Rattle.sheet.proofs.Checked.{Sound, within-number, finite-number, c
 
 records-count : (s : List ℕ) (at k : ℕ) → length (recordsFrom s at k) ≡ k
 records-count s at zero = refl
-records-count s at (suc k) = ap suc (records-count s (at + 40) k)
+records-count s at (suc k) = ap suc (records-count s (at + recordSize) k)
 
 pub particles-count : (s : List ℕ) → length (particlesOf s) ≡ countOf s
 unfolding particlesOf
@@ -55,7 +55,7 @@ records-drop s at zero = refl
 records-drop s at (suc k) =
     cc (
       record-drop s at,
-      records-drop s (at + 40) k ∙ ap (λ (l : List ℕ). recordsFrom l 0 k) (sym (drop-drop 40 at s)) ∙ sym (records-drop (drop at s) 40 k),
+      records-drop s (at + recordSize) k ∙ ap (λ (l : List ℕ). recordsFrom l 0 k) (sym (drop-drop recordSize at s)) ∙ sym (records-drop (drop at s) recordSize k),
     )
 
 -- a number is what its eight bytes say
@@ -78,17 +78,17 @@ float-kept s at b h n = ap (bytesOf 8) (toBits-ofBits binary64 (wordAt s at) (wo
 
 -- ---- sheets
 
-record-length : (p : Particle) (q : List ℕ) → length (recordBytes p ++ q) ≡ 40 + length q
+record-length : (p : Particle) (q : List ℕ) → length (recordBytes p ++ q) ≡ recordSize + length q
 unfolding recordBytes
 record-length p q = omega arith
 
 -- a sheet has 40 bytes for each particle
-pub sheet-length : (ps : List Particle) → length (sheetOf ps) ≡ length ps * 40
+pub sheet-length : (ps : List Particle) → length (sheetOf ps) ≡ length ps * recordSize
 sheet-length [] = refl
 sheet-length (p ∷ ps) = record-length p (sheetOf ps) ∙ omega (arith, sheet-length ps)
 
 -- what stands after a record
-record-past : (p : Particle) (q : List ℕ) → drop 40 (recordBytes p ++ q) ≡ q
+record-past : (p : Particle) (q : List ℕ) → drop recordSize (recordBytes p ++ q) ≡ q
 unfolding recordBytes
 record-past p q = refl
 
@@ -97,7 +97,7 @@ records-back [] h = refl
 records-back (p ∷ ps) h =
     cc (
       record-back p (sheetOf ps) (h .0),
-      records-drop (recordBytes p ++ sheetOf ps) 40 (length ps)
+      records-drop (recordBytes p ++ sheetOf ps) recordSize (length ps)
           ∙ ap (λ (l : List ℕ). recordsFrom l 0 (length ps)) (record-past p (sheetOf ps))
           ∙ records-back ps (h .1),
     )
@@ -111,14 +111,14 @@ particles-of-sheet ps h = rw e (records-back ps h)
     e = omega (arith, sheet-length ps)
 
 -- the five words of a record are its forty bytes
-five : (s : List ℕ) → take 8 s ++ take 8 (drop 8 s) ++ take 8 (drop 16 s) ++ take 8 (drop 24 s) ++ take 8 (drop 32 s) ≡ take 40 s
+five : (s : List ℕ) → take 8 s ++ take 8 (drop 8 s) ++ take 8 (drop 16 s) ++ take 8 (drop 24 s) ++ take 8 (drop 32 s) ≡ take recordSize s
 five s = rw (← take-add 8 8 s, ← take-add 16 8 s, ← take-add 24 8 s, ← take-add 32 8 s)
 
 same-words : {a a' b b' c c' d d' e e' : List ℕ} → a ≡ a' → b ≡ b' → c ≡ c' → d ≡ d' → e ≡ e' → a ++ b ++ c ++ d ++ e ≡ a' ++ b' ++ c' ++ d' ++ e'
 same-words p q r s t = cc
 
 -- a sound record's bytes are those that it was read from
-record-kept : (s : List ℕ) → Bytes s → 40 ≤ length s → Sound (recordAt s 0) → recordBytes (recordAt s 0) ≡ take 40 s
+record-kept : (s : List ℕ) → Bytes s → recordSize ≤ length s → Sound (recordAt s 0) → recordBytes (recordAt s 0) ≡ take recordSize s
 unfolding recordAt recordBytes
 record-kept s b room h =
     same-words
@@ -130,16 +130,16 @@ record-kept s b room h =
     ∙ five s
 
 -- k records that pass the check
-records-kept : (k i : ℕ) (s : List ℕ) → Bytes s → length s ≡ k * 40 → checkFrom recordCheck i (recordsFrom s 0 k) ≡ fine → sheetOf (recordsFrom s 0 k) ≡ s
+records-kept : (k i : ℕ) (s : List ℕ) → Bytes s → length s ≡ k * recordSize → checkFrom recordCheck i (recordsFrom s 0 k) ≡ fine → sheetOf (recordsFrom s 0 k) ≡ s
 records-kept zero i s b e h = sym (length-zero s e)
 records-kept (suc k) i s b e h =
-    let c = checks-split i (recordAt s 0) (recordsFrom s 40 k) h in
-    let d = records-drop s 40 k in
-    ap (λ (l : List ℕ). l ++ sheetOf (recordsFrom s 40 k)) (record-kept s b (omega arith) (c .0))
-    ∙ ap (λ (l : List ℕ). take 40 s ++ l) (ap sheetOf d ∙ records-kept k (i + 1) (drop 40 s) (bytes-drop 40 s b) (simp length-drop (omega arith)) (rw d at (c .1)))
-    ∙ take-append-drop 40 s
+    let c = checks-split i (recordAt s 0) (recordsFrom s recordSize k) h in
+    let d = records-drop s recordSize k in
+    ap (λ (l : List ℕ). l ++ sheetOf (recordsFrom s recordSize k)) (record-kept s b (omega arith) (c .0))
+    ∙ ap (λ (l : List ℕ). take recordSize s ++ l) (ap sheetOf d ∙ records-kept k (i + 1) (drop recordSize s) (bytes-drop recordSize s b) (simp length-drop (omega arith)) (rw d at (c .1)))
+    ∙ take-append-drop recordSize s
 
 -- writing what was read gives the same bytes
-pub sheet-of-particles : (s : List ℕ) → Bytes s → length s % 40 ≡ 0 → recordsCheck (particlesOf s) ≡ fine → sheetOf (particlesOf s) ≡ s
+pub sheet-of-particles : (s : List ℕ) → Bytes s → length s % recordSize ≡ 0 → recordsCheck (particlesOf s) ≡ fine → sheetOf (particlesOf s) ≡ s
 unfolding particlesOf recordsCheck
 sheet-of-particles s b e h = records-kept (countOf s) 0 s b (omega arith) h

@@ -11,7 +11,7 @@ use lib.Ieee.{Float, nan}
 use Rattle.rules.specs.Plain.{overwritten}
 use Rattle.rules.specs.Number.{bitsOf}
 use Rattle.rules.specs.Outcome.{fine, _>>=_, refusalOf, checkFrom}
-use Rattle.rules.specs.Sheet.{bytesOf, wordAt, floatAt, floatBytes, recordAt, recordsFrom, recordCheck, pairsFrom}
+use Rattle.rules.specs.Sheet.{recordSize, bytesOf, wordAt, floatAt, floatBytes, recordAt, recordsFrom, recordCheck, pairsFrom}
 use Rattle.sheet.specs.Columns.{Room, putPairs, flagsOf}
 use Rattle.sheet.proofs.Lists.{overwritten-next}
 use Rattle.sheet.proofs.Checked.{stays, record-fine}
@@ -105,22 +105,22 @@ module _ (stride offset : ℕ) (xs : List Float) where
 -- ---- reading flags
 
 flags-at : (s : List ℕ) (i n : ℕ) → i < n
-    → flagsOf (recordsFrom s (i * 40) (n - i)) ≡ wordAt s (i * 40 + 32) ∷ flagsOf (recordsFrom s ((i + 1) * 40) (n - (i + 1)))
+    → flagsOf (recordsFrom s (i * recordSize) (n - i)) ≡ wordAt s (i * recordSize + 32) ∷ flagsOf (recordsFrom s ((i + 1) * recordSize) (n - (i + 1)))
 unfolding recordAt
 flags-at s i n h = rw (e, f)
   where
     e : n - i ≡ suc (n - (i + 1))
     e = omega arith
 
-    f : (i + 1) * 40 ≡ i * 40 + 40
+    f : (i + 1) * recordSize ≡ i * recordSize + recordSize
     f = omega arith
 
 pub flags-turn : (s out : List ℕ) (i n : ℕ) → i < n → n ≤ length out
-    → take (i + 1) (set out i (wordAt s (i * 40 + 32))) ++ flagsOf (recordsFrom s ((i + 1) * 40) (n - (i + 1)))
-    ≡ take i out ++ flagsOf (recordsFrom s (i * 40) (n - i))
+    → take (i + 1) (set out i (wordAt s (i * recordSize + 32))) ++ flagsOf (recordsFrom s ((i + 1) * recordSize) (n - (i + 1)))
+    ≡ take i out ++ flagsOf (recordsFrom s (i * recordSize) (n - i))
 flags-turn s out i n h r = rw (flags-at s i n h) (one-more out i _ _ (omega arith))
 
-pub flags-end : (s out : List ℕ) (i n : ℕ) → n ≤ i → length out ≡ n → take i out ++ flagsOf (recordsFrom s (i * 40) (n - i)) ≡ out
+pub flags-end : (s out : List ℕ) (i n : ℕ) → n ≤ i → length out ≡ n → take i out ++ flagsOf (recordsFrom s (i * recordSize) (n - i)) ≡ out
 flags-end s out i n h r = rw (e, take-all i out (omega arith)) (append-nil out)
   where
     e : n - i ≡ 0
@@ -129,25 +129,25 @@ flags-end s out i n h r = rw (e, take-all i out (omega arith)) (append-nil out)
 -- ---- the loop over the records: what the first n - i of them from number i on say
 
 check-at : (s : List ℕ) (i n : ℕ) → i < n
-    → checkFrom recordCheck i (recordsFrom s (i * 40) (n - i))
-    ≡ recordCheck i (recordAt s (i * 40)) >>= λ _. checkFrom recordCheck (i + 1) (recordsFrom s ((i + 1) * 40) (n - (i + 1)))
+    → checkFrom recordCheck i (recordsFrom s (i * recordSize) (n - i))
+    ≡ recordCheck i (recordAt s (i * recordSize)) >>= λ _. checkFrom recordCheck (i + 1) (recordsFrom s ((i + 1) * recordSize) (n - (i + 1)))
 check-at s i n h = rw (e, f)
   where
     e : n - i ≡ suc (n - (i + 1))
     e = omega arith
 
-    f : (i + 1) * 40 ≡ i * 40 + 40
+    f : (i + 1) * recordSize ≡ i * recordSize + recordSize
     f = omega arith
 
-pub check-bad : (s : List ℕ) (i n : ℕ) → i < n → (refusalOf (recordCheck i (recordAt s (i * 40))) .number ≡ 0 → ⊥)
-    → refusalOf (recordCheck i (recordAt s (i * 40))) ≡ refusalOf (checkFrom recordCheck i (recordsFrom s (i * 40) (n - i)))
-check-bad s i n h k = stays (recordCheck i (recordAt s (i * 40))) _ k ∙ ap refusalOf (sym (check-at s i n h))
+pub check-bad : (s : List ℕ) (i n : ℕ) → i < n → (refusalOf (recordCheck i (recordAt s (i * recordSize))) .number ≡ 0 → ⊥)
+    → refusalOf (recordCheck i (recordAt s (i * recordSize))) ≡ refusalOf (checkFrom recordCheck i (recordsFrom s (i * recordSize) (n - i)))
+check-bad s i n h k = stays (recordCheck i (recordAt s (i * recordSize))) _ k ∙ ap refusalOf (sym (check-at s i n h))
 
-pub check-on : (s : List ℕ) (i n : ℕ) → i < n → refusalOf (recordCheck i (recordAt s (i * 40))) .number ≡ 0
-    → checkFrom recordCheck i (recordsFrom s (i * 40) (n - i)) ≡ checkFrom recordCheck (i + 1) (recordsFrom s ((i + 1) * 40) (n - (i + 1)))
-check-on s i n h e = check-at s i n h ∙ rw (record-fine i (recordAt s (i * 40)) e)
+pub check-on : (s : List ℕ) (i n : ℕ) → i < n → refusalOf (recordCheck i (recordAt s (i * recordSize))) .number ≡ 0
+    → checkFrom recordCheck i (recordsFrom s (i * recordSize) (n - i)) ≡ checkFrom recordCheck (i + 1) (recordsFrom s ((i + 1) * recordSize) (n - (i + 1)))
+check-on s i n h e = check-at s i n h ∙ rw (record-fine i (recordAt s (i * recordSize)) e)
 
-pub check-none : (s : List ℕ) (i n : ℕ) → n ≤ i → checkFrom recordCheck i (recordsFrom s (i * 40) (n - i)) ≡ fine
+pub check-none : (s : List ℕ) (i n : ℕ) → n ≤ i → checkFrom recordCheck i (recordsFrom s (i * recordSize) (n - i)) ≡ fine
 check-none s i n h = rw e
   where
     e : n - i ≡ 0

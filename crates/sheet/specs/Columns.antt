@@ -5,13 +5,13 @@ use Prim.Native.Nat.{ℕ, _+_, _*_, _/_, _%_, _≤_}
 use lib.ListN.{length}
 use lib.Ieee.{Float}
 use Rattle.rules.specs.Plain.{overwritten}
-use Rattle.rules.specs.Sheet.{floatBytes}
+use Rattle.rules.specs.Sheet.{floatBytes, pairSize}
 use Rattle.rules.specs.declared.Particle.{Particle}
 
 -- n numbers are whole pairs, and all of them lie in the bytes s: the last begins one stride before `offset + n / 2 * stride`
 pub record Room (s : List ℕ) (stride offset n : ℕ) : Type 0 where
   pub even : n % 2 ≡ 0
-  pub reach : offset + n / 2 * stride + 16 ≤ length s + stride
+  pub reach : offset + n / 2 * stride + pairSize ≤ length s + stride
 
 -- the bytes with these pairs written over, the first at a place and the next each `stride` bytes further on
 abbrev pub putPairs : ℕ → List ℕ → ℕ → List Float → List ℕ

@@ -3,57 +3,46 @@ use crate::records::record_at;
 use number::is_finite;
 use number::within;
 use rules::Particle;
+use rules::RECORD_SIZE;
 use rules::Refusal;
 ghost use mathlib.Core.Path.{_≡_};
 ghost use Rattle.rules.specs.Outcome.{refusalOf};
-ghost use Rattle.rules.specs.Refusal.{coordinateCheck, velocityCheck};
+ghost use Rattle.rules.specs.Refusal.{coordinateCheck, placeCheck, velocityCheck};
 ghost use Rattle.rules.specs.Sheet.{wholeRecords, recordCheck, recordsCheck, particlesOf};
 
 pub fn whole_records(s: &[u8]) -> Refusal
     ensures { λ r. ⌜ r ≡ refusalOf (wholeRecords (now (s .entry))) ⌝ }
 {
-    if s.len() % 40 == 0 {
-        return Refusal {
-            number: 0,
-            place: 0,
-        };
-    }
-    Refusal {
-        number: 10,
-        place: 0,
-    }
+    Refusal::unless(s.len() % RECORD_SIZE == 0, 10, 0)
 }
 
-// Of the particle whose number is i.
-pub fn coordinate_check(i: u64, x: f64, y: f64) -> Refusal
-    ensures { λ r. ⌜ r ≡ refusalOf (coordinateCheck i x y) ⌝ }
+// One coordinate of the particle whose number is i.
+pub fn coordinate_check(i: u64, x: f64) -> Refusal
+    ensures { λ r. ⌜ r ≡ refusalOf (coordinateCheck i x) ⌝ }
 {
-    if within(x) && within(y) {
-        return Refusal {
-            number: 0,
-            place: 0,
-        };
+    Refusal::unless(within(x), 4, i)
+}
+
+// Of the particle whose number is i: x, then y.
+pub fn place_check(i: u64, x: f64, y: f64) -> Refusal
+    ensures { λ r. ⌜ r ≡ refusalOf (placeCheck i x y) ⌝ }
+{
+    let r = coordinate_check(i, x);
+    let number = r.number;
+    if number != 0 {
+        return r;
     }
-    Refusal {
-        number: 4,
-        place: i,
-    }
+    coordinate_check(i, y)
 }
 
 // Of the particle whose number is i.
 pub fn velocity_check(i: u64, vx: f64, vy: f64) -> Refusal
     ensures { λ r. ⌜ r ≡ refusalOf (velocityCheck i vx vy) ⌝ }
 {
-    if is_finite(vx) && is_finite(vy) {
-        return Refusal {
-            number: 0,
-            place: 0,
-        };
+    if is_finite(vx) {
+        return Refusal::unless(is_finite(vy), 5, i);
     }
-    Refusal {
-        number: 5,
-        place: i,
-    }
+    Refusal::at(5, i)
 }
 
 // Of the particle whose number is i.
@@ -62,15 +51,12 @@ pub fn record_check(i: u64, p: Particle) -> Refusal
 {
     let flags = p.flags;
     if 3 < flags {
-        return Refusal {
-            number: 10,
-            place: i,
-        };
+        return Refusal::at(10, i);
     }
-    let coordinates = coordinate_check(i, p.x, p.y);
-    let number = coordinates.number;
+    let place = place_check(i, p.x, p.y);
+    let number = place.number;
     if number != 0 {
-        return coordinates;
+        return place;
     }
     velocity_check(i, p.vx, p.vy)
 }
@@ -79,18 +65,15 @@ pub fn record_check(i: u64, p: Particle) -> Refusal
 pub fn records_check(s: &[u8]) -> Refusal
     ensures { λ r. ⌜ r ≡ refusalOf (recordsCheck (particlesOf (now (s .entry)))) ⌝ }
 {
-    let n = s.len() / 40;
+    let n = s.len() / RECORD_SIZE;
     let mut i: usize = 0;
     while i < n {
-        let r = record_check(i as u64, record_at(s, i * 40));
+        let r = record_check(i as u64, record_at(s, i * RECORD_SIZE));
         let number = r.number;
         if number != 0 {
             return r;
         }
         i = i + 1;
     }
-    Refusal {
-        number: 0,
-        place: 0,
-    }
+    Refusal::none()
 }

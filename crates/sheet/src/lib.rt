@@ -4,6 +4,7 @@ mod pairs;
 mod records;
 
 pub use check::coordinate_check;
+pub use check::place_check;
 pub use check::record_check;
 pub use check::records_check;
 pub use check::velocity_check;

@@ -1,4 +1,4 @@
-// Pairs of numbers in bytes, the first at an offset and the next each a stride further on: the places (40, 0) and speeds (40, 16) of records, and a velocity buffer (16, start).
+// Pairs of numbers in bytes, the first at an offset and the next each a stride further on: the places and velocities of records, and a velocity buffer.
 use number::bits_of;
 use number::float_of;
 use words::put_word;
@@ -8,7 +8,7 @@ ghost use mathlib.Core.List.{_++_};
 ghost use Prim.Native.Nat.{_+_, _/_, _≤_};
 ghost use lib.ListN.{length};
 ghost use Rattle.rules.specs.Plain.{overwritten};
-ghost use Rattle.rules.specs.Sheet.{floatBytes, pairsFrom};
+ghost use Rattle.rules.specs.Sheet.{floatBytes, pairSize, pairsFrom};
 ghost use Rattle.sheet.specs.Columns.{Room, putPairs};
 
 pub fn read_pairs(s: &[u8], stride: usize, offset: usize, out: &mut [f64])
@@ -28,7 +28,7 @@ pub fn read_pairs(s: &[u8], stride: usize, offset: usize, out: &mut [f64])
 
 // A NaN is written 7FF8000000000000.
 fn put_pair(s: &mut [u8], at: usize, x: f64, y: f64)
-    requires { ⌜ at + 16 ≤ length (now s) ⌝ }
+    requires { ⌜ at + pairSize ≤ length (now s) ⌝ }
     ensures { λ _. ⌜ now (s .exit) ≡ overwritten (now (s .entry)) at (floatBytes x ++ floatBytes y) ⌝ }
 {
     put_word(s, at, bits_of(x));

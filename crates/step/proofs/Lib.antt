@@ -1,2 +1,3 @@
+mod Keeping
 mod Stepping
 pub mod Accepted

@@ -5,18 +5,23 @@ use mathlib.Core.List.{List}
 use Prim.Native.Nat.{ℕ, _*_, _≤_, _^_}
 use lib.ListN.{length}
 use lib.Ieee.{Float}
+use Rattle.rules.specs.declared.Progress.{Progress}
 use Rattle.rules.specs.Plain.{all}
 use Rattle.rules.specs.Outcome.{zeroesWork}
 use Rattle.rules.specs.Number.{within}
-use Rattle.rules.specs.Tick.{Run, ranFor}
+use Rattle.rules.specs.Tick.{TicksDone, ticksDone}
 use Rattle.tick_close.specs.declared.Stepped.{Stepped}
-use Rattle.tick_columns.specs.Stage.{stateOf}
+use Rattle.tick_columns.specs.Stage.{Columns, stateOf}
 
--- The ticks ran as o, and left these columns. A tick that ended them refused by none but 6 to 9.
-pub record Steps (places speeds : List Float) (flags : List ℕ) (ds : List Float) (budget : ℕ) (r : Stepped) (o : Run) : Type 0 where
-  pub is : ranFor (r .ticks) (r .refusal) (stateOf places speeds flags (r .alpha) ds (r .used) (r .visits)) ≡ o
+-- nothing is counted yet
+abbrev pub start : Float → Progress
+start alpha = record { alpha = alpha; used = 0; visits = 0 }
+
+-- The ticks ran as o, and left the columns k. Where a refusal ended them, the work slots are zeroed.
+pub record Steps (k : Columns) (ds : List Float) (budget : ℕ) (r : Stepped) (o : TicksDone) : Type 0 where
+  pub is : ticksDone (r .ticks) (r .refusal) (stateOf k ds (r .progress)) ≡ o
   pub late : zeroesWork (r .refusal) ≡ true
   pub ticked : r .ticks ≤ budget
-  pub drawn : r .used ≤ length ds
-  pub few : r .visits ≤ budget * 2 ^ 40
-  pub ranged : all within places ≡ true
+  pub drawn : r .progress .used ≤ length ds
+  pub few : r .progress .visits ≤ budget * 2 ^ 40
+  pub ranged : all within (k .places) ≡ true

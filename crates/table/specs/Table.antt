@@ -16,8 +16,9 @@ use Rattle.rules.specs.Outcome.{Outcome, refusalOf, workAfter}
 use Rattle.rules.specs.Number.{_⊖_, _⊗_, _⊘_, 0·, 1·, 2·, limit, floatOf, bitsOf}
 use Rattle.rules.specs.Root.{rootBits}
 use Rattle.rules.specs.Refusal.{mostParticles}
-use Rattle.rules.specs.Sheet.{particle, sheetOf, placesOf, pairsBytes}
+use Rattle.rules.specs.Sheet.{recordSize, particle, sheetOf, placesOf, pairsBytes}
 use Rattle.rules.specs.Cover.{whole}
+use Rattle.rules.specs.Tree.{rowNumbers}
 use Rattle.rules.specs.Walk.{Counted}
 use Rattle.rules.specs.Flow.{Flow}
 use Rattle.rules.specs.Calls.{slotWords, TreeInput, treeResult, treeAnswer, rowsAfter, chainsAfter, treeWorkAfter, ForceInput, manyBodyResult, collideResult, linkResult, forceAnswer, bufferAfter, centerResult, closingResult, particlesAfter}
@@ -26,6 +27,7 @@ use Rattle.rules.specs.Listing.{lister, ascii}
 use Rattle.rules.specs.Outline.{OutlineInput, outlineAnswer, unwrappedAfter}
 use Rattle.rules.specs.Edits.{editsOf, insertions, EditsInput, editsAnswer, editRowsAfter, editChainsAfter, editWorkAfter}
 use Rattle.rules.specs.Opened.{opened}
+use Rattle.rules.specs.Terms.{resting}
 
 -- ---- numbers, and tests of equality
 
@@ -59,17 +61,11 @@ isRefusal number place r = eqb (r .number) number && eqb (r .place) place
 
 -- ---- trees: every lent list holds 9 or 7 before the call
 
--- particles at rest
-still : List Float → List Particle
-still [] = []
-still (x ∷ []) = []
-still (x ∷ y ∷ at) = particle x y 0· 0· 0 ∷ still at
-
 -- lent for the points at these places, with this many slots
 tree : ℕ → List Float → TreeInput
 tree slots at =
-    let ps = still at in
-    record { sheet = sheetOf ps; rows = replicate (slots * 4) 9; chains = replicate (length ps) 9; work = replicate (slots * slotWords + 1) 7 }
+    let ps = resting at in
+    record { sheet = sheetOf ps; rows = replicate (slots * rowNumbers) 9; chains = replicate (length ps) 9; work = replicate (slots * slotWords + 1) 7 }
 
 -- accepted, with these ends, rows and chains, and every work slot zero
 lists : TreeInput → List Float → List ℕ → List ℕ → Bool
@@ -115,7 +111,7 @@ behind = 4 ∷ []
 -- lent for the points at these places, with these draws
 force : List Float → List Float → ForceInput
 force at draws =
-    record { places = at; buffer = before ++ replicate (length at * 8) 0 ++ behind; start = 3; draws = draws; work = replicate 64 7 }
+    record { places = at; buffer = before ++ replicate (length at * 8) 0 ++ behind; start = 3; draws = draws; work = replicate (8 * slotWords) 7 }
 
 -- accepted, with these velocities, visits and draws used
 gives : ForceInput → Outcome (Counted Flow) → List Float → ℕ → ℕ → Bool
@@ -139,7 +135,7 @@ refusesForce l o number place w =
 -- Center from rest, accepted
 centers : List Float → List Float → Bool
 centers from to =
-    let ps = still from in
+    let ps = resting from in
     let o = centerResult 0· 0· 1· ps in
     isRefusal 0 0 (refusalOf o) && sameBits (placesOf (particlesAfter o ps)) to
 
@@ -185,31 +181,31 @@ table =
     ∷ []
 
 pub every-case-holds : all (λ c. c .holds) table ≡ true
-unfolding opened table T plus minus half −0· tiny equals sameBits isRefusal still tree lists counts refusesTree leavesAt before behind force gives refusesForce centers two close
+unfolding opened table T plus minus half −0· tiny equals sameBits isRefusal tree lists counts refusesTree leavesAt before behind force gives refusesForce centers two close
 every-case-holds = refl
 
 -- ---- the lister's sample, no points, and a refusal
 
 sample : List ℕ
-sample = sheetOf (still (0· ∷ 0· ∷ plus 3 ∷ plus 3 ∷ 0· ∷ 0· ∷ []))
+sample = sheetOf (resting (0· ∷ 0· ∷ plus 3 ∷ plus 3 ∷ 0· ∷ 0· ∷ []))
 
 pub listings : List Bool
 listings =
     equals (lister sample) (ascii "extent 0 0 4 4\n0 0 I\n1 0 L 0 2\n1 3 L 1\n")
     ∷ equals (lister []) (ascii "empty\n")
     ∷ equals (lister (1 ∷ [])) (ascii "refused 10\n")
-    ∷ equals (lister (sheetOf (still (half (minus 1) ∷ 0· ∷ [])))) (ascii "extent -1 0 0 1\n0 0 L 0\n")
+    ∷ equals (lister (sheetOf (resting (half (minus 1) ∷ 0· ∷ [])))) (ascii "extent -1 0 0 1\n0 0 L 0\n")
     ∷ []
 
 pub every-listing-is-right : all (λ b. b) listings ≡ true
-unfolding opened listings sample plus minus half equals still
+unfolding opened listings sample plus minus half equals
 every-listing-is-right = refl
 
 -- ---- lent lengths, which no run beside the Rust can show: 2, after 1 and before 4, with nothing changed
 
 -- the tree of one point, with these numbers of rows, chain places and work words
 lengths : ℕ → ℕ → ℕ → Float → TreeInput
-lengths rows chains work x = record { sheet = sheetOf (still (x ∷ 0· ∷ [])); rows = replicate rows 9; chains = replicate chains 9; work = replicate work 7 }
+lengths rows chains work x = record { sheet = sheetOf (resting (x ∷ 0· ∷ [])); rows = replicate rows 9; chains = replicate chains 9; work = replicate work 7 }
 
 -- a force's velocities that begin at a byte of the buffer
 startingAt : ℕ → ForceInput → ForceInput
@@ -239,14 +235,14 @@ edges =
     ∷ []
 
 pub every-edge-holds : all (λ b. b) edges ≡ true
-unfolding opened edges lengths startingAt nan· equals isRefusal still tree counts refusesTree before behind force refusesForce two
+unfolding opened edges lengths startingAt nan· equals isRefusal tree counts refusesTree before behind force refusesForce two
 every-edge-holds = refl
 
 -- ---- what T1 to T13 leave open: a row for each rule that reads well the other way round
 
 -- lent for points that move
 moving : List Float → List Float → List Float → ForceInput
-moving at vs draws = record { places = at; buffer = before ++ pairsBytes vs ++ behind; start = 3; draws = draws; work = replicate 64 7 }
+moving at vs draws = record { places = at; buffer = before ++ pairsBytes vs ++ behind; start = 3; draws = draws; work = replicate (8 * slotWords) 7 }
 
 quarters : ℕ → Float
 quarters n = plus n ⊘ plus 4
@@ -264,7 +260,7 @@ centring x y strength = entry 4 0 0 0 x y strength
 -- these particles at alpha 1 under these slots, with their numbers and draws
 sheet : List Particle → List ℕ → List Float → List Float → SheetInput
 sheet ps slots numbers draws =
-    record { sheet = sheetOf ps; alpha = bitsOf 1·; words = padded 56 0 slots; numbers = numbers; links = []; draws = draws; work = replicate 64 7 }
+    record { sheet = sheetOf ps; alpha = bitsOf 1·; words = padded 56 0 slots; numbers = numbers; links = []; draws = draws; work = replicate (8 * slotWords) 7 }
 
 -- target 0, and both decays a half
 halving : Settings
@@ -311,7 +307,7 @@ closes decay p q =
 
 -- T9's particles under ManyBody
 nine : SheetInput
-nine = sheet (still (0· ∷ 0· ∷ plus 3 ∷ plus 3 ∷ [])) (pushing 1) (minus 30 ∷ minus 30 ∷ []) []
+nine = sheet (resting (0· ∷ 0· ∷ plus 3 ∷ plus 3 ∷ [])) (pushing 1) (minus 30 ∷ minus 30 ∷ []) []
 
 -- one particle at (x,0)
 one : Float → ℕ → List Particle
@@ -357,16 +353,16 @@ slips =
     -- alpha at alpha_min ends a step before its first tick
     ∷ stepsTo nine 1· 0 0 true 1· 0 0
     -- one list of draws across ticks: the second tick finds none left, and the first stands
-    ∷ stepsTo (sheet (still (0· ∷ 0· ∷ 0· ∷ 0· ∷ [])) (pushing 1) (0· ∷ 0· ∷ []) (1· ∷ 1· ∷ 1· ∷ 1· ∷ [])) 0· 1 8 false (half 1·) 2 4
+    ∷ stepsTo (sheet (resting (0· ∷ 0· ∷ 0· ∷ 0· ∷ [])) (pushing 1) (0· ∷ 0· ∷ []) (1· ∷ 1· ∷ 1· ∷ 1· ∷ [])) 0· 1 8 false (half 1·) 2 4
     -- a flag before a coordinate before a velocity, the first bad record first; then a slot's numbers, then draws
     ∷ refusesTick (sheet (particle nan· 0· 0· 0· 4 ∷ []) [] [] []) 10 0 7
     ∷ refusesTick (sheet (particle 0· 0· nan· 0· 0 ∷ particle nan· 0· 0· 0· 0 ∷ []) (pushing 1) (0· ∷ nan· ∷ []) (2· ∷ [])) 5 0 7
-    ∷ refusesTick (sheet (still two) (pushing 1) (0· ∷ nan· ∷ []) (2· ∷ [])) 5 1 7
-    ∷ refusesTick (sheet (still two) (pushing 5) [] (2· ∷ [])) 5 0 7
+    ∷ refusesTick (sheet (resting two) (pushing 1) (0· ∷ nan· ∷ []) (2· ∷ [])) 5 1 7
+    ∷ refusesTick (sheet (resting two) (pushing 5) [] (2· ∷ [])) 5 0 7
     ∷ []
 
 pub every-slip-shows : all (λ b. b) slips ≡ true
-unfolding opened slips moving entry pushing centring sheet halving ticksTo refusesTick stepsTo nine one closes quarters plus minus half equals isRefusal still force gives before behind two nan·
+unfolding opened slips moving entry pushing centring sheet halving ticksTo refusesTick stepsTo nine one closes quarters plus minus half equals isRefusal force gives before behind two nan·
 every-slip-shows = refl
 
 -- ---- the limits: one over is refused by 1; what is just at them is accepted there, so that a later refusal shows, as a sheet that is right in all else would be large to compute
@@ -374,11 +370,11 @@ every-slip-shows = refl
 -- these bytes under these slots, with these numbers
 lent : List ℕ → List ℕ → List Float → SheetInput
 lent bytes slots numbers =
-    record { sheet = bytes; alpha = bitsOf 1·; words = padded 56 0 slots; numbers = numbers; links = []; draws = []; work = replicate 8 7 }
+    record { sheet = bytes; alpha = bitsOf 1·; words = padded 56 0 slots; numbers = numbers; links = []; draws = []; work = replicate slotWords 7 }
 
 -- a force on so many particles, with no velocities
 crowd : ℕ → ForceInput
-crowd n = record { places = replicate (n * 2) 0·; buffer = []; start = 0; draws = []; work = replicate 8 7 }
+crowd n = record { places = replicate (n * 2) 0·; buffer = []; start = 0; draws = []; work = replicate slotWords 7 }
 
 -- so many particles with an unknown flag, moved alone
 flagged : ℕ → Refusal
@@ -386,11 +382,11 @@ flagged n = refusalOf (closingResult 1· (replicate n (particle 0· 0· 0· 0· 
 
 -- one point, and a byte more
 oddly : TreeInput
-oddly = record { sheet = sheetOf (still (0· ∷ 0· ∷ [])) ++ (0 ∷ []); rows = replicate 4 9; chains = 9 ∷ []; work = replicate 8 7 }
+oddly = record { sheet = sheetOf (resting (0· ∷ 0· ∷ [])) ++ (0 ∷ []); rows = replicate rowNumbers 9; chains = 9 ∷ []; work = replicate slotWords 7 }
 
 -- a sheet of so many records, each with flags that there are not
 records : ℕ → List ℕ
-records n = replicate (n * 40) 9
+records n = replicate (n * recordSize) 9
 
 treeRefusal : ℕ → TreeInput → Refusal
 treeRefusal most l = treeAnswer l (treeResult most l) .refusal
@@ -424,7 +420,7 @@ limits =
     ∷ []
 
 pub every-limit-holds : all (λ b. b) limits ≡ true
-unfolding opened limits lent crowd flagged oddly records treeRefusal lengths entry halving half refusesTick equals isRefusal still force before behind refusesForce two
+unfolding opened limits lent crowd flagged oddly records treeRefusal lengths entry halving half refusesTick equals isRefusal force before behind refusesForce two
 every-limit-holds = refl
 
 -- ---- outlines, of document 02, R-10: the output holds 9 before the call
@@ -589,7 +585,7 @@ joinAll (l ∷ ls) = l ++ joinAll ls
 editing : ℕ → List (List ℕ) → EditsInput
 editing slots es =
     let words = joinAll es in
-    record { edits = words; rows = replicate (slots * 4) 9; chains = replicate (insertions (editsOf words)) 9; work = replicate (slots * slotWords + 1) 7 }
+    record { edits = words; rows = replicate (slots * rowNumbers) 9; chains = replicate (insertions (editsOf words)) 9; work = replicate (slots * slotWords + 1) 7 }
 
 -- the same with other lengths
 lending : ℕ → ℕ → EditsInput → EditsInput

@@ -1,6 +1,6 @@
 -- The outcomes of a force's call, of a tick and of a step, taken apart: what it is that they accept. Assumes nothing.
 use mathlib.Core.Path.{_≡_, refl, sym, ap, _∙_}
-use mathlib.Core.Bool.{Bool, _&&_, true, and-eq-true-iff}
+use mathlib.Core.Bool.{Bool, true, and-eq-true-iff}
 use mathlib.Core.List.{List}
 use Prim.Native.Nat.{ℕ}
 use native.Mathlib.Omega.{arith}
@@ -9,24 +9,26 @@ use Rattle.rules.specs.declared.Refusal.{Refusal}
 use Rattle.rules.specs.declared.Settings.{Settings}
 use Rattle.rules.specs.declared.Counts.{Counts}
 use Rattle.rules.specs.Outcome.{Outcome, done, refused, Check, fine, _then_, _>>=_, checkEach, refusalOf}
-use Rattle.rules.specs.Plain.{upTo}
-use Rattle.rules.specs.Number.{placeRange, xAt, yAt}
-use Rattle.rules.specs.Refusal.{mostParticles, mostTicks, countCheck, lengthsCheck, coordinateCheck, velocityCheck, drawsCheck, settingsCheck, resultCheck}
+use Rattle.rules.specs.Number.{within, xAt, yAt}
+use Rattle.rules.specs.Refusal.{mostParticles, countCheck, lengthsCheck, drawsCheck, settingsCheck, resultCheck}
 use Rattle.rules.specs.Sheet.{wholeRecords, particlesOf, recordsCheck}
 use Rattle.rules.specs.Tree.{treeCheck}
 use Rattle.rules.specs.Walk.{Counted, counted}
 use Rattle.rules.specs.Flow.{Flow, flow}
-use Rattle.rules.specs.Force.{Push, pushCounts, pushLengths, pushEnds, pushRanges, run}
+use Rattle.rules.specs.ManyBody.{standard}
+use Rattle.rules.specs.Force.{Push, pushLengths, run}
 use Rattle.rules.specs.Calls as Calls
-use Rattle.rules.specs.Calls.{slotsOf, ForceInput, speeds, inputLengths, pointsCheck, forceCheck, forceResult, forceAnswer}
-use Rattle.rules.specs.Tick.{SheetInput, count, entries, forces, entryCounts, forceEnds, forceRanges, listLengths, sheetCheck, State, tick, begun, tickSettings, tickResult, tickAnswer}
+use Rattle.rules.specs.Calls.{slotsOf, ForceInput, speeds, lentCheck, numbersCheck, forceCheck, forceResult, forceAnswer}
+use Rattle.rules.specs.Tick.{SheetInput, count, entries, forces, entryCounts, forceEnds, forceRanges, tickLengths, sheetCheck, State, tick, entryState, tickSettings, tickResult, tickAnswer}
 use Rattle.rules.specs.Terms.{NotOfTree}
 use Rattle.rules.proofs.RefusalLaws.{Refuses, done-of, of-answer}
 use Rattle.rules.proofs.Places.{force-refuses, tick-refuses, early-numbered, late-numbered}
-use Rattle.tree_cells.proofs.Prefix.{InRange, fine-each}
+use Rattle.tree_cells.proofs.Prefix.{InRange}
 use Rattle.tree_cells.proofs.WholeTree.{building, ruled-exactly, earliest}
-use Rattle.list_checks.proofs.Checks.{then-both, require-true}
-use Rattle.force_call.specs.Calls.{Answered}
+use Rattle.list_checks.proofs.Checks.{then-both}
+use Rattle.force_call.specs.Calls.{AfterForce}
+use Rattle.force_call.proofs.Called.{lent-all}
+use Rattle.force_call.proofs.Ranged.{places-within}
 use Rattle.tick_call.specs.Tick.{AfterTick}
 use Rattle.talemiku.specs.Told.{TreeRefused}
 
@@ -38,55 +40,45 @@ pub record Checked (l : ForceInput) (f : Push) : Type 0 where
   pub ranged : InRange (l .places) (Calls.count l)
 
 -- it ran on these, and its counts are those of the run
-pub record Ran (l : ForceInput) (f : Push) (alpha : Float) (r : Counts) : Type 0 where
+pub record ForceRan (l : ForceInput) (f : Push) (alpha : Float) (r : Counts) : Type 0 where
   pub checked : Checked l f
   pub last : Counted Flow
-  pub run : run f (l .places) alpha (slotsOf (l .work)) (counted (flow (speeds l) (l .draws)) 0) ≡ done last
+  pub run : run standard f (l .places) alpha (slotsOf (l .work)) (counted (flow (speeds l) (l .draws)) 0) ≡ done last
   pub visits : r .visits ≡ last .visits
 
-module _ (l : ForceInput) (f : Push) (wholeEnds : Bool) (alpha : Float) (settings : List Float) where
-  pub checked : forceCheck l f wholeEnds settings ≡ fine → Checked l f
+module _ (l : ForceInput) (f : Push) (wholeEnds : Bool) (alpha : Float) where
+  pub checked : forceCheck l f wholeEnds alpha ≡ fine → Checked l f
   unfolding forceCheck
   checked h =
-      let n = Calls.count l in
-      let agree = inputLengths l && wholeEnds && pushLengths n f in
-      let counts = countCheck mostParticles n then pushCounts f in
-      let places = checkEach (λ i _. coordinateCheck i (xAt (l .places) i) (yAt (l .places) i)) (upTo n) in
-      let a = then-both (counts then lengthsCheck agree then pushEnds n f then pointsCheck l then pushRanges f then drawsCheck (l .draws)) (settingsCheck settings) h in
-      let b = then-both (counts then lengthsCheck agree then pushEnds n f then pointsCheck l then pushRanges f) (drawsCheck (l .draws)) (a .0) in
-      let c = then-both (counts then lengthsCheck agree then pushEnds n f then pointsCheck l) (pushRanges f) (b .0) in
-      let d = then-both (counts then lengthsCheck agree then pushEnds n f) (pointsCheck l) (c .0) in
-      let e = then-both (counts then lengthsCheck agree) (pushEnds n f) (d .0) in
-      let g = then-both counts (lengthsCheck agree) (e .0) in
-      let p = then-both places (checkEach (λ i _. velocityCheck i (xAt (speeds l) i) (yAt (speeds l) i)) (upTo n)) (d .1) in
+      let a = then-both (lentCheck l f wholeEnds) (numbersCheck (l .places) (speeds l) f (l .draws) alpha) h in
       record {
-        lengths = and-eq-true-iff (inputLengths l && wholeEnds) (pushLengths n f) .0 (require-true agree 2 0 (g .1)) .1;
-        ranged = λ i k. require-true (placeRange (xAt (l .places) i) (yAt (l .places) i)) 4 i (fine-each (λ j. coordinateCheck j (xAt (l .places) j) (yAt (l .places) j)) 0 n (p .0) i (omega arith) (omega arith));
+        lengths = lent-all l f wholeEnds (a .0) .lengths;
+        ranged = λ i k. and-eq-true-iff (within (xAt (l .places) i)) (within (yAt (l .places) i)) .1 (places-within l f (speeds l) (l .draws) alpha (a .1) i k);
       }
 
-  force-done : (r : Counts) (m : Counted Flow) → forceResult l f wholeEnds alpha settings ≡ done m → r ≡ forceAnswer l (forceResult l f wholeEnds alpha settings) → Ran l f alpha r
+  force-done : (r : Counts) (m : Counted Flow) → forceResult l f wholeEnds alpha ≡ done m → r ≡ forceAnswer l (forceResult l f wholeEnds alpha) → ForceRan l f alpha r
   unfolding forceResult forceAnswer
-  force-done r m e h = go (forceCheck l f wholeEnds settings) (run f (l .places) alpha (slotsOf (l .work)) (counted (flow (speeds l) (l .draws)) 0)) refl refl e (ap (λ (r : Counts). r .visits) h ∙ rw e)
+  force-done r m e h = go (forceCheck l f wholeEnds alpha) (run standard f (l .places) alpha (slotsOf (l .work)) (counted (flow (speeds l) (l .draws)) 0)) refl refl e (ap (λ (r : Counts). r .visits) h ∙ rw e)
     where
-      go : (c : Check) (o : Outcome (Counted Flow)) → forceCheck l f wholeEnds settings ≡ c → run f (l .places) alpha (slotsOf (l .work)) (counted (flow (speeds l) (l .draws)) 0) ≡ o
-          → (c >>= λ _. o >>= λ m. resultCheck (l .places) (m .state .speeds) >>= λ _. done m) ≡ done m → r .visits ≡ m .visits → Ran l f alpha r
-      go (done u) (done k) p q e v = record { checked = checked p; last = k; run = q; visits = v ∙ ap (λ (m : Counted Flow). m .visits) (sym (settle (resultCheck (l .places) (k .state .speeds)) e)) }
+      go : (c : Check) (o : Outcome (Counted Flow)) → forceCheck l f wholeEnds alpha ≡ c → run standard f (l .places) alpha (slotsOf (l .work)) (counted (flow (speeds l) (l .draws)) 0) ≡ o
+          → (c >>= λ _. o >>= λ m. resultCheck (l .places) (m .state .speeds) >>= λ _. done m) ≡ done m → r .visits ≡ m .visits → ForceRan l f alpha r
+      go (done u) (done k) p q e v = record { checked = checked p; last = k; run = q; visits = v ∙ ap (λ (m : Counted Flow). m .visits) (sym (kept (resultCheck (l .places) (k .state .speeds)) e)) }
         where
-          settle : (c : Check) → (c >>= λ _. done k) ≡ done m → k ≡ m
-          settle (done u) e = cc
-          settle (refused r) e = absurd (let z : _≡_ {A = ℕ} 0 1 = cc in omega arith)
+          kept : (c : Check) → (c >>= λ _. done k) ≡ done m → k ≡ m
+          kept (done u) e = cc
+          kept (refused r) e = absurd (let z : _≡_ {A = ℕ} 0 1 = cc in omega arith)
       go (done u) (refused r) p q e v = absurd (let z : _≡_ {A = ℕ} 0 1 = cc in omega arith)
       go (refused r) o p q e v = absurd (let z : _≡_ {A = ℕ} 0 1 = cc in omega arith)
 
   -- answered 0
-  pub force-ran : {r : Counts} {buffer work : List ℕ} → Answered l (forceResult l f wholeEnds alpha settings) r buffer work → r .refusal .number ≡ 0 → Ran l f alpha r
+  pub force-ran : {r : Counts} {buffer work : List ℕ} → AfterForce l (forceResult l f wholeEnds alpha) r buffer work → r .refusal .number ≡ 0 → ForceRan l f alpha r
   unfolding forceAnswer
   force-ran {r} a z =
-      let (m, e) = done-of (forceResult l f wholeEnds alpha settings) (force-refuses early-numbered late-numbered l f wholeEnds alpha settings) (sym (ap (λ (r : Counts). r .refusal .number) (a .answer)) ∙ z) in
+      let (m, e) = done-of (forceResult l f wholeEnds alpha) (force-refuses early-numbered late-numbered l f wholeEnds alpha) (sym (ap (λ (r : Counts). r .refusal .number) (a .answer)) ∙ z) in
       force-done r m e (a .answer)
 
 -- a force of k = n particles that refuses as building its tree does, and where that is fine by neither 6 nor 7
-pub force-refuses-tree : (l : ForceInput) {r : Counts} {buffer work : List ℕ} (o : Outcome (Counted Flow)) (k : ℕ) → Answered l o r buffer work → InRange (l .places) (Calls.count l) → k ≡ Calls.count l
+pub force-refuses-tree : (l : ForceInput) {r : Counts} {buffer work : List ℕ} (o : Outcome (Counted Flow)) (k : ℕ) → AfterForce l o r buffer work → InRange (l .places) (Calls.count l) → k ≡ Calls.count l
     → ((q : Refusal) → treeCheck (l .places) k (slotsOf (l .work)) ≡ refused q → o ≡ refused q) × (treeCheck (l .places) k (slotsOf (l .work)) ≡ fine → Refuses NotOfTree o)
     → TreeRefused (l .places) (Calls.count l) (slotsOf (l .work)) (r .refusal)
 unfolding forceAnswer
@@ -100,39 +92,39 @@ force-refuses-tree l {r} o k a ranged e b =
 
 module _ (l : SheetInput) where
   -- the counts of all slots are within the limits
-  pub entries-fine : (ticks : ℕ) (settings : List Float) → sheetCheck l ticks settings ≡ fine → checkEach (λ _ e. entryCounts e) (entries l) ≡ fine
+  pub entries-fine : (ticks : Check) (settings : List Float) → sheetCheck l ticks settings ≡ fine → checkEach (λ _ e. entryCounts e) (entries l) ≡ fine
   unfolding sheetCheck
   entries-fine ticks settings h =
-      let counts = wholeRecords (l .sheet) then countCheck mostParticles (count l) then countCheck mostTicks ticks in
+      let counts = wholeRecords (l .sheet) then countCheck mostParticles (count l) then ticks in
       let slots = checkEach (λ _ e. entryCounts e) (entries l) in
       let ends = checkEach (λ _ f. forceEnds (count l) f) (forces l) in
       let records = recordsCheck (particlesOf (l .sheet)) in
       let ranges = checkEach (λ _ f. forceRanges f) (forces l) in
-      let a = then-both (counts then slots then lengthsCheck (listLengths l) then ends then records then ranges then drawsCheck (l .draws)) (settingsCheck settings) h in
-      let b = then-both (counts then slots then lengthsCheck (listLengths l) then ends then records then ranges) (drawsCheck (l .draws)) (a .0) in
-      let c = then-both (counts then slots then lengthsCheck (listLengths l) then ends then records) ranges (b .0) in
-      let d = then-both (counts then slots then lengthsCheck (listLengths l) then ends) records (c .0) in
-      let e = then-both (counts then slots then lengthsCheck (listLengths l)) ends (d .0) in
-      let f = then-both (counts then slots) (lengthsCheck (listLengths l)) (e .0) in
+      let a = then-both (counts then slots then lengthsCheck (tickLengths l) then ends then records then ranges then drawsCheck (l .draws)) (settingsCheck settings) h in
+      let b = then-both (counts then slots then lengthsCheck (tickLengths l) then ends then records then ranges) (drawsCheck (l .draws)) (a .0) in
+      let c = then-both (counts then slots then lengthsCheck (tickLengths l) then ends then records) ranges (b .0) in
+      let d = then-both (counts then slots then lengthsCheck (tickLengths l) then ends) records (c .0) in
+      let e = then-both (counts then slots then lengthsCheck (tickLengths l)) ends (d .0) in
+      let f = then-both (counts then slots) (lengthsCheck (tickLengths l)) (e .0) in
       then-both counts slots (f .0) .1
 
   -- a tick that ran, with its counts
-  pub record Ticked (s : Settings) (r : Counts) : Type 0 where
-    pub input : sheetCheck l 0 (tickSettings l s) ≡ fine
+  pub record TickRan (s : Settings) (r : Counts) : Type 0 where
+    pub input : sheetCheck l fine (tickSettings l s) ≡ fine
     pub last : State
-    pub run : tick s (forces l) (slotsOf (l .work)) (begun l s) ≡ done last
+    pub run : tick s (forces l) (slotsOf (l .work)) (entryState l) ≡ done last
     pub visits : r .visits ≡ last .visits
 
-  tick-done : (s : Settings) (r : Counts) (m : State) → tickResult l s ≡ done m → r ≡ tickAnswer l s → Ticked s r
+  tick-done : (s : Settings) (r : Counts) (m : State) → tickResult l s ≡ done m → r ≡ tickAnswer l s → TickRan s r
   unfolding tickResult tickAnswer
-  tick-done s r m e h = go (sheetCheck l 0 (tickSettings l s)) refl e (ap (λ (r : Counts). r .visits) h ∙ rw e)
+  tick-done s r m e h = go (sheetCheck l fine (tickSettings l s)) refl e (ap (λ (r : Counts). r .visits) h ∙ rw e)
     where
-      go : (c : Check) → sheetCheck l 0 (tickSettings l s) ≡ c → (c >>= λ _. tick s (forces l) (slotsOf (l .work)) (begun l s)) ≡ done m → r .visits ≡ m .visits → Ticked s r
+      go : (c : Check) → sheetCheck l fine (tickSettings l s) ≡ c → (c >>= λ _. tick s (forces l) (slotsOf (l .work)) (entryState l)) ≡ done m → r .visits ≡ m .visits → TickRan s r
       go (done u) p e v = record { input = p; last = m; run = e; visits = v }
       go (refused r) p e v = absurd (let z : _≡_ {A = ℕ} 0 1 = cc in omega arith)
 
   -- answered 0
-  pub tick-ran : {s : Settings} {r : Counts} {sheet : List ℕ} {alpha : ℕ} {work : List ℕ} → AfterTick l s r sheet alpha work → r .refusal .number ≡ 0 → Ticked s r
+  pub tick-ran : {s : Settings} {r : Counts} {sheet : List ℕ} {alpha : ℕ} {work : List ℕ} → AfterTick l s r sheet alpha work → r .refusal .number ≡ 0 → TickRan s r
   unfolding tickAnswer
   tick-ran {s} {r} a z =
       let (m, e) = done-of (tickResult l s) (tick-refuses early-numbered late-numbered l s) (sym (ap (λ (r : Counts). r .refusal .number) (a .answer)) ∙ z) in

@@ -29,7 +29,7 @@ use denote.Triple.Table.{cited}
 use denote.Triple.Clauses.{Ended, Lasts, lasts}
 use Rattle.rules.specs.declared.Particle.{Particle}
 use Rattle.rules.specs.Outcome.{refusalOf}
-use Rattle.rules.specs.Refusal.{countCheck, settingsCheck}
+use Rattle.rules.specs.Refusal.{mostParticles, countCheck, settingsCheck}
 use Rattle.rules.specs.Sheet.{recordCheck}
 use Rattle.rules.specs.Particle as Rule
 use Rattle.rules.proofs.Particle as T
@@ -51,9 +51,9 @@ use Rattle.tick_checks.proofs.settings_check.Met as settings-check-thm
 use Rattle.talemiku.proofs.check.result_check as result-check
 use Rattle.talemiku.proofs.check.result_check.Symbol as result-check-def
 use Rattle.talemiku.proofs.check.result_check.Met as result-check-thm
-use Rattle.closing.proofs.moved as moved
-use Rattle.closing.proofs.moved.Symbol as moved-def
-use Rattle.closing.proofs.moved.Met as moved-thm
+use Rattle.talemiku.proofs.applying.moved_alone as moved
+use Rattle.talemiku.proofs.applying.moved_alone.Symbol as moved-def
+use Rattle.talemiku.proofs.applying.moved_alone.Met as moved-thm
 use Rattle.center.proofs.shifted as shifted
 use Rattle.center.proofs.shifted.Symbol as shifted-def
 use Rattle.center.proofs.shifted.Met as shifted-thm
@@ -64,7 +64,7 @@ use Rattle.talemiku.proofs.centring.offsets as offsets
 use Rattle.talemiku.proofs.centring.offsets.Symbol as offsets-def
 use Rattle.talemiku.proofs.centring.offsets.Met as offsets-thm
 use Rattle.talemiku.specs.declared.centring.Pair.{Pair}
-use Rattle.talemiku.specs.Pass.{resultOf, addedTo, offsetsOf}
+use Rattle.talemiku.specs.Pass.{resultOf, movedAlone, addedTo, offsetsOf}
 use Rattle.talemiku.proofs.centring.Pair as P
 use Rattle.talemiku.proofs.centring.Pair.Laws as P′
 use Rattle.talemiku.proofs.Values.{val, valP, Fits, FitsP}
@@ -147,12 +147,12 @@ module _ {M : Type 1} (𝓤 : URA M) (H : Heap 𝓤) (𝓜 : Model 𝓤 H) (𝓖
       (ready 𝓤 H A (T.the-row ∷ []) (particles, tt) (p, tt) (val p ∷ [], tt) (p-fits, tt))
       R.the-type R′.the-laws (refusalOf (resultOf p)) (λ _. refl)
 
-  pub moved-gives : γ moved-def.name ≡ moved-def.routine → (decay : Float) (entry : Particle) (p : Particle) → Ieee.fits binary64 decay ≡ true → Fits entry → Fits p
-      → Gives 𝓤 H A T.the-type T′.the-laws (Rule.moved decay entry p) (𝓣 .C moved-def.name) (vfloat binary64 decay ∷ val entry ∷ val p ∷ [])
-  moved-gives is decay entry p decay-fits entry-fits p-fits =
-      plainly moved.ended (moved.spec 𝓤 H A (𝓜 .mem) (𝓡 .run)) moved-def.name moved-def.routine is (moved-thm.met 𝓤 H 𝓜 𝓖 𝓡) ((tt, tt, tt, (decay, (entry, (p, tt))), (vfloat binary64 decay ∷ [], (val entry ∷ [], (val p ∷ [], tt)))), tt)
-      (ready 𝓤 H A (f64 ∷ T.the-row ∷ T.the-row ∷ []) (float, (particles, (particles, tt))) (decay, (entry, (p, tt))) (vfloat binary64 decay ∷ [], (val entry ∷ [], (val p ∷ [], tt))) ((refl, decay-fits), (entry-fits, (p-fits, tt))))
-      T.the-type T′.the-laws (Rule.moved decay entry p) (λ _. refl)
+  pub moved-gives : γ moved-def.name ≡ moved-def.routine → (decay : Float) (p : Particle) → Ieee.fits binary64 decay ≡ true → Fits p
+      → Gives 𝓤 H A T.the-type T′.the-laws (movedAlone decay p) (𝓣 .C moved-def.name) (vfloat binary64 decay ∷ val p ∷ [])
+  moved-gives is decay p decay-fits p-fits =
+      plainly moved.ended (moved.spec 𝓤 H A (𝓜 .mem) (𝓡 .run)) moved-def.name moved-def.routine is (moved-thm.met 𝓤 H 𝓜 𝓖 𝓡) ((tt, tt, tt, (decay, (p, tt)), (vfloat binary64 decay ∷ [], (val p ∷ [], tt))), tt)
+      (ready 𝓤 H A (f64 ∷ T.the-row ∷ []) (float, (particles, tt)) (decay, (p, tt)) (vfloat binary64 decay ∷ [], (val p ∷ [], tt)) ((refl, decay-fits), (p-fits, tt)))
+      T.the-type T′.the-laws (movedAlone decay p) (λ _. refl)
 
   pub shifted-gives : γ shifted-def.name ≡ shifted-def.routine → (sx : Float) (sy : Float) (p : Particle) → Ieee.fits binary64 sx ≡ true → Ieee.fits binary64 sy ≡ true → Fits p
       → Gives 𝓤 H A T.the-type T′.the-laws (Rule.shifted sx sy p) (𝓣 .C shifted-def.name) (vfloat binary64 sx ∷ vfloat binary64 sy ∷ val p ∷ [])
@@ -168,9 +168,9 @@ module _ {M : Type 1} (𝓤 : URA M) (H : Heap 𝓤) (𝓜 : Model 𝓤 H) (𝓖
       (ready 𝓤 H A (P.the-row ∷ T.the-row ∷ []) (pairs, (particles, tt)) (sums, (p, tt)) (valP sums ∷ [], (val p ∷ [], tt)) (sums-fits, (p-fits, tt)))
       P.the-type P′.the-laws (addedTo sums p) (λ _. refl)
 
-  pub offsets-gives : γ offsets-def.name ≡ offsets-def.routine → (sums : Pair) (n : ℕ) (x : Float) (y : Float) (strength : Float) → FitsP sums → n < 2 ^ 64 → Ieee.fits binary64 x ≡ true → Ieee.fits binary64 y ≡ true → Ieee.fits binary64 strength ≡ true → n ≤ 4096
+  pub offsets-gives : γ offsets-def.name ≡ offsets-def.routine → (sums : Pair) (n : ℕ) (x : Float) (y : Float) (strength : Float) → FitsP sums → n < 2 ^ 64 → Ieee.fits binary64 x ≡ true → Ieee.fits binary64 y ≡ true → Ieee.fits binary64 strength ≡ true → n ≤ mostParticles
       → Gives 𝓤 H A P.the-type P′.the-laws (offsetsOf sums n x y strength) (𝓣 .C offsets-def.name) (valP sums ∷ vint w64 n ∷ vfloat binary64 x ∷ vfloat binary64 y ∷ vfloat binary64 strength ∷ [])
   offsets-gives is sums n x y strength sums-fits n-fits x-fits y-fits strength-fits small =
       plainly offsets.ended (offsets.spec 𝓤 H A (𝓜 .mem) (𝓡 .run)) offsets-def.name offsets-def.routine is (offsets-thm.met 𝓤 H 𝓜 𝓖 𝓡) ((tt, tt, tt, (sums, (n, (x, (y, (strength, tt))))), (valP sums ∷ [], (vint w64 n ∷ [], (vfloat binary64 x ∷ [], (vfloat binary64 y ∷ [], (vfloat binary64 strength ∷ [], tt)))))), tt)
-      (ready-at 𝓤 H A (n ≤ 4096) small (P.the-row ∷ usize ∷ f64 ∷ f64 ∷ f64 ∷ []) (pairs, (whole, (float, (float, (float, tt))))) (sums, (n, (x, (y, (strength, tt))))) (valP sums ∷ [], (vint w64 n ∷ [], (vfloat binary64 x ∷ [], (vfloat binary64 y ∷ [], (vfloat binary64 strength ∷ [], tt))))) (sums-fits, ((refl, n-fits), ((refl, x-fits), ((refl, y-fits), ((refl, strength-fits), tt))))))
+      (ready-at 𝓤 H A (n ≤ mostParticles) small (P.the-row ∷ usize ∷ f64 ∷ f64 ∷ f64 ∷ []) (pairs, (whole, (float, (float, (float, tt))))) (sums, (n, (x, (y, (strength, tt))))) (valP sums ∷ [], (vint w64 n ∷ [], (vfloat binary64 x ∷ [], (vfloat binary64 y ∷ [], (vfloat binary64 strength ∷ [], tt))))) (sums-fits, ((refl, n-fits), ((refl, x-fits), ((refl, y-fits), ((refl, strength-fits), tt))))))
       P.the-type P′.the-laws (offsetsOf sums n x y strength) (λ _. refl)

@@ -22,14 +22,14 @@ use Rattle.rules.specs.Tree.{Tree, nodes, depth, greatestLevel, same, treeIn, r
 use Rattle.rules.specs.Sheet.{sheetOf}
 use Rattle.rules.specs.Calls.{slotsOf, treeResult}
 use Rattle.rules.specs.Edits.{insertion, removal, editWords, editsOf, insertions, among, extentNow, removable, EditsInput, editList, editInputCheck}
-use Rattle.rules.specs.Terms.{leaves, EachLeaf, Oversized, times, inCell, IsTree, Sided, Contains, distinct, mostNodes, Ruled, nthEdit, presentAt, extentAt, treeAt, CanBeMade, EarliestEdit}
+use Rattle.rules.specs.Terms.{leaves, EachLeaf, Oversized, times, inCell, IsTree, Sided, Contains, distinct, mostNodes, Ruled, nthEdit, presentAt, extentAt, treeAt, CanBeMade, EarliestEdit, resting}
 use Rattle.rules.proofs.EditLaws.{left-at, absent-at, edits-append}
 use Rattle.tree_cells.proofs.Prefix.{InRange}
 use Rattle.tree_cells.proofs.WholeTree.{extent-sided, extent-holds}
 use Rattle.tree_rows.proofs.ListRows.{rows-count}
 use Rattle.tree_call.specs.Tree.{AfterTree}
 use Rattle.edits_call.specs.Call.{lent, AfterEdits}
-use Rattle.talemiku.specs.Told.{resting, pointsMade, presentLast, extentLast, treeLast, EditsFine, PointsSheet, onSheet, editsMade, undone}
+use Rattle.talemiku.specs.Told.{pointsMade, presentLast, extentLast, treeLast, EditsFine, PointsSheet, onSheet, editsMade, undone}
 use Rattle.talemiku.proofs.Inserts.{points-sheet, as-tree}
 use Rattle.talemiku.proofs.Widens.{widens, wider}
 use Rattle.talemiku.proofs.Undone.{first-accepted, first-extent, first-tree, undone-is, undone-same}

@@ -14,20 +14,21 @@ use Rattle.rules.specs.declared.TreeAnswer.{TreeAnswer}
 use Rattle.rules.specs.Plain.{foldl, countFrom, upTo}
 use Rattle.rules.specs.Outcome.{Check, fine, require, _>>=_, checkFrom}
 use Rattle.rules.specs.Number.{0·, floatOf, finite}
-use Rattle.rules.specs.Refusal.{mostParticles, coordinateCheck}
+use Rattle.rules.specs.Refusal.{mostParticles, placeCheck}
 use Rattle.rules.specs.Sheet.{countOf, particle, particlesOf, sheetOf, placesOf, wholeRecords, recordCheck, recordsCheck}
 use Rattle.rules.specs.Opened.{opened}
 use Rattle.rules.specs.Cover.{extentOf}
 use Rattle.rules.specs.Tree.{treeOf, fitsCheck, treeCheck}
 use Rattle.rules.specs.Calls.{slotsOf, inputCheck, treeOfSheet, coverSheet, treeLengths, treeResult, treeAnswer, rowsAfter, chainsAfter, treeWorkAfter}
 use Rattle.rules.specs.Edits.{Edit, insertion, removal, unknown, editsOf, pointsOf, insertions, present, edited, presentAfter, extentNow, treeNow, editCheck, editsFrom, pointCheck, known, EditsInput, editList, editInputCheck, editsResult, editsAnswer, editRowsAfter, editChainsAfter, editWorkAfter}
+use Rattle.rules.specs.Terms.{resting}
 use Rattle.rules.proofs.CellCount.{upTo-snoc}
 use Rattle.list_checks.proofs.Checks.{then-fine}
 use Rattle.sheet.proofs.Sheets.{Held, AllHeld, sheet-length, particles-of-sheet}
 use Rattle.edits_words.proofs.Words.{insertions-few}
 use Rattle.edits_call.specs.Call.{AfterEdits}
 use Rattle.tree_call.specs.Tree.{AfterTree}
-use Rattle.talemiku.specs.Told.{resting, pointsMade, PointsSheet, onSheet}
+use Rattle.talemiku.specs.Told.{pointsMade, PointsSheet, onSheet}
 
 -- ---- the points' sheet
 
@@ -60,9 +61,9 @@ still : finite 0· ≡ true
 unfolding opened
 still = refl
 
-resting-check : (k : ℕ) (x y : Float) → recordCheck k (particle x y 0· 0· 0) ≡ coordinateCheck k x y
+resting-check : (k : ℕ) (x y : Float) → recordCheck k (particle x y 0· 0· 0) ≡ placeCheck k x y
 unfolding recordCheck
-resting-check k x y = rw still (then-fine (coordinateCheck k x y))
+resting-check k x y = rw still (then-fine (placeCheck k x y))
 
 -- every edit is an insertion
 abbrev pub Inserts : List Edit → Type 0

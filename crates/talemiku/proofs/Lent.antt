@@ -25,6 +25,7 @@ use denote.Lend.{Held}
 use denote.Index.{row, opens-slice}
 use Rattle.rules.specs.declared.Particle.{Particle}
 use Rattle.rules.proofs.Particle as T
+use Rattle.rules.specs.Sheet.{recordSize}
 use Rattle.talemiku.proofs.Frame.{held, deaths}
 
 pub record Lent : Type 0 where
@@ -58,8 +59,8 @@ module _ (L : Lent) where
   pub next-fits : (i : ℕ) → i < length (L .xs) → i + 1 < 2 ^ 64
   next-fits i small = subst (λ (j : ℕ). j < 2 ^ 64) (sym (add-one i)) (lt-of-le-of-lt small (L .fits .0))
 
-  pub place-fits : (i : ℕ) → i < length (L .xs) → i * 40 < 2 ^ 64
-  place-fits i small = lt-of-le-of-lt (mul-le-mul-right {m = i} {n = length (L .xs)} 40 (omega (arith, small))) (omega (arith, L .fits .1))
+  pub place-fits : (i : ℕ) → i < length (L .xs) → i * recordSize < 2 ^ 64
+  place-fits i small = lt-of-le-of-lt (mul-le-mul-right {m = i} {n = length (L .xs)} recordSize (omega (arith, small))) (omega (arith, L .fits .1))
 
   module _ {M : Type 1} {𝓤 : URA M} where
     abbrev pub At : List (Ty × ℕ) → List Particle → List (Option Val) → List (Item 𝓤)

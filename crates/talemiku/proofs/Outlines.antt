@@ -19,7 +19,7 @@ use Rattle.rules.proofs.Signs.{size-add}
 use Rattle.rules.proofs.Outline.{longitude-size, outline-length, outline-within, outline-same, closes-sum, sum-closes, closes-same, check-same}
 use Rattle.sheet.proofs.Lists.{overwritten-length}
 use Rattle.outline.specs.Unwrap.{Unwrapped, lentOutline}
-use Rattle.outline.proofs.Ends.{sound}
+use Rattle.outline.proofs.OutlineCalled.{sound}
 use Rattle.talemiku.specs.Told.{OutlineFine}
 
 module _ (l : OutlineInput) where

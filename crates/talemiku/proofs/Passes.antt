@@ -15,11 +15,11 @@ use Rattle.rules.specs.Number.{_⊕_, 0·, within, finite}
 use Rattle.rules.specs.Outcome.{refused, Check, fine, require, _>>=_, refusalOf, checkFrom, checkEach}
 use Rattle.rules.specs.Refusal.{countCheck, settingsCheck, resultCheck}
 use Rattle.rules.specs.Sheet.{particle, placesOf, speedsOf}
-use Rattle.rules.specs.Particle.{offset, shifted, centered, moved, closing}
+use Rattle.rules.specs.Particle.{offset, shifted, centered, closing}
 use Rattle.rules.proofs.RefusalNumbers.{count-early, settings-early}
 use Rattle.list_checks.proofs.Scans.{passes}
 use Rattle.talemiku.specs.declared.centring.Pair.{Pair}
-use Rattle.talemiku.specs.Pass.{resultOf, pair, addedTo, offsetsOf}
+use Rattle.talemiku.specs.Pass.{resultOf, movedAlone, pair, addedTo, offsetsOf}
 
 -- what stands past a list's end: no pass looks there
 abbrev pub none : Particle
@@ -97,10 +97,10 @@ module _ (f : Particle → Particle) where
   mapTo-all (p ∷ ps) = mapTo-first (length ps) p ps ∙ ap (λ (l : List Particle). f p ∷ l) (mapTo-all ps)
 
 -- the closing move, called alone
-pub closing-each : (decay : Float) (ps : List Particle) → closing decay ps ps ≡ map (λ p. moved decay p p) ps
+pub closing-each : (decay : Float) (ps : List Particle) → closing decay (placesOf ps) ps ≡ map (movedAlone decay) ps
 unfolding closing
 closing-each decay [] = refl
-closing-each decay (p ∷ ps) = ap (λ (l : List Particle). moved decay p p ∷ l) (closing-each decay ps)
+closing-each decay (p ∷ ps) = ap (λ (l : List Particle). movedAlone decay p ∷ l) (closing-each decay ps)
 
 -- ---- sums
 

@@ -1,4 +1,4 @@
--- What the public calls are shown to do, for any bytes, from what the entries promise alone: these promises are the equations of floor and root, `AfterTree`, `Answered` of a force, `Lists.Answered` of Center and the closing move, `AfterTick` and `AfterStep`, `Unwrapped` of an outline. The words are those of rules/specs/Terms, rules/specs/Outline and specs/Told.
+-- What the public calls are shown to do, for any bytes, from what the entries promise alone: these promises are the equations of floor and root, `AfterTree`, `AfterForce`, `AfterParticles` of Center and the closing move, `AfterTick` and `AfterStep`, `Unwrapped` of an outline. The words are those of rules/specs/Terms, rules/specs/Outline and specs/Told.
 use mathlib.Core.Path.{_≡_, refl, sym, ap, _∙_, subst}
 use mathlib.Core.Logic.{_⊎_, _↔_, _≢_}
 use mathlib.Core.Bool.{Bool, true, false}
@@ -16,15 +16,16 @@ use Rattle.rules.specs.declared.FloorAnswer.{FloorAnswer}
 use Rattle.rules.specs.declared.Particle.{Particle}
 use Rattle.rules.specs.declared.Refusal.{Refusal}
 use Rattle.rules.specs.declared.Settings.{Settings}
+use Rattle.rules.specs.declared.Tuning.{Tuning}
 use Rattle.rules.specs.declared.TreeAnswer.{TreeAnswer}
 use Rattle.rules.specs.declared.Counts.{Counts}
 use Rattle.rules.specs.declared.StepAnswer.{StepAnswer}
 use Rattle.rules.specs.Plain.{keep, padded, overwritten, all, sum, upTo}
 use Rattle.rules.specs.Outcome.{Outcome, done, refused, refusal, fine, require, _>>=_, refusalOf, ifDone}
-use Rattle.rules.specs.Number.{0·, floatOf, bitsOf, within, xAt, yAt}
+use Rattle.rules.specs.Number.{floatOf, bitsOf, within, xAt, yAt}
 use Rattle.rules.specs.Floor.{floor, floorResult, floorAnswer, IsFloor}
 use Rattle.rules.specs.Root.{root, rootBits, IsRoot}
-use Rattle.rules.specs.Refusal.{mostParticles}
+use Rattle.rules.specs.Refusal.{mostParticles, mostTicks, countCheck}
 use Rattle.rules.specs.Sheet.{particlesOf}
 use Rattle.rules.specs.Cover.{Square, inside, holds, coverFirst, extentOf}
 use Rattle.rules.specs.Tree.{Tree, depth, greatestLevel, same, rowsOf, flat, chainsOf}
@@ -34,8 +35,8 @@ use Rattle.rules.specs.ManyBody.{standard, chargedTree, manyBodyStep}
 use Rattle.rules.specs.Collide.{radiusTree, collideStep}
 use Rattle.rules.specs.Force.{manyBody, collide, run}
 use Rattle.rules.specs.Calls as Calls
-use Rattle.rules.specs.Calls.{slotsOf, TreeInput, treeLengths, inputCheck, treeResult, ForceInput, speeds, forceCheck, manyBodyResult, collideResult, linkResult, forceAnswer, centerResult, closingResult}
-use Rattle.rules.specs.Tick.{Force, SheetInput, count, entries, forces, State, state, nextAlpha, forceStage, tick, sheetCheck, begun, tickSettings, tickResult, tickAnswer, ticksFrom, stepResult, stepAnswer}
+use Rattle.rules.specs.Calls.{slotsOf, TreeInput, treeLengths, inputCheck, treeResult, ForceInput, noEnds, noAlpha, speeds, forceCheck, manyBodyResult, collideResult, linkResult, forceAnswer, centerResult, closingResult}
+use Rattle.rules.specs.Tick.{Force, SheetInput, count, entries, forces, State, state, nextAlpha, forceStage, tick, sheetCheck, entryState, tickSettings, tickResult, tickAnswer, ticksFrom, stepResult, stepAnswer}
 use Rattle.rules.specs.Terms.{leaves, EachLeaf, Oversized, Earliest, NotOfTree, times, inCell, IsTree, Sided, distinct, mostNodes, Walked, repeated, mostVisited, ForceWalked, uncounted, Forced, tickCounts}
 use Rattle.rules.specs.Outline.{halfTurn, shortStep, outline, outlineCheck, OutlineInput, outlineAnswer, unwrappedAfter, Equivalent, Short, IsOutline, Closed, stepsRound, total, SameMeridians}
 use Rattle.rules.proofs.Theorems.{floor-is, root-is}
@@ -50,15 +51,15 @@ use Rattle.number.proofs.Flooring.{within-finite}
 use Rattle.tree_cells.proofs.WholeTree.{extent-sided, extent-holds, whole-tree, leaves-hold, ruled-fine, earliest-ruled, computed-exactly, ruled-exactly, earliest}
 use Rattle.tree_rows.proofs.ListRows.{rows-count}
 use Rattle.tree_call.specs.Tree.{AfterTree}
-use Rattle.force_call.specs.Calls.{Answered}
+use Rattle.force_call.specs.Calls.{AfterForce}
 use Rattle.tick_call.specs.Tick.{AfterTick}
 use Rattle.step_call.specs.Step.{AfterStep}
 use Rattle.outline.specs.Unwrap.{Unwrapped, lentOutline}
-use Rattle.talemiku.specs.Answered as Lists
+use Rattle.talemiku.specs.AfterParticles.{AfterParticles}
 use Rattle.talemiku.specs.Told.{placesLent, particlesLent, pointsLent, extentLent, ruleTree, InputFine, mostOfTick, TreeRefused, OutlineFine}
 use Rattle.talemiku.proofs.Trees.{Accepted, input-fine, input-refused, built-fine, builds, refusal-is, accepts, answer-is, rows-are, chains-are}
 use Rattle.talemiku.proofs.Accepted.{checked, force-ran, force-refuses-tree, tick-ran, entries-fine}
-use Rattle.talemiku.proofs.Outlines.{Laid, laid, first-are, rest-is, length-is, few-corners, near-centre, near-zero, kept, closed-is, unclosed-is, input-answer, result-same}
+use Rattle.talemiku.proofs.Outlines.{laid, first-are, rest-is, length-is, few-corners, near-centre, near-zero, kept, closed-is, unclosed-is, input-answer, result-same}
 use Rattle.talemiku.proofs.Visits.{many-body-walked, collide-walked, force-walked, tick-forced, ticks-each, all-few}
 
 -- ==== floor and root
@@ -178,54 +179,54 @@ module _ (l : ForceInput) (r : Counts) (buffer work : List ℕ) where
   m = distinct (l .places) (upTo n)
 
   -- A refusal counts nothing.
-  pub force-refused : (o : Outcome (Counted Flow)) → Answered l o r buffer work → (q : Refusal) → o ≡ refused q → (r .refusal ≡ q) × (r .visits ≡ 0) × (r .draws ≡ 0)
+  pub force-refused : (o : Outcome (Counted Flow)) → AfterForce l o r buffer work → (q : Refusal) → o ≡ refused q → (r .refusal ≡ q) × (r .visits ≡ 0) × (r .draws ≡ 0)
   unfolding forceAnswer
   force-refused o a q e = rw (a .answer, e) (refl, refl, refl)
 
-  module _ (strengths : List Float) (alpha : Float) (a : Answered l (manyBodyResult l strengths alpha) r buffer work) where
+  module _ (strengths : List Float) (alpha : Float) (a : AfterForce l (manyBodyResult l strengths alpha) r buffer work) where
     -- ManyBody walks once for each particle: each walk's count is that of the rule's walk, at most 1 + 64 m, and the visits answered are their sum.
     pub many-body-visits : r .refusal .number ≡ 0
         → Walked (manyBodyStep standard (l .places) strengths alpha) (chargedTree (l .places) strengths) (flow (speeds l) (l .draws)) (upTo n) (r .visits) (mostNodes m)
     unfolding run
     many-body-visits z =
-        let h = force-ran l (manyBody strengths) true alpha (alpha ∷ []) a z in
+        let h = force-ran l (manyBody strengths) noEnds alpha a z in
         let e : length strengths ≡ n = eqb-true (length strengths) n (h .checked .lengths) in
         rw (h .visits)
         (subst (λ (k : ℕ). Walked (manyBodyStep standard (l .places) strengths alpha) (chargedTree (l .places) strengths) (flow (speeds l) (l .draws)) (upTo k) (h .last .visits) (mostNodes (distinct (l .places) (upTo k)))) e
         (many-body-walked standard (l .places) strengths alpha (slotsOf (l .work)) (flow (speeds l) (l .draws)) (h .last) (h .run)))
 
     -- Past its checks it gives 6 or 7 as the tree call does.
-    pub many-body-refuses : forceCheck l (manyBody strengths) true (alpha ∷ []) ≡ fine → TreeRefused (l .places) n (slotsOf (l .work)) (r .refusal)
+    pub many-body-refuses : forceCheck l (manyBody strengths) noEnds alpha ≡ fine → TreeRefused (l .places) n (slotsOf (l .work)) (r .refusal)
     many-body-refuses h =
-        let c = checked l (manyBody strengths) true alpha (alpha ∷ []) h in
+        let c = checked l (manyBody strengths) noEnds alpha h in
         force-refuses-tree l (manyBodyResult l strengths alpha) (length strengths) a (c .ranged) (eqb-true (length strengths) n (c .lengths)) (Places.many-body-built l strengths alpha h)
 
-  module _ (radii : List Float) (strength : Float) (iterations : ℕ) (a : Answered l (collideResult l radii strength iterations) r buffer work) where
+  module _ (radii : List Float) (strength : Float) (iterations : ℕ) (a : AfterForce l (collideResult l radii strength iterations) r buffer work) where
     -- Collide walks so in each iteration. Places don't change within a force, so the trees that are built anew are all the same one.
     pub collide-visits : r .refusal .number ≡ 0
         → Walked (collideStep (l .places) radii strength) (radiusTree (l .places) radii) (flow (speeds l) (l .draws)) (repeated iterations (upTo n)) (r .visits) (mostNodes m)
     unfolding run
     collide-visits z =
-        let h = force-ran l (collide radii strength iterations) true 0· [] a z in
+        let h = force-ran l (collide radii strength iterations) noEnds noAlpha a z in
         let e : length radii ≡ n = eqb-true (length radii) n (h .checked .lengths) in
         rw (h .visits)
         (subst (λ (k : ℕ). Walked (collideStep (l .places) radii strength) (radiusTree (l .places) radii) (flow (speeds l) (l .draws)) (repeated iterations (upTo k)) (h .last .visits) (mostNodes (distinct (l .places) (upTo k)))) e
         (collide-walked (l .places) radii strength (slotsOf (l .work)) iterations (flow (speeds l) (l .draws)) (h .last) (h .run)))
 
   -- With an iteration Collide gives 6 or 7 as ManyBody does.
-  pub collide-refuses : (radii : List Float) (strength : Float) (k : ℕ) → Answered l (collideResult l radii strength (suc k)) r buffer work → forceCheck l (collide radii strength (suc k)) true [] ≡ fine
+  pub collide-refuses : (radii : List Float) (strength : Float) (k : ℕ) → AfterForce l (collideResult l radii strength (suc k)) r buffer work → forceCheck l (collide radii strength (suc k)) noEnds noAlpha ≡ fine
       → TreeRefused (l .places) n (slotsOf (l .work)) (r .refusal)
   collide-refuses radii strength k a h =
-      let c = checked l (collide radii strength (suc k)) true 0· [] h in
+      let c = checked l (collide radii strength (suc k)) noEnds noAlpha h in
       force-refuses-tree l (collideResult l radii strength (suc k)) (length radii) a (c .ranged) (eqb-true (length radii) n (c .lengths)) (Places.collide-built l radii strength k h)
 
   -- With 0 iterations it gives neither.
-  pub collide-neither : (radii : List Float) (strength : Float) → Answered l (collideResult l radii strength 0) r buffer work → NotOfTree (r .refusal)
+  pub collide-neither : (radii : List Float) (strength : Float) → AfterForce l (collideResult l radii strength 0) r buffer work → NotOfTree (r .refusal)
   unfolding forceAnswer
   collide-neither radii strength a = rw (a .answer) (of-answer (omega arith) (Places.collide-other l radii strength))
 
   -- Link gives neither 6 nor 7.
-  pub link-neither : (links : List ℕ) (strengths distances : List Float) (iterations : ℕ) (alpha : Float) → Answered l (linkResult l links strengths distances iterations alpha) r buffer work → NotOfTree (r .refusal)
+  pub link-neither : (links : List ℕ) (strengths distances : List Float) (iterations : ℕ) (alpha : Float) → AfterForce l (linkResult l links strengths distances iterations alpha) r buffer work → NotOfTree (r .refusal)
   unfolding forceAnswer
   link-neither links strengths distances iterations alpha a = rw (a .answer) (of-answer (omega arith) (Places.link-other l links strengths distances iterations alpha))
 
@@ -233,27 +234,27 @@ module _ (l : ForceInput) (r : Counts) (buffer work : List ℕ) where
 
 module _ (ps : List Particle) (r : Refusal) (after : List Particle) where
   -- Center gives neither 6 nor 7.
-  pub center-neither : (x y strength : Float) → Lists.Answered (centerResult x y strength ps) ps r after → NotOfTree r
+  pub center-neither : (x y strength : Float) → AfterParticles (centerResult x y strength ps) ps r after → NotOfTree r
   center-neither x y strength a = rw (a .answer) (of-answer (omega arith) (Places.list-other _ _ ps))
 
   -- Nor does the closing move.
-  pub closing-neither : (decay : Float) → Lists.Answered (closingResult decay ps) ps r after → NotOfTree r
+  pub closing-neither : (decay : Float) → AfterParticles (closingResult decay ps) ps r after → NotOfTree r
   closing-neither decay a = rw (a .answer) (of-answer (omega arith) (Places.list-other _ _ ps))
 
 -- ==== a tick
 
 -- What a force of a tick hands out is the sum of its single walks over the tree of the places that it finds, each bounded as for the force alone.
-pub force-visits : (slots : ℕ) (m k : State) (f : Force) → forceStage slots (uncounted m) f ≡ done k → ForceWalked m f (k .visits)
+pub force-visits : (t : Tuning) (slots : ℕ) (m k : State) (f : Force) → forceStage t slots (uncounted m) f ≡ done k → ForceWalked t m f (k .visits)
 force-visits = force-walked
 
 module _ (l : SheetInput) (s : Settings) (r : Counts) (sheet : List ℕ) (alpha : ℕ) (work : List ℕ) (a : AfterTick l s r sheet alpha work) where
   -- The visits of an accepted tick are the sum over its forces, each counted by itself from the state that the one before left, and at most what all of them may hand out.
-  pub tick-visits : r .refusal .number ≡ 0 → Forced (slotsOf (l .work)) (state (particlesOf (l .sheet)) (nextAlpha s (floatOf (l .alpha))) (l .draws) 0) (forces l) (r .visits)
-  tick-visits z = let h = tick-ran l a z in rw (h .visits) (tick-forced s (forces l) (slotsOf (l .work)) (begun l s) (h .last) (h .run))
+  pub tick-visits : r .refusal .number ≡ 0 → Forced (s .tuning) (slotsOf (l .work)) (state (particlesOf (l .sheet)) (nextAlpha s (floatOf (l .alpha))) (l .draws) 0) (forces l) (r .visits)
+  tick-visits z = let h = tick-ran l a z in rw (h .visits) (tick-forced s (forces l) (slotsOf (l .work)) (entryState l) (h .last) (h .run))
 
   -- So at most 8 * 64 * n * (1 + 64 n) for n particles, as if Collide with 64 iterations stood in every slot.
   pub tick-most : r .refusal .number ≡ 0 → r .visits ≤ mostOfTick (count l)
-  tick-most z = let h = tick-ran l a z in omega (arith, tick-visits z .few, all-few (count l) 0 (entries l) (l .numbers) (l .links) (entries-fine l 0 (tickSettings l s) (h .input)))
+  tick-most z = let h = tick-ran l a z in omega (arith, tick-visits z .few, all-few (count l) 0 (entries l) (l .numbers) (l .links) (entries-fine l fine (tickSettings l s) (h .input)))
 
   -- A refused tick counts nothing.
   pub tick-refused : (q : Refusal) → tickResult l s ≡ refused q → (r .refusal ≡ q) × (r .visits ≡ 0) × (r .draws ≡ 0)
@@ -263,38 +264,38 @@ module _ (l : SheetInput) (s : Settings) (r : Counts) (sheet : List ℕ) (alpha 
 -- ==== a step
 
 -- What a tick of a step hands out is the sum over its forces, as for a tick alone.
-pub step-forces : (s : Settings) (fs : List Force) (slots : ℕ) (m k : State) → tick s fs slots (uncounted m) ≡ done k → Forced slots (state (m .particles) (nextAlpha s (m .alpha)) (m .draws) 0) fs (k .visits)
+pub step-forces : (s : Settings) (fs : List Force) (slots : ℕ) (m k : State) → tick s fs slots (uncounted m) ≡ done k → Forced (s .tuning) slots (state (m .particles) (nextAlpha s (m .alpha)) (m .draws) 0) fs (k .visits)
 step-forces = tick-forced
 
-module _ (l : SheetInput) (s : Settings) (least : Float) (budget : ℕ) (r : StepAnswer) (sheet : List ℕ) (alpha : ℕ) (work : List ℕ) (a : AfterStep l s least budget r sheet alpha work) where
+module _ (l : SheetInput) (s : Settings) (alphaMin : Float) (budget : ℕ) (r : StepAnswer) (sheet : List ℕ) (alpha : ℕ) (work : List ℕ) (a : AfterStep l s alphaMin budget r sheet alpha work) where
   -- A step that itself refuses has done nothing and counts nothing.
-  pub step-refused : (q : Refusal) → sheetCheck l budget (tickSettings l s ++ (least ∷ [])) ≡ refused q → (r .refusal ≡ q) × (r .ticks ≡ 0) × (r .visits ≡ 0) × (r .draws ≡ 0)
+  pub step-refused : (q : Refusal) → sheetCheck l (countCheck mostTicks budget) (tickSettings l s ++ (alphaMin ∷ [])) ≡ refused q → (r .refusal ≡ q) × (r .ticks ≡ 0) × (r .visits ≡ 0) × (r .draws ≡ 0)
   unfolding stepAnswer stepResult
   step-refused q e = rw (a .answer, e) (refl, refl, refl, refl)
 
   -- Where it refuses nothing itself (a tick may still end it by 6 to 9):
-  module _ (h : sheetCheck l budget (tickSettings l s ++ (least ∷ [])) ≡ fine) where
+  module _ (h : sheetCheck l (countCheck mostTicks budget) (tickSettings l s ++ (alphaMin ∷ [])) ≡ fine) where
     abbrev counts : List ℕ
-    counts = tickCounts s least (forces l) (slotsOf (l .work)) budget (begun l s)
+    counts = tickCounts s alphaMin (forces l) (slotsOf (l .work)) budget (entryState l)
 
-    ran : (r .visits ≡ ticksFrom s least (forces l) (slotsOf (l .work)) budget 0 (begun l s) .last .visits) × (r .ticks ≡ ticksFrom s least (forces l) (slotsOf (l .work)) budget 0 (begun l s) .ticks)
+    ran : (r .visits ≡ ticksFrom s alphaMin (forces l) (slotsOf (l .work)) budget 0 (entryState l) .last .visits) × (r .ticks ≡ ticksFrom s alphaMin (forces l) (slotsOf (l .work)) budget 0 (entryState l) .ticks)
     unfolding stepAnswer stepResult
     ran = (ap (λ (r : StepAnswer). r .visits) (a .answer) ∙ rw h, ap (λ (r : StepAnswer). r .ticks) (a .answer) ∙ rw h)
 
     -- Its visits are the sum over the ticks done, each counted by itself from the state that the one before left; there is a count for each, and at most `budget` of them.
     pub step-visits : (r .visits ≡ sum counts) × (r .ticks ≡ length counts) × (r .ticks ≤ budget)
     step-visits =
-        let t = ticks-sum s least (forces l) (slotsOf (l .work)) budget 0 (begun l s) in
-        (omega (arith, ran .0, t .0), omega (arith, ran .1, t .1), omega (arith, ran .1, t .1, tick-counts-length s least (forces l) (slotsOf (l .work)) budget (begun l s)))
+        let t = ticks-sum s alphaMin (forces l) (slotsOf (l .work)) budget 0 (entryState l) in
+        (omega (arith, ran .0, t .0), omega (arith, ran .1, t .1), omega (arith, ran .1, t .1, tick-counts-length s alphaMin (forces l) (slotsOf (l .work)) budget (entryState l)))
 
     -- Each tick hands out at most what the forces may.
     pub step-few : all (λ k. leb k (sum (map mostVisited (forces l)))) counts ≡ true
-    step-few = ticks-each s (forces l) (slotsOf (l .work)) least budget (begun l s)
+    step-few = ticks-each s (forces l) (slotsOf (l .work)) alphaMin budget (entryState l)
 
     -- So all of them at most as much for each as a tick may.
     pub step-most : r .visits ≤ r .ticks * mostOfTick (count l)
     step-most =
-        let few = all-few (count l) 0 (entries l) (l .numbers) (l .links) (entries-fine l budget (tickSettings l s ++ (least ∷ [])) h) in
+        let few = all-few (count l) 0 (entries l) (l .numbers) (l .links) (entries-fine l (countCheck mostTicks budget) (tickSettings l s ++ (alphaMin ∷ [])) h) in
         omega (arith, step-visits .0, rw (← step-visits .1) at (sum-few (sum (map mostVisited (forces l))) counts step-few), mul-le-mul-left (r .ticks) few)
 
 -- ==== an outline (document 02, R-10)

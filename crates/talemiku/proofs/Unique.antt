@@ -28,7 +28,7 @@ use Rattle.edits_call.specs.Call.{AfterEdits}
 use Rattle.force_call.specs.Calls as Force
 use Rattle.tick_call.specs.Tick.{AfterTick}
 use Rattle.step_call.specs.Step.{AfterStep}
-use Rattle.talemiku.specs.Answered.{Answered}
+use Rattle.talemiku.specs.AfterParticles.{AfterParticles}
 
 -- The one step behind all of them: what is equal to the same is equal.
 same : {A : Type 0} {a b c : A} → a ≡ c → b ≡ c → a ≡ b
@@ -50,12 +50,12 @@ tree-unique l o r r' rows chains work rows' chains' work' e f =
 
 -- ManyBody, Collide and Link: the answer, the buffer and the work slots.
 pub force-unique : (l : ForceInput) (o : Outcome (Counted Flow)) (r r' : Counts) (buffer work buffer' work' : List ℕ)
-    → Force.Answered l o r buffer work → Force.Answered l o r' buffer' work' → (r ≡ r') × (buffer ≡ buffer') × (work ≡ work')
+    → Force.AfterForce l o r buffer work → Force.AfterForce l o r' buffer' work' → (r ≡ r') × (buffer ≡ buffer') × (work ≡ work')
 force-unique l o r r' buffer work buffer' work' e f = (same (e .answer) (f .answer), same (e .bytes) (f .bytes), same (e .slots) (f .slots))
 
 -- Center and the closing move: the answer and the particles.
 pub list-unique : (o : Outcome (List Particle)) (ps : List Particle) (r r' : Refusal) (after after' : List Particle)
-    → Answered o ps r after → Answered o ps r' after' → (r ≡ r') × (after ≡ after')
+    → AfterParticles o ps r after → AfterParticles o ps r' after' → (r ≡ r') × (after ≡ after')
 list-unique o ps r r' after after' e f = (same (e .answer) (f .answer), same (e .particles) (f .particles))
 
 -- A tick: the answer, the sheet, alpha and the work slots.

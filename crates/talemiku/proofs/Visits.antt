@@ -14,18 +14,18 @@ use Rattle.rules.specs.declared.Particle.{Particle}
 use Rattle.rules.specs.declared.Settings.{Settings}
 use Rattle.rules.specs.declared.Tuning.{Tuning}
 use Rattle.rules.specs.Plain.{all, sum, upTo, countFrom}
-use Rattle.rules.specs.Outcome.{Outcome, done, refused, Check, fine, _then_, _>>=_, checkFrom, foldStages}
-use Rattle.rules.specs.Refusal.{mostIterations, mostLinks, countCheck, alphaCheck, resultCheck}
+use Rattle.rules.specs.Outcome.{Outcome, done, refused, Check, fine, _>>=_, checkFrom, foldStages}
+use Rattle.rules.specs.Refusal.{mostIterations, alphaCheck, resultCheck}
 use Rattle.rules.specs.Sheet.{placesOf, speedsOf}
 use Rattle.rules.specs.Tree.{Tree, nodes, treeOf, treeCheck}
 use Rattle.rules.specs.Walk.{Entry, Counted, counted, After, walk}
 use Rattle.rules.specs.Flow.{Flow, flow}
-use Rattle.rules.specs.ManyBody.{standard, chargedTree, leafCharge, nodeCharge, manyBodyStep, runManyBody}
+use Rattle.rules.specs.ManyBody.{chargedTree, leafCharge, nodeCharge, manyBodyStep, runManyBody}
 use Rattle.rules.specs.Collide.{radiusTree, leafRadius, nodeRadius, collideStep, collideOnce, runCollide}
 use Rattle.rules.specs.Link.{Ends, runLink}
-use Rattle.rules.specs.Force.{Push, manyBody, collide, link, endsFrom, run}
+use Rattle.rules.specs.Force.{Kind, Empty, ManyBody, Collide, Link, Center, Unknown, kindOf, kindCounts, Push, manyBody, collide, link, run}
 use Rattle.rules.specs.Particle.{centered, closing}
-use Rattle.rules.specs.Tick.{Force, empty, push, center, unknown, byKind, entryCounts, numbersNeeded, linksNeeded, forceOf, forcesFrom, State, state, nextAlpha, alphaStage, settled, withSpeeds, pushStage, forceStage, tick}
+use Rattle.rules.specs.Tick.{Force, empty, push, center, unknown, entryCounts, numbersNeeded, linksNeeded, kindForce, forcesFrom, State, state, nextAlpha, alphaStage, ifInRange, withSpeeds, pushStage, forceStage, tickHome, tick}
 use Rattle.rules.specs.Terms.{distinct, mostNodes, Walked, repeated, mostVisited, ForceWalked, uncounted, Forced, tickCounts}
 use Rattle.rules.proofs.CellCount.{length-upTo, distinct-le}
 use Rattle.rules.proofs.CellRule.{tree-nodes}
@@ -115,8 +115,8 @@ module _ (at radii : List Float) (strength : Float) (slots : ℕ) where
 
 -- ---- a force
 
-settled-visits : (ps : List Particle) (m n : State) → settled ps m ≡ done n → n .visits ≡ m .visits
-settled-visits ps m n e = go (resultCheck (placesOf ps) (speedsOf ps)) e
+in-range-visits : (ps : List Particle) (m n : State) → ifInRange ps m ≡ done n → n .visits ≡ m .visits
+in-range-visits ps m n e = go (resultCheck (placesOf ps) (speedsOf ps)) e
   where
     go : (c : Check) → (c >>= λ _. done (state ps (m .alpha) (m .draws) (m .visits))) ≡ done n → n .visits ≡ m .visits
     go (done u) e = let z : state ps (m .alpha) (m .draws) (m .visits) ≡ n = cc in ap (λ (k : State). k .visits) (sym z)
@@ -130,38 +130,38 @@ most-more : (a b : ℕ) → a ≤ b → mostNodes a ≤ mostNodes b
 most-more a b l = omega arith
 
 -- such a count is at most what the force's kind may hand out
-walked-few : (m : State) (f : Force) (k : ℕ) → ForceWalked m f k → k ≤ mostVisited f
-walked-few m empty k w = omega arith
-walked-few m (push (manyBody strengths)) k w =
+walked-few : (t : Tuning) (m : State) (f : Force) (k : ℕ) → ForceWalked t m f k → k ≤ mostVisited f
+walked-few t m empty k w = omega arith
+walked-few t m (push (manyBody strengths)) k w =
     let at = placesOf (m .particles) in
     let n = length strengths in
-    let v = walked-most (manyBodyStep standard at strengths (m .alpha)) (chargedTree at strengths) w in
+    let v = walked-most (manyBodyStep t at strengths (m .alpha)) (chargedTree at strengths) w in
     let d : distinct at (upTo n) ≤ n = omega (arith, distinct-le at (upTo n), length-upTo n) in
     omega (arith, rw (length-upTo n) at v, mul-le-mul-left n (most-more (distinct at (upTo n)) n d))
-walked-few m (push (collide radii strength iterations)) k w =
+walked-few t m (push (collide radii strength iterations)) k w =
     let at = placesOf (m .particles) in
     let n = length radii in
     let v = walked-most (collideStep at radii strength) (radiusTree at radii) w in
     let d : distinct at (upTo n) ≤ n = omega (arith, distinct-le at (upTo n), length-upTo n) in
     let u : k ≤ iterations * n * mostNodes (distinct at (upTo n)) = rw (length-repeated iterations (upTo n), length-upTo n) at v in
     omega (arith, u, mul-le-mul-left (iterations * n) (most-more (distinct at (upTo n)) n d))
-walked-few m (push (link links strengths distances iterations)) k w = omega arith
-walked-few m (center x y strength) k w = omega arith
-walked-few m unknown k w = omega arith
+walked-few t m (push (link links strengths distances iterations)) k w = omega arith
+walked-few t m (center x y strength) k w = omega arith
+walked-few t m unknown k w = omega arith
 
 -- a stage hands out what its force's run does
-walked-by : (f : Push) (P : ℕ → Type 0) (slots : ℕ) (m n : State)
-    → ((r : Counted Flow) → run f (placesOf (m .particles)) (m .alpha) slots (counted (flow (speedsOf (m .particles)) (m .draws)) 0) ≡ done r → P (r .visits))
-    → pushStage slots f (uncounted m) ≡ done n → P (n .visits)
+walked-by : (t : Tuning) (f : Push) (P : ℕ → Type 0) (slots : ℕ) (m n : State)
+    → ((r : Counted Flow) → run t f (placesOf (m .particles)) (m .alpha) slots (counted (flow (speedsOf (m .particles)) (m .draws)) 0) ≡ done r → P (r .visits))
+    → pushStage t slots f (uncounted m) ≡ done n → P (n .visits)
 unfolding pushStage
-walked-by f P slots m n h e = go (run f (placesOf ps) (m .alpha) slots (counted (flow (speedsOf ps) (m .draws)) 0)) refl e
+walked-by t f P slots m n h e = go (run t f (placesOf ps) (m .alpha) slots (counted (flow (speedsOf ps) (m .draws)) 0)) refl e
   where
     ps : List Particle
     ps = m .particles
 
-    go : (o : Outcome (Counted Flow)) → run f (placesOf ps) (m .alpha) slots (counted (flow (speedsOf ps) (m .draws)) 0) ≡ o
-        → (o >>= λ r. settled (withSpeeds (r .state .speeds) ps) (state ps (m .alpha) (r .state .draws) (r .visits))) ≡ done n → P (n .visits)
-    go (done r) p e = rw (settled-visits (withSpeeds (r .state .speeds) ps) (state ps (m .alpha) (r .state .draws) (r .visits)) n e) (h r p)
+    go : (o : Outcome (Counted Flow)) → run t f (placesOf ps) (m .alpha) slots (counted (flow (speedsOf ps) (m .draws)) 0) ≡ o
+        → (o >>= λ r. ifInRange (withSpeeds (r .state .speeds) ps) (state ps (m .alpha) (r .state .draws) (r .visits))) ≡ done n → P (n .visits)
+    go (done r) p e = rw (in-range-visits (withSpeeds (r .state .speeds) ps) (state ps (m .alpha) (r .state .draws) (r .visits)) n e) (h r p)
     go (refused q) p e = never q e
 
 -- Link hands out none
@@ -174,71 +174,64 @@ link-none links strengths distances iterations at alpha σ n e = go (runLink at 
     go (refused r) e = never r e
 
 -- What a force of a tick hands out is the sum of its single walks, each bounded.
-pub force-walked : (slots : ℕ) (m n : State) (f : Force) → forceStage slots (uncounted m) f ≡ done n → ForceWalked m f (n .visits)
+pub force-walked : (t : Tuning) (slots : ℕ) (m n : State) (f : Force) → forceStage t slots (uncounted m) f ≡ done n → ForceWalked t m f (n .visits)
 unfolding pushStage run
-force-walked slots m n empty e = let z : uncounted m ≡ n = cc in rw (← z)
-force-walked slots m n (push (manyBody strengths)) e = walked-by (manyBody strengths) (λ k. Walked (manyBodyStep standard (placesOf (m .particles)) strengths (m .alpha)) (chargedTree (placesOf (m .particles)) strengths) (flow (speedsOf (m .particles)) (m .draws)) (upTo (length strengths)) k (mostNodes (distinct (placesOf (m .particles)) (upTo (length strengths))))) slots m n (many-body-walked standard (placesOf (m .particles)) strengths (m .alpha) slots (flow (speedsOf (m .particles)) (m .draws))) e
-force-walked slots m n (push (collide radii strength iterations)) e = walked-by (collide radii strength iterations) (λ k. Walked (collideStep (placesOf (m .particles)) radii strength) (radiusTree (placesOf (m .particles)) radii) (flow (speedsOf (m .particles)) (m .draws)) (repeated iterations (upTo (length radii))) k (mostNodes (distinct (placesOf (m .particles)) (upTo (length radii))))) slots m n (collide-walked (placesOf (m .particles)) radii strength slots iterations (flow (speedsOf (m .particles)) (m .draws))) e
-force-walked slots m n (push (link links strengths distances iterations)) e = walked-by (link links strengths distances iterations) (λ k. k ≡ 0) slots m n (λ r. link-none links strengths distances iterations (placesOf (m .particles)) (m .alpha) (flow (speedsOf (m .particles)) (m .draws)) r) e
-force-walked slots m n (center x y strength) e = settled-visits (centered x y strength (m .particles)) (uncounted m) n e
-force-walked slots m n unknown e = let z : uncounted m ≡ n = cc in rw (← z)
+force-walked t slots m n empty e = let z : uncounted m ≡ n = cc in rw (← z)
+force-walked t slots m n (push (manyBody strengths)) e = walked-by t (manyBody strengths) (λ k. Walked (manyBodyStep t (placesOf (m .particles)) strengths (m .alpha)) (chargedTree (placesOf (m .particles)) strengths) (flow (speedsOf (m .particles)) (m .draws)) (upTo (length strengths)) k (mostNodes (distinct (placesOf (m .particles)) (upTo (length strengths))))) slots m n (many-body-walked t (placesOf (m .particles)) strengths (m .alpha) slots (flow (speedsOf (m .particles)) (m .draws))) e
+force-walked t slots m n (push (collide radii strength iterations)) e = walked-by t (collide radii strength iterations) (λ k. Walked (collideStep (placesOf (m .particles)) radii strength) (radiusTree (placesOf (m .particles)) radii) (flow (speedsOf (m .particles)) (m .draws)) (repeated iterations (upTo (length radii))) k (mostNodes (distinct (placesOf (m .particles)) (upTo (length radii))))) slots m n (collide-walked (placesOf (m .particles)) radii strength slots iterations (flow (speedsOf (m .particles)) (m .draws))) e
+force-walked t slots m n (push (link links strengths distances iterations)) e = walked-by t (link links strengths distances iterations) (λ k. k ≡ 0) slots m n (λ r. link-none links strengths distances iterations (placesOf (m .particles)) (m .alpha) (flow (speedsOf (m .particles)) (m .draws)) r) e
+force-walked t slots m n (center x y strength) e = in-range-visits (centered x y strength (m .particles)) (uncounted m) n e
+force-walked t slots m n unknown e = let z : uncounted m ≡ n = cc in rw (← z)
 
 -- so at most what its kind may
-stage-few : (slots : ℕ) (m n : State) (f : Force) → forceStage slots (uncounted m) f ≡ done n → n .visits ≤ mostVisited f
-stage-few slots m n f e = walked-few m f (n .visits) (force-walked slots m n f e)
+stage-few : (t : Tuning) (slots : ℕ) (m n : State) (f : Force) → forceStage t slots (uncounted m) f ≡ done n → n .visits ≤ mostVisited f
+stage-few t slots m n f e = walked-few t m f (n .visits) (force-walked t slots m n f e)
 
 -- ---- a tick, from a state with nothing counted
 
 module _ (s : Settings) (fs : List Force) (slots : ℕ) where
-  pub tick-forced : (m n : State) → tick s fs slots (uncounted m) ≡ done n → Forced slots (state (m .particles) (nextAlpha s (m .alpha)) (m .draws) 0) fs (n .visits)
-  unfolding tick alphaStage
-  tick-forced m n e = go (alphaCheck (nextAlpha s (m .alpha))) (foldStages (forceStage slots) m₁ fs) refl e
+  pub tick-forced : (m n : State) → tick s fs slots (uncounted m) ≡ done n → Forced (s .tuning) slots (state (m .particles) (nextAlpha s (m .alpha)) (m .draws) 0) fs (n .visits)
+  unfolding tickHome alphaStage
+  tick-forced m n e = go (alphaCheck (nextAlpha s (m .alpha))) (foldStages (forceStage (s .tuning) slots) m₁ fs) refl e
     where
       m₁ : State
       m₁ = state (m .particles) (nextAlpha s (m .alpha)) (m .draws) 0
 
-      go : (c : Check) (o : Outcome State) → foldStages (forceStage slots) m₁ fs ≡ o → (c >>= (λ _. done m₁) >>= λ m₁. foldStages (forceStage slots) m₁ fs >>= λ m₂. settled (closing (s .«velocity_decay») (m .particles) (m₂ .particles)) m₂) ≡ done n
-          → Forced slots m₁ fs (n .visits)
+      go : (c : Check) (o : Outcome State) → foldStages (forceStage (s .tuning) slots) m₁ fs ≡ o → (c >>= (λ _. done m₁) >>= λ m₁. foldStages (forceStage (s .tuning) slots) m₁ fs >>= λ m₂. ifInRange (closing (s .«velocity_decay») (placesOf (m .particles)) (m₂ .particles)) m₂) ≡ done n
+          → Forced (s .tuning) slots m₁ fs (n .visits)
       go (done u) (done m₂) p e =
-          let (ks, c, t) = forces-sum slots fs m₁ m₂ p in
-          let v = settled-visits (closing (s .«velocity_decay») (m .particles) (m₂ .particles)) m₂ n (sym (ap (λ (o : Outcome State). o >>= λ m₂. settled (closing (s .«velocity_decay») (m .particles) (m₂ .particles)) m₂) p) ∙ e) in
+          let (ks, c, t) = forces-sum (s .tuning) slots fs m₁ m₂ p in
+          let v = in-range-visits (closing (s .«velocity_decay») (placesOf (m .particles)) (m₂ .particles)) m₂ n (sym (ap (λ (o : Outcome State). o >>= λ m₂. ifInRange (closing (s .«velocity_decay») (placesOf (m .particles)) (m₂ .particles)) m₂) p) ∙ e) in
           record {
             counts = ks;
             each = c;
             total = omega (arith, v, t);
-            few = omega (arith, v, t, each-most (λ m. m .visits) uncounted (forceStage slots) mostVisited (stage-few slots) fs m₁ ks c);
+            few = omega (arith, v, t, each-most (λ m. m .visits) uncounted (forceStage (s .tuning) slots) mostVisited (stage-few (s .tuning) slots) fs m₁ ks c);
           }
-      go (done u) (refused r) p e = never r (sym (ap (λ (o : Outcome State). o >>= λ m₂. settled (closing (s .«velocity_decay») (m .particles) (m₂ .particles)) m₂) p) ∙ e)
+      go (done u) (refused r) p e = never r (sym (ap (λ (o : Outcome State). o >>= λ m₂. ifInRange (closing (s .«velocity_decay») (placesOf (m .particles)) (m₂ .particles)) m₂) p) ∙ e)
       go (refused r) o p e = never r e
 
   -- The ticks of a step: each hands out at most what the forces may.
-  pub ticks-each : (least : Float) (k : ℕ) (m : State) → all (λ c. leb c (sum (map mostVisited fs))) (tickCounts s least fs slots k m) ≡ true
-  ticks-each least k m = tick-counts-few s least fs slots (sum (map mostVisited fs)) (λ m n e. tick-forced m n e .few) k m
+  pub ticks-each : (alphaMin : Float) (k : ℕ) (m : State) → all (λ c. leb c (sum (map mostVisited fs))) (tickCounts s alphaMin fs slots k m) ≡ true
+  ticks-each alphaMin k m = tick-counts-few s alphaMin fs slots (sum (map mostVisited fs)) (λ m n e. tick-forced m n e .few) k m
 
 -- ---- all forces of a sheet
 
 shorter : (k n : ℕ) → k ≤ n → k * mostNodes k ≤ n * mostNodes n
 shorter k n l = mul-le-mul l (most-more k n l)
 
-entry-few : (n : ℕ) (e : ForceEntry) (numbers : List Float) (links : List ℕ) → entryCounts e ≡ fine → mostVisited (forceOf n e numbers links) ≤ mostOfForce n
-unfolding forceOf
-entry-few n e numbers links h = go (e .kind) h
-  where
-    most : length (take n numbers) * mostNodes (length (take n numbers)) ≤ n * mostNodes n
-    most = shorter (length (take n numbers)) n (rw length-take (omega arith))
-
-    go : (k : ℕ)
-        → byKind k fine fine (countCheck mostIterations (e .iterations)) (countCheck mostLinks (e .links) then countCheck mostIterations (e .iterations)) fine fine ≡ fine
-        → mostVisited (byKind k empty (push (manyBody (take n numbers))) (push (collide (take n numbers) (e .a) (e .iterations))) (push (link (endsFrom links (e .links)) (take (e .strengths) numbers) (take (e .links) (drop (e .strengths) numbers)) (e .iterations))) (center (e .a) (e .b) (e .c)) unknown) ≤ mostOfForce n
-    go zero h = omega arith
-    go (suc zero) h = omega (arith, most)
-    go (suc (suc zero)) h = mul-le-mul (leb-true (e .iterations) 64 (require-true (leb (e .iterations) 64) 1 0 h)) most
-    go (suc (suc (suc zero))) h = omega arith
-    go (suc (suc (suc (suc zero)))) h = omega arith
-    go (suc (suc (suc (suc (suc k))))) h = omega arith
+kind-few : (k : Kind) (n : ℕ) (e : ForceEntry) (numbers : List Float) (links : List ℕ) → kindCounts k (e .links) (e .iterations) ≡ fine → mostVisited (kindForce k n e numbers links) ≤ mostOfForce n
+unfolding kindForce
+kind-few Empty n e numbers links h = omega arith
+kind-few ManyBody n e numbers links h = omega (arith, shorter (length (take n numbers)) n (rw length-take (omega arith)))
+kind-few Collide n e numbers links h =
+    mul-le-mul (leb-true (e .iterations) mostIterations (require-true (leb (e .iterations) mostIterations) 1 0 h)) (shorter (length (take n numbers)) n (rw length-take (omega arith)))
+kind-few Link n e numbers links h = omega arith
+kind-few Center n e numbers links h = omega arith
+kind-few Unknown n e numbers links h = omega arith
 
 pub all-few : (n i : ℕ) (es : List ForceEntry) (numbers : List Float) (links : List ℕ) → checkFrom (λ _ e. entryCounts e) i es ≡ fine → sum (map mostVisited (forcesFrom n es numbers links)) ≤ length es * mostOfForce n
 all-few n i [] numbers links h = omega arith
 all-few n i (e ∷ es) numbers links h =
     let (a, b) = bind-both (entryCounts e) (checkFrom (λ _ e. entryCounts e) (i + 1) es) h in
-    omega (arith, entry-few n e numbers links a, all-few n (i + 1) es (drop (numbersNeeded n e) numbers) (drop (linksNeeded e * 2) links) b)
+    omega (arith, kind-few (kindOf (e .kind)) n e numbers links a, all-few n (i + 1) es (drop (numbersNeeded n e) numbers) (drop (linksNeeded e * 2) links) b)

@@ -1,3 +1,3 @@
-pub mod Answered
+pub mod AfterParticles
 pub mod Pass
 pub mod Told

@@ -1,4 +1,4 @@
--- What a pass over the list asks of one particle, and what Center keeps of those that it has passed. Definitions only.
+-- What a pass over the list asks of one particle, what the closing move makes of it, and what Center keeps of those that it has passed. Definitions only.
 use mathlib.Core.List.{[], _∷_}
 use Prim.Native.Nat.{ℕ}
 use lib.Ieee.{Float}
@@ -7,11 +7,16 @@ use Rattle.rules.specs.Outcome.{Check}
 use Rattle.rules.specs.Number.{_⊕_, _⊖_, _⊗_, _⊘_, float}
 use Rattle.rules.specs.Sheet.{placesOf, speedsOf}
 use Rattle.rules.specs.Refusal.{resultCheck}
+use Rattle.rules.specs.Particle.{moved}
 use Rattle.talemiku.specs.declared.centring.Pair.{Pair}
 
 -- 9, of one particle
 abbrev pub resultOf : Particle → Check
 resultOf p = resultCheck (placesOf (p ∷ [])) (speedsOf (p ∷ []))
+
+-- a particle that is moved by itself: its home is where it stands
+abbrev pub movedAlone : Float → Particle → Particle
+movedAlone decay p = moved decay (p .x) (p .y) p
 
 -- a number for each axis
 abbrev pub pair : Float → Float → Pair

@@ -8,21 +8,19 @@ use lib.Dec.{eqb}
 use lib.ListN.{length}
 use lib.Ieee.{Float}
 use Rattle.rules.specs.declared.Extent.{Extent}
-use Rattle.rules.specs.declared.Particle.{Particle}
 use Rattle.rules.specs.declared.Refusal.{Refusal}
 use Rattle.rules.specs.declared.TreeAnswer.{TreeAnswer}
 use Rattle.rules.specs.Plain.{upTo}
 use Rattle.rules.specs.Outcome.{fine}
-use Rattle.rules.specs.Number.{0·}
 use Rattle.rules.specs.Refusal.{mostParticles, mostIterations}
-use Rattle.rules.specs.Sheet.{recordSize, countOf, particle, particlesOf, placesOf}
+use Rattle.rules.specs.Sheet.{recordSize, countOf, particlesOf, placesOf}
 use Rattle.rules.specs.Cover.{coverFirst, extentOf}
 use Rattle.rules.specs.Tree.{Tree, treeOf}
 use Rattle.rules.specs.Calls.{TreeInput, treeLengths, inputCheck}
 use Rattle.rules.specs.Tick.{forceSlots}
 use Rattle.rules.specs.Outline.{outlineCheck, OutlineInput}
 use Rattle.rules.specs.Edits.{editsOf, pointsOf, insertions, Present, presentAfter, extentNow, treeNow, EditsInput, editList, editInputCheck}
-use Rattle.rules.specs.Terms.{Oversized, Earliest, IsTree, distinct, mostNodes}
+use Rattle.rules.specs.Terms.{Oversized, Earliest, IsTree, distinct, mostNodes, resting}
 use Rattle.tree_call.specs.Tree.{lent}
 
 -- ---- the tree call
@@ -74,12 +72,6 @@ abbrev pub OutlineFine : OutlineInput → Type 0
 OutlineFine l = outlineCheck (l .corners) (l .centre) (length (l .unwrapped)) ≡ fine
 
 -- ---- the call on edits
-
--- particles at these points, at rest and with no flag
-abbrev pub resting : List Float → List Particle
-resting [] = []
-resting (x ∷ []) = []
-resting (x ∷ y ∷ at) = particle x y 0· 0· 0 ∷ resting at
 
 -- these words, then an insertion and its removal: its number is how many insertions there are before it, and v isn't looked at
 abbrev pub undone : List ℕ → ℕ → ℕ → ℕ → List ℕ

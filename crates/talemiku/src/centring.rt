@@ -1,17 +1,17 @@
 // center.rs: the mean of all places is drawn to a point.
 use crate::check::result_check;
 use center::shifted;
-use tick_checks::settings_check;
 use list_checks::count_check;
+use rules::MOST_PARTICLES;
 use rules::Particle;
 use rules::Refusal;
 use sheet::record_check;
-use tree_slots::Quadtree;
+use tick_checks::settings_check;
 ghost use mathlib.Core.Path.{_≡_};
 ghost use Prim.Native.Nat.{_≤_};
 ghost use Rattle.rules.specs.Refusal.{mostParticles};
 ghost use Rattle.rules.specs.Calls.{centerResult};
-ghost use Rattle.talemiku.specs.Answered.{Answered};
+ghost use Rattle.talemiku.specs.AfterParticles.{AfterParticles};
 ghost use Rattle.talemiku.specs.Pass.{addedTo, offsetsOf};
 
 // A number for each axis: sums of places, and how far to move back.
@@ -50,10 +50,10 @@ pub extern "C" fn talemiku_center(
     y: f64,
     strength: f64,
 ) -> Refusal
-    ensures { λ r. ⌜ Answered (centerResult x y strength (now (particles .entry))) (now (particles .entry)) r (now (particles .exit)) ⌝ }
+    ensures { λ r. ⌜ AfterParticles (centerResult x y strength (now (particles .entry))) (now (particles .entry)) r (now (particles .exit)) ⌝ }
 {
     let n = particles.len();
-    let mut refusal = count_check(Quadtree::MOST_PARTICLES, n);
+    let mut refusal = count_check(MOST_PARTICLES, n);
     if refusal.number != 0 {
         return refusal;
     }

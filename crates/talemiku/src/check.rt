@@ -11,14 +11,8 @@ ghost use Rattle.talemiku.specs.Pass.{resultOf};
 pub fn result_check(p: Particle) -> Refusal
     ensures { λ r. ⌜ r ≡ refusalOf (resultOf p) ⌝ }
 {
-    if within(p.x) && within(p.y) && is_finite(p.vx) && is_finite(p.vy) {
-        return Refusal {
-            number: 0,
-            place: 0,
-        };
+    if within(p.x) && within(p.y) && is_finite(p.vx) {
+        return Refusal::unless(is_finite(p.vy), 9, 0);
     }
-    Refusal {
-        number: 9,
-        place: 0,
-    }
+    Refusal::at(9, 0)
 }

@@ -1,4 +1,4 @@
-// The entries for a host: numbers and slices in, a struct out. Each only calls the function that does the work, and says the same of it; Center and the closing move do it themselves, on a lent list of particles.
+// The entries for a host: numbers and slices in, a struct out. Each only calls the function that does the work, a tick and a step with their numbers as settings, and says the same of it; Center and the closing move do it themselves, on a lent list of particles.
 // What follows from these promises, for any bytes, is shown in proofs/Theorems.
 mod applying;
 mod centring;
@@ -7,11 +7,12 @@ mod check;
 pub use applying::talemiku_apply_velocities;
 pub use centring::talemiku_center;
 use rules::Counts;
+use rules::FORCE_WORDS;
 use rules::FloorAnswer;
 use rules::Refusal;
-use rules::Settings;
 use rules::StepAnswer;
 use rules::TreeAnswer;
+use tick_call::settings_of;
 ghost use mathlib.Core.Path.{_≡_};
 ghost use Rattle.rules.specs.Floor.{floorAnswer};
 ghost use Rattle.rules.specs.Root.{rootBits};
@@ -24,7 +25,7 @@ ghost use Rattle.step_call.specs.Step.{AfterStep};
 ghost use Rattle.tree_call.specs.Tree as Tree;
 ghost use Rattle.edits_call.specs.Call as Edits;
 ghost use Rattle.outline.specs.Unwrap.{lentOutline, Unwrapped};
-ghost use Rattle.force_call.specs.Calls.{lent, Answered};
+ghost use Rattle.force_call.specs.Calls.{lent, AfterForce};
 
 // The floor as a whole number, or refusal 4.
 #[no_mangle]
@@ -68,7 +69,7 @@ pub extern "C" fn talemiku_many_body(
     work: &mut [u64],
 ) -> Counts
     ensures { λ r. ⌜ (let l = lent (now (places .entry)) (now (buffer .entry)) start (now (draws .entry)) (now (work .entry)) in
-        Answered l (manyBodyResult l (now (strengths .entry)) alpha) r (now (buffer .exit)) (now (work .exit))) ⌝ }
+        AfterForce l (manyBodyResult l (now (strengths .entry)) alpha) r (now (buffer .exit)) (now (work .exit))) ⌝ }
 {
     many_body_call::many_body_call(places, buffer, start, strengths, alpha, draws, work)
 }
@@ -86,7 +87,7 @@ pub extern "C" fn talemiku_collide(
     work: &mut [u64],
 ) -> Counts
     ensures { λ r. ⌜ (let l = lent (now (places .entry)) (now (buffer .entry)) start (now (draws .entry)) (now (work .entry)) in
-        Answered l (collideResult l (now (radii .entry)) strength iterations) r (now (buffer .exit)) (now (work .exit))) ⌝ }
+        AfterForce l (collideResult l (now (radii .entry)) strength iterations) r (now (buffer .exit)) (now (work .exit))) ⌝ }
 {
     collide_call::collide_call(
         places,
@@ -115,7 +116,7 @@ pub extern "C" fn talemiku_link(
     work: &mut [u64],
 ) -> Counts
     ensures { λ r. ⌜ (let l = lent (now (places .entry)) (now (buffer .entry)) start (now (draws .entry)) (now (work .entry)) in
-        Answered l (linkResult l (now (links .entry)) (now (strengths .entry)) (now (distances .entry)) iterations alpha) r (now (buffer .exit)) (now (work .exit))) ⌝ }
+        AfterForce l (linkResult l (now (links .entry)) (now (strengths .entry)) (now (distances .entry)) iterations alpha) r (now (buffer .exit)) (now (work .exit))) ⌝ }
 {
     link_call::link_call(
         places,
@@ -131,13 +132,13 @@ pub extern "C" fn talemiku_link(
     )
 }
 
-// One tick of a sheet. Alpha is lent as the word of its bits; `forces` are eight entries of seven words, whose numbers and link ends lie one after another. An entry: its kind (0 empty, 1 ManyBody, 2 Collide,
+// One tick of a sheet. Alpha is lent as the word of its bits; `words` are eight entries of seven words, one for each force slot, whose numbers and link ends lie one after another. An entry: its kind (0 empty, 1 ManyBody, 2 Collide,
 // 3 Link, 4 Center), iterations, links, link strengths, and three settings as bits (Collide: its strength; Center: x, y, strength).
 #[no_mangle]
 pub extern "C" fn talemiku_tick(
     sheet: &mut [u8],
     alpha: &mut u64,
-    forces: &[u64; 56],
+    words: &[u64; FORCE_WORDS],
     numbers: &[f64],
     links: &[u32],
     draws: &[f64],
@@ -146,15 +147,11 @@ pub extern "C" fn talemiku_tick(
     velocity_decay: f64,
     work: &mut [u64],
 ) -> Counts
-    ensures { λ r. ⌜ (let l = lentSheet (now (sheet .entry)) (now (alpha .entry)) (now (forces .entry)) (now (numbers .entry)) (now (links .entry)) (now (draws .entry)) (now (work .entry)) in
+    ensures { λ r. ⌜ (let l = lentSheet (now (sheet .entry)) (now (alpha .entry)) (now (words .entry)) (now (numbers .entry)) (now (links .entry)) (now (draws .entry)) (now (work .entry)) in
         AfterTick l (settings target «alpha_decay» «velocity_decay») r (now (sheet .exit)) (now (alpha .exit)) (now (work .exit))) ⌝ }
 {
-    let s = Settings {
-        target,
-        alpha_decay,
-        velocity_decay,
-    };
-    tick_call::tick(sheet, alpha, forces, numbers, links, draws, s, work)
+    let s = settings_of(target, alpha_decay, velocity_decay);
+    tick_call::tick(sheet, alpha, words, numbers, links, draws, s, work)
 }
 
 // Ticks of a sheet while alpha is over `alpha_min`, at most `budget`.
@@ -162,7 +159,7 @@ pub extern "C" fn talemiku_tick(
 pub extern "C" fn talemiku_step(
     sheet: &mut [u8],
     alpha: &mut u64,
-    forces: &[u64; 56],
+    words: &[u64; FORCE_WORDS],
     numbers: &[f64],
     links: &[u32],
     draws: &[f64],
@@ -173,18 +170,14 @@ pub extern "C" fn talemiku_step(
     budget: u64,
     work: &mut [u64],
 ) -> StepAnswer
-    ensures { λ r. ⌜ (let l = lentSheet (now (sheet .entry)) (now (alpha .entry)) (now (forces .entry)) (now (numbers .entry)) (now (links .entry)) (now (draws .entry)) (now (work .entry)) in
+    ensures { λ r. ⌜ (let l = lentSheet (now (sheet .entry)) (now (alpha .entry)) (now (words .entry)) (now (numbers .entry)) (now (links .entry)) (now (draws .entry)) (now (work .entry)) in
         AfterStep l (settings target «alpha_decay» «velocity_decay») «alpha_min» budget r (now (sheet .exit)) (now (alpha .exit)) (now (work .exit))) ⌝ }
 {
-    let s = Settings {
-        target,
-        alpha_decay,
-        velocity_decay,
-    };
+    let s = settings_of(target, alpha_decay, velocity_decay);
     step_call::step(
         sheet,
         alpha,
-        forces,
+        words,
         numbers,
         links,
         draws,

@@ -10,13 +10,14 @@ use Rattle.rules.specs.declared.Refusal.{Refusal}
 use Rattle.rules.specs.Number.{within, distanceRange}
 use Rattle.rules.specs.Outcome.{Check, done, refused, require, _then_, _>>=_, refusalOf, checkFrom}
 use Rattle.rules.specs.Refusal.{settingsCheck}
+use Rattle.rules.specs.Force.{Kind, Empty, ManyBody, Collide, Link, Center, Unknown, kindOf}
 use Rattle.rules.proofs.RefusalLaws.{Refuses, of-done, _then·_, of-require, of-all}
-use Rattle.rules.proofs.RefusalNumbers.{Early, five, settings-early, by-kind}
+use Rattle.rules.proofs.RefusalNumbers.{Early, five, settings-early}
 use Rattle.rules.proofs.OutcomeLaws.{check-any}
 use Rattle.list_checks.specs.Checks.{firstOf}
 use Rattle.list_checks.proofs.Scans.{first-then}
 use Rattle.list_checks.proofs.Checks.{first-four}
-use Rattle.tick_checks.specs.Parts.{ownRanges, eachPart}
+use Rattle.tick_checks.specs.Parts.{kindRanges, ownRanges, eachPart}
 
 -- ---- as they were answered
 
@@ -30,15 +31,16 @@ answer-four c d e g p q s t x y z hc hd he ep eq es et ex ey ez = ez ∙ rw (ey,
 -- ---- what a slot's own part is refused by
 
 pub own-early : (e : ForceEntry) (part : List Float) → Refuses Early (ownRanges e part)
-unfolding ownRanges
-own-early e part =
-    by-kind (Refuses Early) (e .kind) _ _ _ _ _ _
-    of-done
-    (of-all within 5 five part)
-    (of-all distanceRange 5 five part then· settings-early (e .a ∷ []))
-    (of-all within 5 five (take (e .strengths) part) then· of-all distanceRange 5 five (drop (e .strengths) part))
-    (settings-early (e .a ∷ e .b ∷ e .c ∷ []))
-    (of-require false 5 0 (five 0))
+unfolding kindRanges
+own-early e part = go (kindOf (e .kind))
+  where
+    go : (k : Kind) → Refuses Early (kindRanges k e part)
+    go Empty = of-done
+    go ManyBody = of-all within 5 five part
+    go Collide = of-all distanceRange 5 five part then· settings-early (e .a ∷ [])
+    go Link = of-all within 5 five (take (e .strengths) part) then· of-all distanceRange 5 five (drop (e .strengths) part)
+    go Center = settings-early (e .a ∷ e .b ∷ e .c ∷ [])
+    go Unknown = of-require false 5 0 (five 0)
 
 -- and the parts of all slots
 pub each-early : {A : Type 0} (need : ForceEntry → ℕ) (check : ForceEntry → List A → Check) → ((e : ForceEntry) (part : List A) → Refuses Early (check e part))

@@ -2,7 +2,7 @@
 use mathlib.Core.Path.{_≡_, refl, sym, ap, _∙_}
 use mathlib.Core.Bool.{Bool, true, false, not, _&&_, _||_, false≢true, and-eq-true-iff}
 use mathlib.Core.List.{List, [], _∷_, map}
-use Prim.Native.Nat.{ℕ, zero, suc, _+_, _-_, _*_, _≤_, _<_}
+use Prim.Native.Nat.{ℕ, suc, _+_, _-_, _*_, _≤_, _<_}
 use native.Mathlib.Nat.{zero-add, le-trans}
 use native.Mathlib.Omega.{arith}
 use borrow.Author.Tests.{not-true, not-false, eq-eqb, ne-eqb, eqb-true, leb-true}
@@ -11,33 +11,33 @@ use lib.ListN.{length}
 use Rattle.rules.specs.declared.ForceEntry.{ForceEntry}
 use Rattle.rules.specs.Plain.{all, sum}
 use Rattle.rules.specs.Outcome.{Check, done, refused, fine, _then_, _>>=_, checkFrom, checkEach}
-use Rattle.rules.specs.Refusal.{mostLinks, mostIterations, countCheck}
-use Rattle.rules.specs.Force.{noneOr}
-use Rattle.rules.specs.Tick.{entryAt, entriesFrom, entriesOf, entryCounts, strengthsRight, numbersNeeded, linksNeeded}
+use Rattle.rules.specs.Refusal.{mostParticles, mostLinks, mostIterations, countCheck}
+use Rattle.rules.specs.Force.{Kind, Empty, ManyBody, Collide, Link, Center, Unknown, kindOf, kindCounts, strengthsAgree}
+use Rattle.rules.specs.Tick.{kindNumbers, kindLinks, kindStrengthsAgree, entryWords, forceSlots, entryAt, entriesFrom, entriesOf, entryCounts, strengthsRight, numbersNeeded, linksNeeded}
 use Rattle.list_checks.proofs.Checks.{then-both, require-true}
 
 -- the entries from slot i on
 abbrev pub entriesLeft : List ℕ → ℕ → List ForceEntry
-entriesLeft w i = entriesFrom w (i * 7) (8 - i)
+entriesLeft w i = entriesFrom w (i * entryWords) (forceSlots - i)
 
-pub entries-left : (w : List ℕ) (i : ℕ) → i < 8 → entriesLeft w i ≡ entryAt w (i * 7) ∷ entriesLeft w (i + 1)
+pub entries-left : (w : List ℕ) (i : ℕ) → i < forceSlots → entriesLeft w i ≡ entryAt w (i * entryWords) ∷ entriesLeft w (i + 1)
 entries-left w i h = rw (e, f)
   where
-    e : 8 - i ≡ suc (8 - (i + 1))
+    e : forceSlots - i ≡ suc (forceSlots - (i + 1))
     e = omega arith
 
-    f : i * 7 + 7 ≡ (i + 1) * 7
+    f : i * entryWords + entryWords ≡ (i + 1) * entryWords
     f = omega arith
 
 pub entries-none : (w : List ℕ) (i : ℕ) → 8 ≤ i → entriesLeft w i ≡ []
 entries-none w i h = rw e
   where
-    e : 8 - i ≡ 0
+    e : forceSlots - i ≡ 0
     e = omega arith
 
 -- ---- a test of every entry
 
-module _ (ok : ForceEntry → Bool) (w : List ℕ) (i : ℕ) (h : i < 8) (b : Bool) (is : b ≡ ok (entryAt w (i * 7))) where
+module _ (ok : ForceEntry → Bool) (w : List ℕ) (i : ℕ) (h : i < forceSlots) (b : Bool) (is : b ≡ ok (entryAt w (i * entryWords))) where
   pub right-stop : not b ≡ true → false ≡ all ok (entriesLeft w i)
   right-stop n = rw (entries-left w i h, ← is, not-true b n)
 
@@ -50,7 +50,7 @@ module _ (need : ForceEntry → ℕ) (w : List ℕ) where
   abbrev pub needLeft : ℕ → ℕ
   needLeft i = sum (map need (entriesLeft w i))
 
-  need-left : (i : ℕ) → i < 8 → needLeft i ≡ need (entryAt w (i * 7)) + needLeft (i + 1)
+  need-left : (i : ℕ) → i < forceSlots → needLeft i ≡ need (entryAt w (i * entryWords)) + needLeft (i + 1)
   need-left i h = ap (λ (es : List ForceEntry). sum (map need es)) (entries-left w i h)
 
   need-none : (i : ℕ) → 8 ≤ i → needLeft i ≡ 0
@@ -58,22 +58,22 @@ module _ (need : ForceEntry → ℕ) (w : List ℕ) where
 
   -- `total` is what the slots before i need
   abbrev pub Summed : ℕ → ℕ → Type 0
-  Summed total i = (i ≤ 8) × (sum (map need (entriesOf w)) ≡ total + needLeft i)
+  Summed total i = (i ≤ forceSlots) × (sum (map need (entriesOf w)) ≡ total + needLeft i)
 
   pub summed-start : Summed 0 0
   summed-start = (omega arith, sym (zero-add (sum (map need (entriesOf w)))))
 
   module _ (total i : ℕ) (s : Summed total i) where
-    pub summed-fits : i < 8 → total + need (entryAt w (i * 7)) ≤ sum (map need (entriesOf w))
+    pub summed-fits : i < forceSlots → total + need (entryAt w (i * entryWords)) ≤ sum (map need (entriesOf w))
     summed-fits h = rw (s .1) (omega (arith, need-left i h))
 
-    pub summed-need : i < 8 → need (entryAt w (i * 7)) ≤ sum (map need (entriesOf w))
+    pub summed-need : i < forceSlots → need (entryAt w (i * entryWords)) ≤ sum (map need (entriesOf w))
     summed-need h = le-trans (omega arith) (summed-fits h)
 
-    pub summed-on : i < 8 → Summed (total + need (entryAt w (i * 7))) (i + 1)
+    pub summed-on : i < forceSlots → Summed (total + need (entryAt w (i * entryWords))) (i + 1)
     summed-on h = (omega arith, s .1 ∙ omega (arith, need-left i h))
 
-    pub summed-end : 8 ≤ i → total ≡ sum (map need (entriesOf w))
+    pub summed-end : forceSlots ≤ i → total ≡ sum (map need (entriesOf w))
     summed-end h = sym (s .1 ∙ omega (arith, need-none i h))
 
 -- two ends for each link
@@ -87,7 +87,7 @@ pub bind-then : (c d : Check) → (c >>= λ _. d) ≡ c then d
 bind-then (done t) d = refl
 bind-then (refused r) d = refl
 
-none-small : (n k : ℕ) → noneOr n k ≡ true → k ≤ n
+none-small : (n k : ℕ) → strengthsAgree n k ≡ true → k ≤ n
 none-small n k h = go (eqb k 0) (eqb k n) (eqb-true k 0) (eqb-true k n) h
   where
     go : (a b : Bool) → (a ≡ true → k ≡ 0) → (b ≡ true → k ≡ n) → a || b ≡ true → k ≤ n
@@ -99,30 +99,31 @@ pub count-small : (most n : ℕ) → countCheck most n ≡ fine → n ≤ most
 count-small most n h = leb-true n most (require-true (leb n most) 1 0 h)
 
 -- links and strengths of a link
-link-small : (links strengths iterations : ℕ) → countCheck mostLinks links then countCheck mostIterations iterations ≡ fine → noneOr links strengths ≡ true
-    → (links ≤ 8192) × (strengths ≤ 8192)
+link-small : (links strengths iterations : ℕ) → countCheck mostLinks links then countCheck mostIterations iterations ≡ fine → strengthsAgree links strengths ≡ true
+    → (links ≤ mostLinks) × (strengths ≤ mostLinks)
 link-small links strengths iterations c h =
-    let few = count-small 8192 links (then-both (countCheck mostLinks links) (countCheck mostIterations iterations) c .0) in
+    let few = count-small mostLinks links (then-both (countCheck mostLinks links) (countCheck mostIterations iterations) c .0) in
     (few, omega (arith, none-small links strengths h))
 
-entry-small : (k n : ℕ) (e : ForceEntry) → e .kind ≡ k → n ≤ 4096 → entryCounts e ≡ fine → strengthsRight e ≡ true → (numbersNeeded n e ≤ 16384) × (linksNeeded e ≤ 8192)
-entry-small zero n e i few c r = rw i (omega arith)
-entry-small (suc zero) n e i few c r = rw i (omega arith)
-entry-small (suc (suc zero)) n e i few c r = rw i (omega arith)
-entry-small (suc (suc (suc zero))) n e i few c r = rw i (omega (arith, link-small (e .links) (e .strengths) (e .iterations) (rw i at c) (rw i at r)))
-entry-small (suc (suc (suc (suc zero)))) n e i few c r = rw i (omega arith)
-entry-small (suc (suc (suc (suc (suc k))))) n e i few c r = rw i (omega arith)
+kind-small : (k : Kind) (n : ℕ) (e : ForceEntry) → n ≤ mostParticles → kindCounts k (e .links) (e .iterations) ≡ fine → kindStrengthsAgree k e ≡ true
+    → (kindNumbers k n e ≤ 2 * mostLinks) × (kindLinks k e ≤ mostLinks)
+kind-small Empty n e few c r = omega arith
+kind-small ManyBody n e few c r = omega arith
+kind-small Collide n e few c r = omega arith
+kind-small Link n e few c r = omega (arith, link-small (e .links) (e .strengths) (e .iterations) c r)
+kind-small Center n e few c r = omega arith
+kind-small Unknown n e few c r = omega arith
 
-entries-small : (n i : ℕ) (es : List ForceEntry) → n ≤ 4096 → checkFrom (λ _ e. entryCounts e) i es ≡ fine → all strengthsRight es ≡ true
-    → (sum (map (numbersNeeded n) es) ≤ length es * 16384) × (sum (map linksNeeded es) ≤ length es * 8192)
+entries-small : (n i : ℕ) (es : List ForceEntry) → n ≤ mostParticles → checkFrom (λ _ e. entryCounts e) i es ≡ fine → all strengthsRight es ≡ true
+    → (sum (map (numbersNeeded n) es) ≤ length es * (2 * mostLinks)) × (sum (map linksNeeded es) ≤ length es * mostLinks)
 entries-small n i [] few c r = omega arith
 entries-small n i (e ∷ es) few c r =
     let b = then-both (entryCounts e) (checkFrom (λ _ e. entryCounts e) (i + 1) es) (sym (bind-then (entryCounts e) (checkFrom (λ _ e. entryCounts e) (i + 1) es)) ∙ c) in
     let d = and-eq-true-iff (strengthsRight e) (all strengthsRight es) .0 r in
-    omega (arith, entry-small (e .kind) n e refl few (b .0) (d .0), entries-small n (i + 1) es few (b .1) (d .1))
+    omega (arith, kind-small (kindOf (e .kind)) n e few (b .0) (d .0), entries-small n (i + 1) es few (b .1) (d .1))
 
 -- the same of all slots, in numbers
-pub all-small : (n : ℕ) (w : List ℕ) → n ≤ 4096 → checkEach (λ _ e. entryCounts e) (entriesOf w) ≡ fine → all strengthsRight (entriesOf w) ≡ true
+pub all-small : (n : ℕ) (w : List ℕ) → n ≤ mostParticles → checkEach (λ _ e. entryCounts e) (entriesOf w) ≡ fine → all strengthsRight (entriesOf w) ≡ true
     → (sum (map (numbersNeeded n) (entriesOf w)) ≤ 131072) × (sum (map linksNeeded (entriesOf w)) ≤ 65536)
 all-small n w few c r = entries-small n 0 (entriesOf w) few c r
 

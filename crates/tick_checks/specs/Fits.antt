@@ -1,20 +1,17 @@
 -- What 1, 2 and 3 let pass of the force slots and the lists behind them. Definitions only.
 use mathlib.Core.Path.{_≡_}
-use mathlib.Core.Bool.{true, _&&_}
-use mathlib.Core.List.{List, map}
-use Prim.Native.Nat.{ℕ, _*_, _≤_}
-use lib.Dec.{eqb}
-use lib.ListN.{length}
+use mathlib.Core.Bool.{true}
+use mathlib.Core.List.{List}
+use Prim.Native.Nat.{ℕ, _≤_}
 use lib.Ieee.{Float}
 use Rattle.rules.specs.declared.ForceEntry.{ForceEntry}
-use Rattle.rules.specs.Plain.{all, sum}
 use Rattle.rules.specs.Outcome.{fine, checkEach}
 use Rattle.rules.specs.Refusal.{mostParticles}
-use Rattle.rules.specs.Tick.{entryCounts, strengthsRight, numbersNeeded, linksNeeded, forceEnds, forcesFrom}
+use Rattle.rules.specs.Tick.{entryCounts, entryLengths, forceEnds, forcesFrom}
 
 -- few particles, iterations and links; lists as long as the entries need; every link end a particle
 pub record Fits (n : ℕ) (entries : List ForceEntry) (numbers : List Float) (links : List ℕ) : Type 0 where
   pub few : n ≤ mostParticles
   pub counts : checkEach (λ _ e. entryCounts e) entries ≡ fine
-  pub lengths : all strengthsRight entries && eqb (length numbers) (sum (map (numbersNeeded n) entries)) && eqb (length links) (sum (map linksNeeded entries) * 2) ≡ true
+  pub lengths : entryLengths n entries numbers links ≡ true
   pub ends : checkEach (λ _ f. forceEnds n f) (forcesFrom n entries numbers links) ≡ fine

@@ -7,8 +7,8 @@ use lib.Ieee.{Float}
 use Rattle.rules.specs.declared.ForceEntry.{ForceEntry}
 use Rattle.rules.specs.Outcome.{Check, fine, require, requireAll, _then_}
 use Rattle.rules.specs.Refusal.{strengthsCheck, distancesCheck, settingsCheck}
-use Rattle.rules.specs.Force.{endsOf, endsRange}
-use Rattle.rules.specs.Tick.{byKind, linksNeeded, numbersNeeded}
+use Rattle.rules.specs.Force.{Kind, Empty, ManyBody, Collide, Link, Center, Unknown, kindOf, endsOf, endsRange}
+use Rattle.rules.specs.Tick.{linksNeeded, numbersNeeded}
 
 -- slots that share a list one after another, each with a check of its own part: the first that refuses
 abbrev pub eachPart : {A : Type 0} → (ForceEntry → ℕ) → (ForceEntry → List A → Check) → List ForceEntry → List A → Check
@@ -20,15 +20,16 @@ abbrev pub ownEnds : ℕ → List ℕ → Check
 ownEnds n part = requireAll (endsRange n) 3 (endsOf part)
 
 -- 5, of a slot's own numbers and settings
-unfoldable pub ownRanges : ForceEntry → List Float → Check
-ownRanges e part =
-    byKind (e .kind)
-    fine
-    (strengthsCheck part)
-    (distancesCheck part then settingsCheck (e .a ∷ []))
-    (strengthsCheck (take (e .strengths) part) then distancesCheck (drop (e .strengths) part))
-    (settingsCheck (e .a ∷ e .b ∷ e .c ∷ []))
-    (require false 5 0)
+unfoldable pub kindRanges : Kind → ForceEntry → List Float → Check
+kindRanges Empty e part = fine
+kindRanges ManyBody e part = strengthsCheck part
+kindRanges Collide e part = distancesCheck part then settingsCheck (e .a ∷ [])
+kindRanges Link e part = strengthsCheck (take (e .strengths) part) then distancesCheck (drop (e .strengths) part)
+kindRanges Center e part = settingsCheck (e .a ∷ e .b ∷ e .c ∷ [])
+kindRanges Unknown e part = require false 5 0
+
+abbrev pub ownRanges : ForceEntry → List Float → Check
+ownRanges e part = kindRanges (kindOf (e .kind)) e part
 
 -- 3 of all slots, for n particles
 abbrev pub endsEach : ℕ → List ForceEntry → List ℕ → Check

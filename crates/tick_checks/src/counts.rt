@@ -1,10 +1,12 @@
 // 1: too many iterations of one force, or too many links.
 use crate::entry::entry_at;
-use list_checks::MOST_ITERATIONS;
-use list_checks::MOST_LINKS;
 use list_checks::count_check;
 use list_checks::first;
+use rules::FORCE_SLOTS;
+use rules::FORCE_WORDS;
 use rules::ForceEntry;
+use rules::MOST_ITERATIONS;
+use rules::MOST_LINKS;
 use rules::Refusal;
 ghost use mathlib.Core.Path.{_≡_};
 ghost use Rattle.rules.specs.Outcome.{refusalOf, checkEach};
@@ -20,28 +22,22 @@ fn entry_counts(e: ForceEntry) -> Refusal
     match kind {
         2 => iterations,
         3 => first(links, iterations),
-        _ => Refusal {
-            number: 0,
-            place: 0,
-        },
+        _ => Refusal::none(),
     }
 }
 
 // The first slot that has too many of either.
-pub fn counts_check(forces: &[u64; 56]) -> Refusal
-    ensures { λ r. ⌜ r ≡ refusalOf (checkEach (λ _ e. entryCounts e) (entriesOf (now (forces .entry)))) ⌝ }
+pub fn counts_check(words: &[u64; FORCE_WORDS]) -> Refusal
+    ensures { λ r. ⌜ r ≡ refusalOf (checkEach (λ _ e. entryCounts e) (entriesOf (now (words .entry)))) ⌝ }
 {
     let mut i: usize = 0;
-    while i < 8 {
-        let r = entry_counts(entry_at(forces, i));
+    while i < FORCE_SLOTS {
+        let r = entry_counts(entry_at(words, i));
         let number = r.number;
         if number != 0 {
             return r;
         }
         i = i + 1;
     }
-    Refusal {
-        number: 0,
-        place: 0,
-    }
+    Refusal::none()
 }

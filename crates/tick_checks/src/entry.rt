@@ -1,31 +1,33 @@
 // A force slot's entry, read from its seven words, and how much of the lists behind the slots it needs.
 use number::float_of;
+use rules::ENTRY_WORDS;
+use rules::FORCE_WORDS;
 use rules::ForceEntry;
 ghost use mathlib.Core.Path.{_≡_};
 ghost use Prim.Native.Nat.{_*_, _<_, _^_};
 ghost use lib.ListN.{getD};
-ghost use Rattle.rules.specs.Tick.{entryAt, numbersNeeded, linksNeeded};
+ghost use Rattle.rules.specs.Tick.{entryWords, forceSlots, entryAt, numbersNeeded, linksNeeded};
 
-fn word(forces: &[u64; 56], at: usize) -> u64
-    requires { ⌜ at < 56 ⌝ }
-    ensures { λ r. ⌜ r ≡ getD (now (forces .entry)) at 0 ⌝ }
+fn word(words: &[u64; FORCE_WORDS], at: usize) -> u64
+    requires { ⌜ at < forceSlots * entryWords ⌝ }
+    ensures { λ r. ⌜ r ≡ getD (now (words .entry)) at 0 ⌝ }
 {
-    forces[at]
+    words[at]
 }
 
 // The entry of slot number i.
-pub fn entry_at(forces: &[u64; 56], i: usize) -> ForceEntry
-    requires { ⌜ i < 8 ⌝ }
-    ensures { λ r. ⌜ r ≡ entryAt (now (forces .entry)) (i * 7) ⌝ }
+pub fn entry_at(words: &[u64; FORCE_WORDS], i: usize) -> ForceEntry
+    requires { ⌜ i < forceSlots ⌝ }
+    ensures { λ r. ⌜ r ≡ entryAt (now (words .entry)) (i * entryWords) ⌝ }
 {
-    let at = i * 7;
-    let kind = word(forces, at);
-    let iterations = word(forces, at + 1);
-    let links = word(forces, at + 2);
-    let strengths = word(forces, at + 3);
-    let a = float_of(word(forces, at + 4));
-    let b = float_of(word(forces, at + 5));
-    let c = float_of(word(forces, at + 6));
+    let at = i * ENTRY_WORDS;
+    let kind = word(words, at);
+    let iterations = word(words, at + 1);
+    let links = word(words, at + 2);
+    let strengths = word(words, at + 3);
+    let a = float_of(word(words, at + 4));
+    let b = float_of(word(words, at + 5));
+    let c = float_of(word(words, at + 6));
     ForceEntry {
         kind,
         iterations,

@@ -2,6 +2,8 @@
 use crate::entry::entry_at;
 use crate::entry::links_needed;
 use crate::entry::numbers_needed;
+use rules::FORCE_SLOTS;
+use rules::FORCE_WORDS;
 use rules::ForceEntry;
 ghost use mathlib.Core.Path.{_≡_};
 ghost use mathlib.Core.Bool.{_&&_};
@@ -28,12 +30,12 @@ fn strengths_right(e: ForceEntry) -> bool
     strengths == e.links
 }
 
-fn all_right(forces: &[u64; 56]) -> bool
-    ensures { λ r. ⌜ r ≡ all strengthsRight (entriesOf (now (forces .entry))) ⌝ }
+fn all_right(words: &[u64; FORCE_WORDS]) -> bool
+    ensures { λ r. ⌜ r ≡ all strengthsRight (entriesOf (now (words .entry))) ⌝ }
 {
     let mut i: usize = 0;
-    while i < 8 {
-        if !strengths_right(entry_at(forces, i)) {
+    while i < FORCE_SLOTS {
+        if !strengths_right(entry_at(words, i)) {
             return false;
         }
         i = i + 1;
@@ -42,42 +44,42 @@ fn all_right(forces: &[u64; 56]) -> bool
 }
 
 // How many numbers all slots need, of n particles.
-fn all_numbers(forces: &[u64; 56], n: usize) -> usize
-    requires { ⌜ sum (map (numbersNeeded n) (entriesOf (now forces))) < 2 ^ 64 ⌝ }
-    ensures { λ r. ⌜ r ≡ sum (map (numbersNeeded n) (entriesOf (now (forces .entry)))) ⌝ }
+fn all_numbers(words: &[u64; FORCE_WORDS], n: usize) -> usize
+    requires { ⌜ sum (map (numbersNeeded n) (entriesOf (now words))) < 2 ^ 64 ⌝ }
+    ensures { λ r. ⌜ r ≡ sum (map (numbersNeeded n) (entriesOf (now (words .entry)))) ⌝ }
 {
     let mut total: usize = 0;
     let mut i: usize = 0;
-    while i < 8 {
-        total = total + numbers_needed(n, entry_at(forces, i));
+    while i < FORCE_SLOTS {
+        total = total + numbers_needed(n, entry_at(words, i));
         i = i + 1;
     }
     total
 }
 
-fn all_links(forces: &[u64; 56]) -> usize
-    requires { ⌜ sum (map linksNeeded (entriesOf (now forces))) < 2 ^ 64 ⌝ }
-    ensures { λ r. ⌜ r ≡ sum (map linksNeeded (entriesOf (now (forces .entry)))) ⌝ }
+fn all_links(words: &[u64; FORCE_WORDS]) -> usize
+    requires { ⌜ sum (map linksNeeded (entriesOf (now words))) < 2 ^ 64 ⌝ }
+    ensures { λ r. ⌜ r ≡ sum (map linksNeeded (entriesOf (now (words .entry)))) ⌝ }
 {
     let mut total: usize = 0;
     let mut i: usize = 0;
-    while i < 8 {
-        total = total + links_needed(entry_at(forces, i));
+    while i < FORCE_SLOTS {
+        total = total + links_needed(entry_at(words, i));
         i = i + 1;
     }
     total
 }
 
 // Of lists with so many numbers and so many link ends. No sum is made before the counts and the strengths are known to be small.
-pub fn lengths_agree(forces: &[u64; 56], n: usize, numbers: usize, links: usize) -> bool
-    requires { ⌜ (n ≤ mostParticles) × (checkEach (λ _ e. entryCounts e) (entriesOf (now forces)) ≡ fine) ⌝ }
-    ensures { λ r. ⌜ r ≡ all strengthsRight (entriesOf (now (forces .entry))) && eqb numbers (sum (map (numbersNeeded n) (entriesOf (now (forces .entry))))) && eqb links (sum (map linksNeeded (entriesOf (now (forces .entry)))) * 2) ⌝ }
+pub fn lengths_agree(words: &[u64; FORCE_WORDS], n: usize, numbers: usize, links: usize) -> bool
+    requires { ⌜ (n ≤ mostParticles) × (checkEach (λ _ e. entryCounts e) (entriesOf (now words)) ≡ fine) ⌝ }
+    ensures { λ r. ⌜ (let es = entriesOf (now (words .entry)) in r ≡ all strengthsRight es && eqb numbers (sum (map (numbersNeeded n) es)) && eqb links (sum (map linksNeeded es) * 2)) ⌝ }
 {
-    if !all_right(forces) {
+    if !all_right(words) {
         return false;
     }
-    if numbers != all_numbers(forces, n) {
+    if numbers != all_numbers(words, n) {
         return false;
     }
-    links == all_links(forces) * 2
+    links == all_links(words) * 2
 }

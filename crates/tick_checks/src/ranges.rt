@@ -5,6 +5,8 @@ use list_checks::distances_check;
 use list_checks::first;
 use list_checks::setting_check;
 use list_checks::strengths_check;
+use rules::FORCE_SLOTS;
+use rules::FORCE_WORDS;
 use rules::ForceEntry;
 use rules::Refusal;
 ghost use mathlib.Core.Path.{_≡_};
@@ -41,30 +43,24 @@ fn entry_ranges(e: ForceEntry, part: &[f64]) -> Refusal
 {
     let kind = e.kind;
     match kind {
-        0 => Refusal {
-            number: 0,
-            place: 0,
-        },
+        0 => Refusal::none(),
         1 => strengths_check(part),
         2 => first(distances_check(part), setting_check(e.a)),
         3 => link_ranges(part, e.strengths as usize),
         4 => settings_check(e.a, e.b, e.c),
-        _ => Refusal {
-            number: 5,
-            place: 0,
-        },
+        _ => Refusal::at(5, 0),
     }
 }
 
 // The slots' numbers lie one after another.
-pub fn all_ranges(forces: &[u64; 56], numbers: &[f64], n: usize) -> Refusal
-    requires { ⌜ length (now numbers) ≡ sum (map (numbersNeeded n) (entriesOf (now forces))) ⌝ }
-    ensures { λ r. ⌜ r ≡ refusalOf (rangesEach n (entriesOf (now (forces .entry))) (now (numbers .entry))) ⌝ }
+pub fn all_ranges(words: &[u64; FORCE_WORDS], numbers: &[f64], n: usize) -> Refusal
+    requires { ⌜ length (now numbers) ≡ sum (map (numbersNeeded n) (entriesOf (now words))) ⌝ }
+    ensures { λ r. ⌜ r ≡ refusalOf (rangesEach n (entriesOf (now (words .entry))) (now (numbers .entry))) ⌝ }
 {
     let mut at: usize = 0;
     let mut i: usize = 0;
-    while i < 8 {
-        let e = entry_at(forces, i);
+    while i < FORCE_SLOTS {
+        let e = entry_at(words, i);
         let end = at + numbers_needed(n, e);
         let r = entry_ranges(e, &numbers[at..end]);
         let number = r.number;
@@ -74,8 +70,5 @@ pub fn all_ranges(forces: &[u64; 56], numbers: &[f64], n: usize) -> Refusal
         at = end;
         i = i + 1;
     }
-    Refusal {
-        number: 0,
-        place: 0,
-    }
+    Refusal::none()
 }

@@ -9,17 +9,18 @@ use Rattle.rules.specs.Outcome.{fine}
 use Rattle.rules.specs.Plain.{zeros}
 use Rattle.rules.specs.Number.{bitsOf}
 use Rattle.force_call.specs.Calls.{noCounts, countsAfter}
-use Rattle.tick_close.specs.declared.Ticked.{Ticked}
+use Rattle.force.specs.declared.Ran.{Ran}
+use Rattle.force.specs.Ran.{ranCheck}
 use Rattle.tick_columns.specs.Columns.{written}
-use Rattle.tick_close.specs.Settled.{standing, TickSettled}
+use Rattle.tick_close.specs.Settled.{TickSettled}
 
-module _ (t : Ticked) (places speeds : List Float) (sheet : List ℕ) (alpha : ℕ) (work work' : List ℕ) where
+module _ (t : Ran) (places speeds : List Float) (sheet : List ℕ) (alpha : ℕ) (work work' : List ℕ) where
   pub settled-refused : (r : Counts) → (t .refusal .number ≡ 0 → ⊥) → r ≡ noCounts (t .refusal) → work' ≡ zeros work
-      → TickSettled (standing t) t places speeds sheet alpha work r sheet alpha work'
-  unfolding standing
-  settled-refused r h er ew = let e = ne-eqb (t .refusal .number) 0 h in record { answer = er ∙ rw e; bytes = rw e; heat = rw e; slots = ew }
+      → TickSettled (ranCheck t) t places speeds sheet alpha work r sheet alpha work'
+  unfolding ranCheck
+  settled-refused r h er ew = let e = ne-eqb (t .refusal .number) 0 h in record { answer = er ∙ rw e; bytes = rw e; alphaLeft = rw e; slots = ew }
 
-  pub settled-done : (sheet' : List ℕ) (alpha' : ℕ) → t .refusal .number ≡ 0 → sheet' ≡ written sheet places speeds → alpha' ≡ bitsOf (t .alpha) → work' ≡ zeros work
-      → TickSettled (standing t) t places speeds sheet alpha work (countsAfter fine (t .visits) (t .used)) sheet' alpha' work'
-  unfolding standing
-  settled-done sheet' alpha' h es ea ew = let e = eq-eqb (t .refusal .number) 0 h in record { answer = rw e; bytes = es ∙ rw e; heat = ea ∙ rw e; slots = ew }
+  pub settled-done : (r : Counts) (sheet' : List ℕ) (alpha' : ℕ) → t .refusal .number ≡ 0 → r ≡ countsAfter fine (t .progress) → sheet' ≡ written sheet places speeds → alpha' ≡ bitsOf (t .progress .alpha) → work' ≡ zeros work
+      → TickSettled (ranCheck t) t places speeds sheet alpha work r sheet' alpha' work'
+  unfolding ranCheck
+  settled-done r sheet' alpha' h er es ea ew = let e = eq-eqb (t .refusal .number) 0 h in record { answer = er ∙ rw e; bytes = es ∙ rw e; alphaLeft = ea ∙ rw e; slots = ew }

@@ -1,16 +1,18 @@
 // What a call of a tick or a step answers and leaves once its ticks have run by columns.
 use crate::Stepped;
-use crate::Ticked;
-use tick_columns::write_columns;
+use force::Ran;
+use force_call::counted;
 use force_call::refused;
 use number::bits_of;
 use rules::Counts;
 use rules::Refusal;
 use rules::StepAnswer;
+use tick_columns::write_columns;
 ghost use mathlib.Core.Path.{_≡_};
 ghost use mathlib.Core.Bool.{cond};
+ghost use Rattle.force.specs.Ran.{ranCheck};
 ghost use Rattle.tick_columns.specs.Columns.{Writable};
-ghost use Rattle.tick_close.specs.Settled.{standing, TickSettled, noTicks, StepSettled};
+ghost use Rattle.tick_close.specs.Settled.{TickSettled, noTicks, StepSettled};
 
 // Sheet and alpha are written only where the tick is not refused. The work slots are zero in any case.
 pub fn settle_tick(
@@ -18,28 +20,23 @@ pub fn settle_tick(
     alpha: &mut u64,
     places: &[f64],
     speeds: &[f64],
-    ticked: Ticked,
+    ran: Ran,
     work: &mut [u64],
 ) -> Counts
     requires { ⌜ Writable (now sheet) (now places) (now speeds) ⌝ }
-    ensures { λ r. ⌜ TickSettled (standing ticked) ticked (now (places .entry)) (now (speeds .entry)) (now (sheet .entry)) (now (alpha .entry)) (now (work .entry)) r (now (sheet .exit)) (now (alpha .exit)) (now (work .exit)) ⌝ }
+    ensures { λ r. ⌜ TickSettled (ranCheck ran) ran (now (places .entry)) (now (speeds .entry)) (now (sheet .entry)) (now (alpha .entry)) (now (work .entry))
+        r (now (sheet .exit)) (now (alpha .exit)) (now (work .exit)) ⌝ }
 {
     tree_slots::store::clear(work);
-    let refusal = ticked.refusal;
+    let refusal = ran.refusal;
     let number = refusal.number;
     if number != 0 {
         return refused(refusal);
     }
     write_columns(sheet, places, speeds);
-    *alpha = bits_of(ticked.alpha);
-    Counts {
-        refusal: Refusal {
-            number: 0,
-            place: 0,
-        },
-        visits: ticked.visits,
-        draws: ticked.used as u64,
-    }
+    let p = ran.progress;
+    *alpha = bits_of(p.alpha);
+    counted(p)
 }
 
 // A refusal's answer: no tick, and all counts zero.
@@ -72,22 +69,24 @@ pub fn settle_step(
     places: &[f64],
     speeds: &[f64],
     stepped: Stepped,
-    least: f64,
+    alpha_min: f64,
     work: &mut [u64],
 ) -> StepAnswer
     requires { ⌜ Writable (now sheet) (now places) (now speeds) ⌝ }
-    ensures { λ r. ⌜ StepSettled stepped least (now (places .entry)) (now (speeds .entry)) (now (sheet .entry)) (now (work .entry)) r (now (sheet .exit)) (now (alpha .exit)) (now (work .exit)) ⌝ }
+    ensures { λ r. ⌜ StepSettled stepped «alpha_min» (now (places .entry)) (now (speeds .entry)) (now (sheet .entry)) (now (work .entry))
+        r (now (sheet .exit)) (now (alpha .exit)) (now (work .exit)) ⌝ }
 {
     tree_slots::store::clear(work);
     write_columns(sheet, places, speeds);
-    let heat = stepped.alpha;
-    *alpha = bits_of(heat);
+    let p = stepped.progress;
+    let last_alpha = p.alpha;
+    *alpha = bits_of(last_alpha);
     let refusal = stepped.refusal;
     StepAnswer {
         refusal,
         ticks: stepped.ticks,
-        finished: one_if(heat <= least),
-        visits: stepped.visits,
-        draws: stepped.used as u64,
+        finished: one_if(last_alpha <= alpha_min),
+        visits: p.visits,
+        draws: p.used as u64,
     }
 }

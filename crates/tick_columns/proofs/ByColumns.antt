@@ -7,7 +7,7 @@ use lib.ListN.{length, length-map}
 use lib.Ieee.{Float}
 use Rattle.rules.specs.declared.Particle.{Particle}
 use Rattle.rules.specs.Plain.{upTo}
-use Rattle.rules.specs.Sheet.{countOf, particlesOf, recordsFrom, pairsFrom}
+use Rattle.rules.specs.Sheet.{recordSize, velocityStart, countOf, particlesOf, recordsFrom, pairsFrom}
 use Rattle.rules.proofs.CellCount.{length-upTo}
 use Rattle.sheet.specs.Columns.{flagsOf, putPairs}
 use Rattle.words.proofs.Bytes.{Bytes}
@@ -20,12 +20,12 @@ use Rattle.tick_columns.specs.Columns.{Read, Writable, written}
 
 -- p and v numbers were read, which are a pair for each record
 pub columns-read : (sheet : List ℕ) (places speeds : List Float) (flags : List ℕ) (p v : ℕ) → p ≡ countOf sheet * 2 → v ≡ countOf sheet * 2
-    → places ≡ pairsFrom 40 sheet 0 (p / 2) → speeds ≡ pairsFrom 40 sheet 16 (v / 2) → flags ≡ flagsOf (particlesOf sheet) → Read sheet places speeds flags
+    → places ≡ pairsFrom recordSize sheet 0 (p / 2) → speeds ≡ pairsFrom recordSize sheet velocityStart (v / 2) → flags ≡ flagsOf (particlesOf sheet) → Read sheet places speeds flags
 columns-read sheet places speeds flags p v hp hv ep ev ef =
     record {
-      at = ep ∙ ap (pairsFrom 40 sheet 0) (half p hp) ∙ sym (places-of sheet);
-      fast = ev ∙ ap (pairsFrom 40 sheet 16) (half v hv) ∙ sym (speeds-of sheet);
-      held = ef;
+      ofPlaces = ep ∙ ap (pairsFrom recordSize sheet 0) (half p hp) ∙ sym (places-of sheet);
+      ofSpeeds = ev ∙ ap (pairsFrom recordSize sheet velocityStart) (half v hv) ∙ sym (speeds-of sheet);
+      ofFlags = ef;
     }
   where
     half : (k : ℕ) → k ≡ countOf sheet * 2 → k / 2 ≡ countOf sheet
@@ -36,7 +36,7 @@ columns-read sheet places speeds flags p v hp hv ep ev ef =
 -- a flag for each record
 flags-from : (s : List ℕ) (at k : ℕ) → length (flagsOf (recordsFrom s at k)) ≡ k
 flags-from s at zero = refl
-flags-from s at (suc k) = ap suc (flags-from s (at + 40) k)
+flags-from s at (suc k) = ap suc (flags-from s (at + recordSize) k)
 
 flags-count : (s : List ℕ) → length (flagsOf (particlesOf s)) ≡ countOf s
 unfolding particlesOf
@@ -49,11 +49,11 @@ particles-count places speeds flags = length-map (upTo (length flags)) (particle
 
 -- the places were written first, then the speeds
 pub columns-written : (sheet : List ℕ) (places speeds : List Float) (mid end : List ℕ) → Bytes sheet → Writable sheet places speeds
-    → mid ≡ putPairs 40 sheet 0 places → end ≡ putPairs 40 mid 16 speeds → end ≡ written sheet places speeds
+    → mid ≡ putPairs recordSize sheet 0 places → end ≡ putPairs recordSize mid velocityStart speeds → end ≡ written sheet places speeds
 columns-written sheet places speeds mid end b h em ee =
     ee
     ∙ rw em (
-    rw (places-back places speeds flags (h .at ∙ twice), speeds-back places speeds flags (h .fast ∙ twice)) at
+    rw (places-back places speeds flags (h .placeEach ∙ twice), speeds-back places speeds flags (h .speedEach ∙ twice)) at
     (sheet-of-columns qs sheet b (omega (arith, h .whole, particles-count places speeds flags, flags-count sheet)) (sym (flags-back places speeds flags)))
     )
   where

@@ -1,23 +1,28 @@
 -- No stage of a tick changes a flag.
 use mathlib.Core.Path.{_≡_, refl, ap}
 use mathlib.Core.List.{List, [], _∷_, map}
-use Prim.Native.Nat.{ℕ, _+_}
+use Prim.Native.Nat.{ℕ, _*_}
 use native.Mathlib.Omega.{arith}
+use lib.ListN.{length}
 use lib.Ieee.{Float}
 use Rattle.rules.specs.declared.Particle.{Particle}
 use Rattle.rules.specs.Sheet.{placesOf, speedsOf}
 use Rattle.rules.specs.Particle.{shifted, centered, moved, closing}
-use Rattle.rules.specs.Tick.{withSpeedsFrom, withSpeeds}
+use Rattle.rules.specs.Tick.{withSpeeds}
 use Rattle.sheet.specs.Columns.{flagsOf}
 use Rattle.closing.specs.Columns.{particlesFrom}
 use Rattle.closing.proofs.Closing.{particles-back}
 
-speeds-flags : (vs : List Float) (i : ℕ) (ps : List Particle) → flagsOf (withSpeedsFrom i vs ps) ≡ flagsOf ps
-speeds-flags vs i [] = refl
-speeds-flags vs i (p ∷ ps) = ap (λ (l : List ℕ). p .flags ∷ l) (speeds-flags vs (i + 1) ps)
+-- a pair of places for each flag
+pub places-flags : (ps : List Particle) → length (placesOf ps) ≡ length (flagsOf ps) * 2
+places-flags [] = refl
+places-flags (p ∷ ps) = omega (arith, places-flags ps)
 
 pub pushed-flags : (vs : List Float) (ps : List Particle) → flagsOf (withSpeeds vs ps) ≡ flagsOf ps
-pushed-flags vs ps = speeds-flags vs 0 ps
+pushed-flags [] ps = refl
+pushed-flags (x ∷ []) ps = refl
+pushed-flags (x ∷ y ∷ vs) [] = refl
+pushed-flags (x ∷ y ∷ vs) (p ∷ ps) = ap (λ (l : List ℕ). p .flags ∷ l) (pushed-flags vs ps)
 
 shifted-flags : (sx sy : Float) (ps : List Particle) → flagsOf (map (shifted sx sy) ps) ≡ flagsOf ps
 unfolding shifted
@@ -28,13 +33,14 @@ pub centered-flags : (x y strength : Float) (ps : List Particle) → flagsOf (ce
 unfolding centered
 centered-flags x y strength ps = shifted-flags _ _ ps
 
--- of as many particles as there were at entry
-pub closing-flags : (decay : Float) (es ps : List Particle) → flagsOf es ≡ flagsOf ps → flagsOf (closing decay es ps) ≡ flagsOf ps
+-- with a home for each
+pub closing-flags : (decay : Float) (home : List Float) (ps : List Particle) → length home ≡ length (flagsOf ps) * 2 → flagsOf (closing decay home ps) ≡ flagsOf ps
 unfolding closing moved
 closing-flags decay [] [] h = refl
-closing-flags decay [] (p ∷ ps) h = absurd (let z : _≡_ {A = ℕ} 0 1 = cc in omega arith)
-closing-flags decay (e ∷ es) [] h = refl
-closing-flags decay (e ∷ es) (p ∷ ps) h = let k : flagsOf es ≡ flagsOf ps = cc in ap (λ (l : List ℕ). p .flags ∷ l) (closing-flags decay es ps k)
+closing-flags decay [] (p ∷ ps) h = absurd (omega arith)
+closing-flags decay (x ∷ []) ps h = absurd (omega arith)
+closing-flags decay (x ∷ y ∷ home) [] h = refl
+closing-flags decay (x ∷ y ∷ home) (p ∷ ps) h = ap (λ (l : List ℕ). p .flags ∷ l) (closing-flags decay home ps (omega arith))
 
 -- particles are those that stand in their columns
 pub columns-of : (qs : List Particle) (places speeds : List Float) (flags : List ℕ) → placesOf qs ≡ places → speedsOf qs ≡ speeds → flagsOf qs ≡ flags

@@ -2,7 +2,6 @@
 mod ended;
 mod sheets;
 
-pub use ended::settled;
-pub use ended::untouched;
+pub use ended::ranged;
 pub use sheets::read_columns;
 pub use sheets::write_columns;

@@ -1,1 +1,1 @@
-mod SlotsLeft
+mod EntriesLeft

@@ -1,1 +1,1 @@
-mod Slot
+mod EntryLists

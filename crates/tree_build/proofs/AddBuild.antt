@@ -2,7 +2,7 @@
 use mathlib.Core.Path.{_≡_, refl, sym, ap, _∙_, subst}
 use mathlib.Core.Bool.{true≢false}
 use mathlib.Core.List.{List, [], List·Memᴰ, List·Memᴰ·head, List·Memᴰ·tail}
-use Prim.Native.Nat.{ℕ, zero, suc, _+_, _-_, _/_, _≤_, _<_}
+use Prim.Native.Nat.{ℕ, zero, suc, _+_, _-_, _≤_, _<_}
 use native.Mathlib.Omega.{arith}
 use native.Mathlib.Decide.{ℕ-discrete}
 use lib.Dec.{T}
@@ -17,6 +17,8 @@ use Rattle.rules.specs.Cell.{nowhere}
 use Rattle.rules.specs.Cover.{coverPoint, nothing, holds, coverAll, coverFirst, extentOf}
 use Rattle.rules.specs.Outcome.{Check, refused, fine, _>>=_, checkFrom}
 use Rattle.rules.specs.Tree.{Tree, none, leaf, node, alike, treeIn, treeOf, fitsCheck, treeCheck}
+use Rattle.rules.specs.Calls.{slotsOf}
+use Rattle.rules.specs.Refusal.{mostParticles}
 use Rattle.rules.proofs.CellCount.{upTo-snoc}
 use Rattle.rules.proofs.CellInside.{Inside}
 use Rattle.rules.proofs.CellIs.{Is, grow-none}
@@ -24,12 +26,12 @@ use Rattle.rules.proofs.CellChain.{EachLeaf, Points, Chain}
 use Rattle.tree_slots.specs.declared.Quadtree.{Quadtree}
 use Rattle.tree_cells.specs.declared.cover.Covered.{Covered}
 use Rattle.tree_placing.specs.declared.Inserted.the-variants.{Done}
-use Rattle.tree_slots.specs.Trees.{inCells, Follows as Chained, Lays, Stands}
+use Rattle.tree_slots.specs.Trees.{inCells, Follows, Lays, Stands, lead}
 use Rattle.tree_cells.specs.Cover.{squareOf, Reachable, Near, CoveredTo}
 use Rattle.tree_leaves.specs.Chain.{Linked}
-use Rattle.tree_placing.specs.Add.{lead, Holds, Ranged, Puts, moreCheck, Placed}
+use Rattle.tree_placing.specs.Add.{Holds, Ranged, Puts, moreCheck, Placed}
 use Rattle.tree_build.specs.declared.build.Built.the-variants as Built
-use Rattle.tree_build.specs.Build.{particles, Builds, Follows, Extends}
+use Rattle.tree_build.specs.Build.{particles, Builds, ComesNext, Extends}
 use Rattle.tree_cells.proofs.CoverLaws as Laws
 use Rattle.tree_cells.proofs.Prefix.{member-less}
 use Rattle.tree_slots.proofs.Links.{rises-upTo, in-upTo}
@@ -55,7 +57,7 @@ module _ (at : List Float) where
   unfolding coverAll
   first-cover = refl
 
-  pub first-extends : (q : Quadtree) (p : ℕ) (c : Covered) → Follows at q p → p ≡ 0 → c .extent ≡ extentOf (coverPoint nothing (floor (xAt at p)) (floor (yAt at p))) → Extends at q p c
+  pub first-extends : (q : Quadtree) (p : ℕ) (c : Covered) → ComesNext at q p → p ≡ 0 → c .extent ≡ extentOf (coverPoint nothing (floor (xAt at p)) (floor (yAt at p))) → Extends at q p c
   first-extends q p c f z e =
       record {
         extent = e ∙ ap (λ (i : ℕ). extentOf (coverPoint nothing (floor (xAt at i)) (floor (yAt at i)))) z ∙ ap extentOf (sym first-cover) ∙ ap (λ (i : ℕ). extentOf (coverFirst at (i + 1))) (sym z);
@@ -79,7 +81,7 @@ module _ (at : List Float) where
         inside = λ i l. subst (λ (c : Extent). Inside at c i) (sym e) (Laws.list-lies at 0 (countFrom 1 k) range i (less-member 0 (suc k) i (omega arith) (omega arith)));
       }
 
-  module _ (q : Quadtree) (p : ℕ) (f : Follows at q p) (n : p ≡ 0 → ⊥) where
+  module _ (q : Quadtree) (p : ℕ) (f : ComesNext at q p) (n : p ≡ 0 → ⊥) where
     before : Ranged at p
     before i l = f .ranged i (omega arith)
 
@@ -151,23 +153,23 @@ module _ (at : List Float) where
   pub holds-none : (m : List ℕ) → Holds at [] m (record { extent = nowhere; root = 0; nodes = 0; deepest = 0 })
   holds-none m = record { tree = none; root = refl; stored = tt; cells = no-tree; deepest = omega arith; shallow = omega arith; count = refl; below = tt; once = tt; room = omega arith }
 
-  pub build-start : (m next tail : List ℕ) → Building (length m / 8) m next tail (record { extent = nowhere; root = 0; nodes = 0; deepest = 0 }) 0
+  pub build-start : (m next tail : List ℕ) → Building (slotsOf m) m next tail (record { extent = nowhere; root = 0; nodes = 0; deepest = 0 }) 0
   build-start m next tail =
       record {
         holds = holds-none m;
         linked = record { links = λ i m. absurd m; tails = λ i m. absurd m };
         extent = no-extent;
-        check = check-start (particles at) (length m / 8);
+        check = check-start (particles at) (slotsOf m);
       }
 
   module _ (slots : ℕ) (m next tail : List ℕ) (q : Quadtree) (p : ℕ) (b : Building slots m next tail q p) (ranged : Ranged at (particles at)) (l : p < particles at) where
     first-empty : p ≡ 0 → q .root ≡ 0
     first-empty z = empty-root (upTo p) m q (b .holds) (ap upTo z)
 
-    pub build-follows : Follows at q p
+    pub build-follows : ComesNext at q p
     build-follows = record { extent = b .extent; empty = first-empty; ranged = λ i k. ranged i (omega arith); read = omega arith }
 
-    pub build-puts : particles at ≤ 4096 → length next ≡ particles at → length tail ≡ particles at → Puts at (upTo p) m next tail q p
+    pub build-puts : particles at ≤ mostParticles → length next ≡ particles at → length tail ≡ particles at → Puts at (upTo p) m next tail q p
     build-puts few links tails =
         record {
           seeks = record { holds = b .holds; rises = rises-upTo p; earlier = in-upTo p; ranged = λ i k. ranged i (omega arith); few = omega arith; read = omega arith };
@@ -176,14 +178,14 @@ module _ (at : List Float) where
           in-tail = omega arith;
         }
 
-    module _ (w a d : List ℕ) (s : length w / 8 ≡ slots) where
+    module _ (w a d : List ℕ) (s : slotsOf w ≡ slots) where
       abbrev wide : Extent
       wide = extentOf (coverFirst at (p + 1))
 
       decided : (k : Check) → moreCheck at (upTo p) w wide p ≡ k → treeCheck at (particles at) slots ≡ (k >>= λ _. left (particles at) slots (p + 1))
       decided k f =
           b .check ∙ turn (particles at) slots p l k
-          (subst (λ (n : ℕ). fitsCheck n p (treeIn at wide (upTo (p + 1))) ≡ k) s (subst (λ (is : List ℕ). fitsCheck (length w / 8) p (treeIn at wide is) ≡ k) (sym (upTo-snoc p)) f))
+          (subst (λ (n : ℕ). fitsCheck n p (treeIn at wide (upTo (p + 1))) ≡ k) s (subst (λ (is : List ℕ). fitsCheck (slotsOf w) p (treeIn at wide is) ≡ k) (sym (upTo-snoc p)) f))
 
       pub build-done : (r : Quadtree) → Placed at (upTo p) w a d wide p (Done r) → Building slots w a d r (p + 1)
       build-done r (f, (h, e, k)) =
@@ -207,7 +209,7 @@ module _ (at : List Float) where
   holds-lays is m next tail q r h k =
       record {
         tree = h .tree;
-        leads = stored-leads m next (q .root) (h .tree) (h .root) (h .stored) (leaves-map (Chain at is) (Chained next) (chain-follows at is next tail k) (h .tree) (holds-chains at is m q h r));
+        leads = stored-leads m next (q .root) (h .tree) (h .root) (h .stored) (leaves-map (Chain at is) (Follows next) (chain-follows at is next tail k) (h .tree) (holds-chains at is m q h r));
         is = h .cells;
         levels = holds-most at is m q h;
         count = h .count;
@@ -221,7 +223,7 @@ module _ (at : List Float) where
   holds-stands n m next tail q r h k e = subst (λ (c : Extent). Lays (treeIn at c (upTo n)) m next q) e (holds-lays (upTo n) m next tail q (ranged-points at (upTo n) n r (in-upTo n)) h k)
 
   -- after the last particle
-  pub build-end : (slots : ℕ) (m next tail : List ℕ) (q : Quadtree) (p : ℕ) → Building slots m next tail q p → Ranged at (particles at) → p ≤ particles at → particles at ≤ p → length m / 8 ≡ slots → Builds at m next (Built.Tree q)
+  pub build-end : (slots : ℕ) (m next tail : List ℕ) (q : Quadtree) (p : ℕ) → Building slots m next tail q p → Ranged at (particles at) → p ≤ particles at → particles at ≤ p → slotsOf m ≡ slots → Builds at m next (Built.Tree q)
   build-end slots m next tail q p b r le ge s =
       let n : ℕ = particles at in
       let z : p ≡ n = omega arith in

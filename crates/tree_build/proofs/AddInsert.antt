@@ -16,6 +16,7 @@ use Rattle.rules.specs.Floor.{floor}
 use Rattle.rules.specs.Cover.{Square, inside, holds, extentOf}
 use Rattle.rules.specs.Outcome.{refused, refusal}
 use Rattle.rules.specs.Tree.{Tree, none, leaf, node, depth, nodes, treeIn, greatestLevel, fitsCheck}
+use Rattle.rules.specs.Calls.{slotWords, slotsOf}
 use Rattle.rules.proofs.CoverTerms.{Grows, done, more, next}
 use Rattle.rules.proofs.CellList.{In}
 use Rattle.rules.proofs.CellInside.{Inside}
@@ -27,16 +28,16 @@ use Rattle.tree_cells.specs.declared.cover.Doubled.{Doubled}
 use Rattle.tree_cells.specs.declared.cover.Covered.{Covered}
 use Rattle.tree_placing.specs.declared.Inserted.{Inserted}
 use Rattle.tree_placing.specs.declared.Inserted.the-variants.{Done, Deep, Full}
-use Rattle.tree_slots.specs.Slots.{word, putInternal, childless}
-use Rattle.tree_slots.specs.Trees.{inCells}
+use Rattle.tree_slots.specs.Slots.{word, putInternal, childless, InSlots}
+use Rattle.tree_slots.specs.Trees.{inCells, lead, LeafIn, InternalIn}
 use Rattle.tree_cells.specs.Cover.{squareOf, Near, DoubledTo}
 use Rattle.tree_leaves.specs.Chain.{Linked}
-use Rattle.tree_build.specs.Depth.{Deepest, withDeepest, Bounded}
-use Rattle.tree_placing.specs.Add.{lead, Holds, Seeks, Puts, Alone, moreCheck, Grown, Placed, Covers, Wraps, Wrapped, Planted}
-use Rattle.tree_cells.proofs.CoverEnds.{doubled-square}
+use Rattle.tree_build.specs.Depth.{Deepest, withDeepest, LevelsBounded}
+use Rattle.tree_placing.specs.Add.{Holds, Seeks, Puts, Alone, moreCheck, Grown, Placed, Covers, Wraps, Wrapped, Planted}
+use Rattle.tree_cells.proofs.CoverNear.{doubled-square}
 use Rattle.tree_cells.proofs.CoverLaws.{Lies, covered-grows}
 use Rattle.tree_cells.proofs.Prefix.{fits-fine, fits-deep, fits-full}
-use Rattle.tree_slots.proofs.Slots.{internal-length, internal-tag, leaf-length, leaf-tag}
+use Rattle.tree_slots.proofs.Slots.{internal-length, internal-tag, leaf-length, leaf-put}
 use Rattle.tree_placing.proofs.SlotsTree.{lead-le}
 use Rattle.tree_placing.proofs.Roots.{root-node, root-leaf}
 use Rattle.tree_placing.proofs.AddChain.{begin-linked}
@@ -49,10 +50,10 @@ pub is-T : (b : Bool) → b ≡ true → T b
 is-T b e = subst T (sym e) tt
 
 -- how deep it goes
-pub bounded : (at : List Float) (is m : List ℕ) (q : Quadtree) (h : Holds at is m q) → 0 < q .root → Bounded m q (h .tree)
+pub bounded : (at : List Float) (is m : List ℕ) (q : Quadtree) (h : Holds at is m q) → 0 < q .root → LevelsBounded m q (h .tree)
 bounded at is m q h l =
     record {
-      goes = record { leads = h .root; stored = h .stored; slots = each-map (λ j. j < q .nodes) (λ j. j * 8 + 8 ≤ length m) (λ j k. omega (arith, h .room)) (h .tree) (h .below); levels = omega (arith, holds-most at is m q h) };
+      goes = record { leads = h .root; stored = h .stored; slots = each-map (λ j. j < q .nodes) (λ j. InSlots j m) (λ j k. omega (arith, h .room)) (h .tree) (h .below); levels = omega (arith, holds-most at is m q h) };
       rooted = l;
       bounds = h .deepest;
       shallow = h .shallow;
@@ -94,9 +95,9 @@ module _ (at : List Float) where
         pub wrap-turn : (b : List ℕ) → b ≡ putInternal m (q .nodes) (set childless (d .quadrant) (q .root)) → Wraps at is b (wrappedIn at (d .extent) q) to p (n - 1)
         wrap-turn b e =
             let (s, t0, t1, t2, t3, z) = root-node m (w .holds .tree) (q .root) (w .holds .root) (w .rooted) (w .internal) (w .holds .stored) in
-            let room : (q .nodes + 1) * 8 ≤ length m = omega (arith, w .room) in
+            let room : (q .nodes + 1) * slotWords ≤ length m = omega (arith, w .room) in
             let x : q .nodes + 1 - 1 ≡ q .nodes = omega arith in
-            let tag : word (putInternal m (q .nodes) (set childless (d .quadrant) (q .root))) (q .nodes) 0 ≡ 0 = internal-tag m (q .nodes) (set childless (d .quadrant) (q .root)) (omega arith) in
+            let tag : InternalIn (putInternal m (q .nodes) (set childless (d .quadrant) (q .root))) (q .nodes) = internal-tag m (q .nodes) (set childless (d .quadrant) (q .root)) (omega arith) in
             let after = next-within at p is range (q .extent) (w .near) lie (rest .0) f in
             record {
               holds = wrap-holds at is m q (w .holds) s t0 t1 t2 t3 z (d .extent) (d .quadrant) wrap-quadrant (f .old) lie room (omega (arith, w .small)) (omega (arith, w .levels)) b e;
@@ -141,18 +142,18 @@ module _ (at : List Float) where
           let a : insertT at p e 65 none ≡ leaf e (p ∷ []) = insert-none at p e 65 in
           sym a ∙ insert-tree at p none e is no-points (subst (λ (t : Tree Extent). depth t ≤ 65) (sym a) (omega arith))
 
-      first-refused : (w : List ℕ) (r : Refusal) → fitsCheck (length w / 8) p (leaf (c .extent) (p ∷ [])) ≡ refused r → moreCheck at is w (c .extent) p ≡ refused r
-      first-refused w r h = subst (λ (t : Tree Extent). fitsCheck (length w / 8) p t ≡ refused r) first-cells h
+      first-refused : (w : List ℕ) (r : Refusal) → fitsCheck (slotsOf w) p (leaf (c .extent) (p ∷ [])) ≡ refused r → moreCheck at is w (c .extent) p ≡ refused r
+      first-refused w r h = subst (λ (t : Tree Extent). fitsCheck (slotsOf w) p t ≡ refused r) first-cells h
 
       pub first-grown : (w : List ℕ) (r : Inserted) → Planted m w (c .extent) p r → Grown at is w (c .extent) p r
       first-grown w (Done r) (fits, (ew, er)) =
-          let (levels, room) = fits-fine (length w / 8) p (leaf (c .extent) (p ∷ [])) .0 fits in
+          let (levels, room) = fits-fine (slotsOf w) p (leaf (c .extent) (p ∷ [])) .0 fits in
           grown at is w (c .extent) p r
           (subst (Holds at (is ++ (p ∷ [])) w) (sym er)
           (record {
             tree = leaf 0 (p ∷ []);
             root = refl;
-            stored = ap (λ (w : List ℕ). word w 0 0) ew ∙ leaf-tag m 0 p (omega (arith, ap length ew, leaf-length m 0 p));
+            stored = subst (λ (w : List ℕ). LeafIn w 0 (p ∷ [])) (sym ew) (leaf-put m 0 p (p ∷ []) (omega (arith, ap length ew, leaf-length m 0 p)) refl);
             cells = first-cells;
             deepest = omega arith;
             shallow = omega arith;
@@ -167,14 +168,14 @@ module _ (at : List Float) where
 
     -- a leaf root
 
-    pub leaf-enlarged : 0 < q .root → (word m (q .root - 1) 0 ≡ 0 → ⊥) → Wrapped at is m (c .extent) (inExtent (c .extent) q)
+    pub leaf-enlarged : 0 < q .root → (InternalIn m (q .root - 1) → ⊥) → Wrapped at is m (c .extent) (inExtent (c .extent) q)
     leaf-enlarged l n =
         let (s, js, z) = root-leaf m (g .holds .tree) (q .root) (g .holds .root) l n (g .holds .stored) in
         record { holds = leaf-regrown at is m q (g .holds) (c .extent) s js z; extent = refl; rooted = l }
 
     -- an internal root; d bounds its deepest level, and is that level where there isn't room for the doublings below it
 
-    module _ (rooted : 0 < q .root) (root-internal : word m (q .root - 1) 0 ≡ 0) (f : Covers at q c p) (d : ℕ) (b : Deepest (c .doublings) (g .holds .tree) d) where
+    module _ (rooted : 0 < q .root) (root-internal : InternalIn m (q .root - 1)) (f : Covers at q c p) (d : ℕ) (b : Deepest (c .doublings) (g .holds .tree) d) where
       abbrev e : Extent
       e = q .extent
 
@@ -211,28 +212,28 @@ module _ (at : List Float) where
 
         some-deep : greatestLevel < d + c .doublings → (w : List ℕ) → Grown at is w v p Deep
         some-deep l w =
-            fits-deep (length w / 8) p (treeIn at v (is ++ (p ∷ [])))
+            fits-deep (slotsOf w) p (treeIn at v (is ++ (p ∷ [])))
             (wrap-deep at p is (in-range is all-range) (c .doublings - 1) e u (f .near) (all-lie is e lies) internal (holds-is at is m q (g .holds)) v (f .covered .reachable) go (omega (arith, levels, b .exact l, doublings-are)))
 
-        some-full : d + c .doublings ≤ greatestLevel → length m / 8 < q .nodes + c .doublings → Grown at is m v p Full
+        some-full : d + c .doublings ≤ greatestLevel → slotsOf m < q .nodes + c .doublings → Grown at is m v p Full
         some-full shallow l =
             let r = wrap-full at p is (in-range is all-range) (c .doublings - 1) e u (f .near) (all-lie is e lies) internal (holds-is at is m q (g .holds)) v (f .covered .reachable) go (omega (arith, levels, b .bounds, doublings-are)) in
-            fits-full (length m / 8) p (treeIn at v (is ++ (p ∷ []))) (r .0) (more (r .1))
+            fits-full (slotsOf m) p (treeIn at v (is ++ (p ∷ []))) (r .0) (more (r .1))
           where
-            more : {k : ℕ} → k ≡ nodes u + suc (c .doublings - 1) + 1 → length m / 8 < k
+            more : {k : ℕ} → k ≡ nodes u + suc (c .doublings - 1) + 1 → slotsOf m < k
             more e = omega (arith, count, doublings-are)
 
       pub enlarge-deep : greatestLevel < d + c .doublings → (w : List ℕ) → Grown at is w v p Deep
       enlarge-deep l = some-deep (omega (arith, b .shallow)) l
 
       module _ (shallow : d + c .doublings ≤ greatestLevel) where
-        pub enlarge-full : length m / 8 < q .nodes + c .doublings → Grown at is m v p Full
+        pub enlarge-full : slotsOf m < q .nodes + c .doublings → Grown at is m v p Full
         enlarge-full l = some-full (some (length m) (g .holds .room) l) shallow l
           where
-            some : (n : ℕ) → q .nodes * 8 ≤ n → n / 8 < q .nodes + c .doublings → 0 < c .doublings
+            some : (n : ℕ) → q .nodes * slotWords ≤ n → n / slotWords < q .nodes + c .doublings → 0 < c .doublings
             some n a b = omega arith
 
-        pub enlarge-asks : q .nodes + c .doublings ≤ length m / 8 → Wraps at is m (withDeepest d q) v p (c .doublings)
+        pub enlarge-asks : q .nodes + c .doublings ≤ slotsOf m → Wraps at is m (withDeepest d q) v p (c .doublings)
         enlarge-asks l =
             let h = g .holds in
             record {

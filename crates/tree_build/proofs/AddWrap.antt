@@ -16,6 +16,7 @@ use Rattle.rules.specs.Floor.{floor}
 use Rattle.rules.specs.Cell.{quadrant, quarter}
 use Rattle.rules.specs.Cover.{Square, inside, oldQuadrant, holds, extentOf}
 use Rattle.rules.specs.Tree.{Tree, none, leaf, node, depth, nodes, treeIn}
+use Rattle.rules.specs.Calls.{slotWords}
 use Rattle.rules.proofs.CoverTerms.{Grows, done, more, next}
 use Rattle.rules.proofs.Cover.{old-quadrant-less}
 use Rattle.rules.proofs.CellList.{In}
@@ -27,14 +28,14 @@ use Rattle.rules.proofs.CellWrap.{onlyAt, wrapT}
 use Rattle.rules.proofs.CellRule.{tree-grown, tree-passes, tree-more, insert-tree, wrapped}
 use Rattle.tree_slots.specs.declared.Quadtree.{Quadtree}
 use Rattle.tree_cells.specs.declared.cover.Doubled.{Doubled}
-use Rattle.tree_slots.specs.Slots.{kids, putInternal, childless}
-use Rattle.tree_slots.specs.Trees.{EachSlot, Apart, Once, inCells}
+use Rattle.tree_slots.specs.Slots.{putInternal, childless}
+use Rattle.tree_slots.specs.Trees.{EachSlot, Apart, Once, inCells, lead}
 use Rattle.tree_cells.specs.Cover.{squareOf, Reachable, Near, DoubledTo}
 use Rattle.tree_leaves.specs.Leaf.{side}
-use Rattle.tree_placing.specs.Add.{lead, Stored, Holds}
-use Rattle.tree_cells.proofs.CoverEnds.{doubled-to, doubled-square}
+use Rattle.tree_placing.specs.Add.{Stored, Holds}
+use Rattle.tree_cells.proofs.CoverNear.{doubled-to, doubled-square}
 use Rattle.tree_cells.proofs.CoverLaws.{Lies, inside-lies, doubled-lies, other-quadrant}
-use Rattle.tree_slots.proofs.Slots.{Small, internal-length, internal-same, internal-tag, internal-kids}
+use Rattle.tree_slots.proofs.Slots.{Small, internal-length, internal-same, node-put}
 use Rattle.tree_slots.proofs.Trees.{each-map, cells-depth}
 use Rattle.tree_placing.proofs.SlotsTree.{each-true, lead-le, over, upd, bare, leads, upd-below, each-over, stored-over, leads-upd, leads-small, depth-upd, nodes-upd, once-over, pair-upd, frame}
 use Rattle.tree_placing.proofs.AddWay.{side-lt}
@@ -90,14 +91,14 @@ module _ (at : List Float) where
   wrappedIn e q = record { extent = e; root = q .nodes + 1; nodes = q .nodes + 1; deepest = q .deepest + 1 }
 
   -- all the points lie in the cell
-  abbrev pub Within : List ℕ → Extent → Type 0
-  Within is e = (i : ℕ) → In i is → Lies e (xAt at i) (yAt at i)
+  abbrev pub AllLie : List ℕ → Extent → Type 0
+  AllLie is e = (i : ℕ) → In i is → Lies e (xAt at i) (yAt at i)
 
-  within-inside : (is : List ℕ) (e : Extent) → Within is e → (i : ℕ) → In i is → Inside at e i
+  within-inside : (is : List ℕ) (e : Extent) → AllLie is e → (i : ℕ) → In i is → Inside at e i
   within-inside is e w i m = let l = w i m in record { x = l .across; y = l .along }
 
   module _ (is m : List ℕ) (q : Quadtree) (h : Holds at is m q) (s : ℕ) (t0 t1 t2 t3 : Tree ℕ) (z : h .tree ≡ node s t0 t1 t2 t3)
-      (e : Extent) (i : ℕ) (l : i < 4) (old : quarter i e ≡ q .extent) (w : Within is (q .extent)) (room : (q .nodes + 1) * 8 ≤ length m) (small : q .nodes + 1 < 2 ^ 32) (levels : q .deepest + 1 ≤ 64) where
+      (e : Extent) (i : ℕ) (l : i < 4) (old : quarter i e ≡ q .extent) (w : AllLie is (q .extent)) (room : (q .nodes + 1) * slotWords ≤ length m) (small : q .nodes + 1 < 2 ^ 32) (levels : q .deepest + 1 ≤ 64) where
     abbrev wrap-tree : Tree ℕ
     wrap-tree = over (q .nodes) (upd bare i (h .tree))
 
@@ -132,7 +133,7 @@ module _ (at : List Float) where
           root = refl;
           stored =
               subst (λ (b : List ℕ). Stored b wrap-tree) (sym f)
-              (stored-over v x k (internal-tag m x ks (omega arith)) (ap (λ (y : List ℕ). kids (putInternal m x y) x) numbers ∙ internal-kids m x (leads k) (omega arith) fits)
+              (stored-over v x k (node-put m x ks (k 0) (k 1) (k 2) (k 3) (omega arith) fits numbers)
               (upd-below (λ r u. Stored v u) bare i (h .tree) (frame m v (λ j. j < x) (λ j y. internal-same m x ks j (omega arith)) (h .tree) (h .below) (h .stored)) (λ r l n. tt)));
           cells = wrap-is;
           deepest = omega (arith, wrap-depth, h .deepest);
@@ -195,7 +196,7 @@ module _ (at : List Float) where
       levels : depth tree ≡ depth t + n
       count : nodes tree ≡ nodes t + n
 
-    module _ (e : Extent) (near : Near e x y) (w : Within is e) (out : inside (squareOf e) (floor x) (floor y) ≡ false) where
+    module _ (e : Extent) (near : Near e x y) (w : AllLie is e) (out : inside (squareOf e) (floor x) (floor y) ≡ false) where
       abbrev answer : Doubled
       answer = record { extent = extentOf (holds (next (squareOf e) (floor x) (floor y))); quadrant = oldQuadrant (squareOf e) (floor x) (floor y) }
 
@@ -205,7 +206,7 @@ module _ (at : List Float) where
       pub next-near : {r : Doubled} → DoubledTo e (floor x) (floor y) r → Near (r .extent) x y
       next-near d = record { reachable = d .reachable; across = near .across; along = near .along }
 
-      pub next-within : {r : Doubled} → DoubledTo e (floor x) (floor y) r → Within is (r .extent)
+      pub next-within : {r : Doubled} → DoubledTo e (floor x) (floor y) r → AllLie is (r .extent)
       next-within d i m = doubled-lies near out d (record { reachable = near .reachable; across = range i m .0; along = range i m .1 }) (w i m)
 
       pub next-less : {r : Doubled} → DoubledTo e (floor x) (floor y) r → r .quadrant < 4
@@ -219,7 +220,7 @@ module _ (at : List Float) where
       next-hole : (t : Tree Extent) → inside (squareOf (answer .extent)) (floor x) (floor y) ≡ true → childAt (side at p (answer .extent)) (wrapT (answer .extent) (answer .quadrant) t) ≡ none
       next-hole t i = wrap-hole (answer .extent) (answer .quadrant) t (side at p (answer .extent)) (side-lt at p (answer .extent)) (other-quadrant near out doubles (inside-lies (next-near doubles) i))
 
-    wraps : {n : ℕ} {s t : Square} → Grows (floor x) (floor y) n s t → (e : Extent) (u : Tree Extent) → squareOf e ≡ s → Near e x y → Within is e → Internal u → Is at e u is → (n ≡ 0 → childAt (side at p e) u ≡ none) → Wraps u n t
+    wraps : {n : ℕ} {s t : Square} → Grows (floor x) (floor y) n s t → (e : Extent) (u : Tree Extent) → squareOf e ≡ s → Near e x y → AllLie is e → Internal u → Is at e u is → (n ≡ 0 → childAt (side at p e) u ≡ none) → Wraps u n t
     wraps (done i) e u z near w h g f =
         record { extent = e; tree = u; square = z; reachable = near .reachable; internal = h; rule = g; hole = f refl; levels = omega arith; count = omega arith }
     wraps (more {n = n} {t = t} o go) e u z near w h g f =
@@ -256,7 +257,7 @@ module _ (at : List Float) where
           omega (arith, node-nodes at p e d 64 t0 t1 t2 t3, ap nodes new, ap nodes f),
         )
 
-    module _ (n : ℕ) (e : Extent) (u : Tree Extent) (near : Near e x y) (w : Within is e) (h : Internal u) (g : Is at e u is) (to : Extent) (re : Reachable to) (go : Grows (floor x) (floor y) (suc n) (squareOf e) (squareOf to)) where
+    module _ (n : ℕ) (e : Extent) (u : Tree Extent) (near : Near e x y) (w : AllLie is e) (h : Internal u) (g : Is at e u is) (to : Extent) (re : Reachable to) (go : Grows (floor x) (floor y) (suc n) (squareOf e) (squareOf to)) where
       all-wraps : Wraps u (suc n) (squareOf to)
       all-wraps = wraps go e u refl near w h g (λ z. absurd (omega arith))
 

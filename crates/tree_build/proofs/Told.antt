@@ -1,13 +1,14 @@
 -- What building a tree of n places answers, in the words of the rules. Assumes nothing.
 use mathlib.Core.Path.{_≡_, subst}
 use mathlib.Core.List.{List}
-use Prim.Native.Nat.{ℕ, _*_, _/_}
+use Prim.Native.Nat.{ℕ, _*_}
 use native.Mathlib.Omega.{arith}
 use lib.ListN.{length}
 use lib.Ieee.{Float}
 use Rattle.rules.specs.declared.Refusal.{Refusal}
 use Rattle.rules.specs.Outcome.{refused, fine}
 use Rattle.rules.specs.Tree.{treeCheck}
+use Rattle.rules.specs.Calls.{slotsOf}
 use Rattle.tree_slots.specs.declared.Quadtree.{Quadtree}
 use Rattle.tree_build.specs.declared.build.Built as Built
 use Rattle.tree_build.specs.declared.build.Built.{Built}
@@ -16,7 +17,7 @@ use Rattle.tree_slots.specs.Trees.{Stands}
 use Rattle.tree_build.specs.Build.{particles, Builds}
 
 -- b is what building answered, and m the slots, as many as `slots`
-module _ (at : List Float) (n : ℕ) (m next : List ℕ) (slots : ℕ) (b : Built) (p : length at ≡ n * 2) (k : length m / 8 ≡ slots) (h : Builds at m next b) where
+module _ (at : List Float) (n : ℕ) (m next : List ℕ) (slots : ℕ) (b : Built) (p : length at ≡ n * 2) (k : slotsOf m ≡ slots) (h : Builds at m next b) where
   count-is : particles at ≡ n
   count-is = omega arith
 

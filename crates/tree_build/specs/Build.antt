@@ -8,6 +8,7 @@ use Rattle.rules.specs.Cover.{coverFirst, extentOf}
 use Rattle.rules.specs.Outcome.{Outcome, done, refused, DoneUnless}
 use Rattle.rules.specs.Refusal.{mostParticles}
 use Rattle.rules.specs.Tree.{treeCheck}
+use Rattle.rules.specs.Calls.{slotsOf}
 use Rattle.tree_slots.specs.declared.Quadtree.{Quadtree}
 use Rattle.tree_cells.specs.declared.cover.Covered.{Covered}
 use Rattle.tree_build.specs.declared.build.Built.{Built}
@@ -34,10 +35,10 @@ buildOutcome (Refused r) = refused r
 -- It is refused as the rules refuse it: the earliest particle whose prefix breaks 6 or 7, 6 if both; otherwise the slots hold the tree of all particles, in the extent reached by covering them in order.
 abbrev pub Builds : List Float → List ℕ → List ℕ → Built → Type 0
 Builds at m next b =
-    DoneUnless (treeCheck at (particles at) (length m / 8)) (λ q. Stands at (particles at) m next q × (q .extent ≡ extentOf (coverFirst at (particles at)))) (buildOutcome b)
+    DoneUnless (treeCheck at (particles at) (slotsOf m)) (λ q. Stands at (particles at) m next q × (q .extent ≡ extentOf (coverFirst at (particles at)))) (buildOutcome b)
 
 -- a tree in the extent of the particles before p, with a root if there are any
-pub record Follows (at : List Float) (q : Quadtree) (p : ℕ) : Type 0 where
+pub record ComesNext (at : List Float) (q : Quadtree) (p : ℕ) : Type 0 where
   pub extent : q .extent ≡ extentOf (coverFirst at p)
   pub empty : p ≡ 0 → q .root ≡ 0
   pub ranged : Ranged at (p + 1)

@@ -4,13 +4,13 @@ ghost use Prim.Native.Nat.{ℕ, _<_};
 ghost use Rattle.rules.specs.Refusal.{mostParticles};
 ghost use Rattle.tree_placing.specs.Add.{Seeks, Placed, Covers, Wraps, Wrapped, Enlarged, Planted, Inserts};
 use crate::depth;
+use rules::Extent;
 use tree_cells::cover;
 use tree_cells::cover::Covered;
 use tree_leaves::chain;
 use tree_leaves::point;
 use tree_placing::Inserted;
 use tree_placing::place;
-use rules::Extent;
 use tree_slots::Quadtree;
 use tree_slots::store;
 

@@ -3,14 +3,14 @@ ghost use mathlib.Core.List.{List};
 ghost use Prim.Native.Nat.{ℕ, _+_};
 ghost use Rattle.rules.specs.Cover.{coverFirst, extentOf};
 ghost use Rattle.tree_placing.specs.Add.{Puts, Placed};
-ghost use Rattle.tree_build.specs.Build.{Lent, Builds, Follows, Extends};
+ghost use Rattle.tree_build.specs.Build.{Lent, Builds, ComesNext, Extends};
 use crate::add;
+use rules::Extent;
+use rules::Refusal;
 use tree_cells::cover;
 use tree_cells::cover::Covered;
 use tree_leaves::point;
 use tree_placing::Inserted;
-use rules::Extent;
-use rules::Refusal;
 use tree_slots::Quadtree;
 
 // The tree, or refusal 6 or 7 with the particle's number as its place: `buildOutcome`.
@@ -21,7 +21,7 @@ pub enum Built {
 
 // The extent with p, and how many doublings lead to it.
 fn extend(at: &[f64], q: Quadtree, p: usize) -> Covered
-    requires { ⌜ Follows (now at) q p ⌝ }
+    requires { ⌜ ComesNext (now at) q p ⌝ }
     ensures { λ r. ⌜ Extends (now (at .entry)) q p r ⌝ }
 {
     let x = point::x_at(at, p);
@@ -44,7 +44,7 @@ pub fn add_next(
     q: Quadtree,
     p: usize,
 ) -> Inserted
-    requires { ⌜ ((is : List ℕ) × Follows (now at) q p × Puts (now at) is (now m) (now next) (now tail) q p) ⌝ }
+    requires { ⌜ ((is : List ℕ) × ComesNext (now at) q p × Puts (now at) is (now m) (now next) (now tail) q p) ⌝ }
     ensures { λ r. ⌜ ((is : List ℕ) → Puts (now (at .entry)) is (now (m .entry)) (now (next .entry)) (now (tail .entry)) q p
         → Placed (now (at .entry)) is (now (m .exit)) (now (next .exit)) (now (tail .exit)) (extentOf (coverFirst (now (at .entry)) (p + 1))) p r) ⌝ }
 {
@@ -77,16 +77,10 @@ pub fn build(at: &[f64], next: &mut [u32], tail: &mut [u32], m: &mut [u64]) -> B
                 q = more;
             }
             Inserted::Deep => {
-                return Built::Refused(Refusal {
-                    number: 6,
-                    place: p as u64,
-                });
+                return Built::Refused(Refusal::at(6, p as u64));
             }
             Inserted::Full => {
-                return Built::Refused(Refusal {
-                    number: 7,
-                    place: p as u64,
-                });
+                return Built::Refused(Refusal::at(7, p as u64));
             }
         }
         p += 1;

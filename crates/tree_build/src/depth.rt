@@ -2,7 +2,7 @@
 ghost use mathlib.Core.Path.{_≡_};
 ghost use Prim.Native.Nat.{ℕ, _<_};
 ghost use Rattle.rules.specs.Tree.{Tree, depth};
-ghost use Rattle.tree_build.specs.Depth.{Goes, Deepest, Bounded};
+ghost use Rattle.tree_build.specs.Depth.{Goes, Deepest, LevelsBounded};
 use tree_placing::greater;
 use tree_slots::Quadtree;
 use tree_slots::store;
@@ -32,8 +32,8 @@ fn levels(m: &[u64], p: u32, level: usize) -> usize
 
 // The deepest level, or a bound of it that leaves room for w levels more.
 pub fn deepest(m: &[u64], q: Quadtree, w: usize) -> usize
-    requires { ⌜ ((t : Tree ℕ) × Bounded (now m) q t × (w < 64)) ⌝ }
-    ensures { λ r. ⌜ ((t : Tree ℕ) → Bounded (now (m .entry)) q t → Deepest w t r) ⌝ }
+    requires { ⌜ ((t : Tree ℕ) × LevelsBounded (now m) q t × (w < 64)) ⌝ }
+    ensures { λ r. ⌜ ((t : Tree ℕ) → LevelsBounded (now (m .entry)) q t → Deepest w t r) ⌝ }
 {
     let bound = q.deepest;
     if bound + w <= Quadtree::GREATEST_LEVEL {

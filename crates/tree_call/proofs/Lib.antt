@@ -1,2 +1,2 @@
 pub mod TreeChecks
-pub mod TreeEnds
+pub mod TreeCalled

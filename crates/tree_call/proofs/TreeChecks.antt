@@ -10,6 +10,7 @@ use Rattle.rules.specs.declared.Refusal.{Refusal}
 use Rattle.rules.specs.Outcome.{Outcome, done, refused, Check, fine, require, _then_, _>>=_, refusalOf}
 use Rattle.rules.specs.Refusal.{countCheck, lengthsCheck, mostParticles}
 use Rattle.rules.specs.Sheet.{wholeRecords, recordsCheck, countOf, particlesOf}
+use Rattle.rules.specs.Tree.{rowNumbers}
 use Rattle.rules.specs.Calls.{slotsOf, TreeInput, treeLengths, treeOfSheet, treeResult}
 use Rattle.rules.proofs.RefusalLaws.{Refuses, _then·_}
 use Rattle.rules.proofs.RefusalNumbers.{Early, count-early, lengths-early, length-early, records-early}
@@ -49,7 +50,7 @@ module _ (most : ℕ) (l : TreeInput) where
   records = recordsCheck (particlesOf (l .sheet))
 
   early : Refuses Early lengths
-  early = count-early most n then· lengths-early (eqb (length (l .rows)) (slotsOf (l .work) * 4) && eqb (length (l .chains)) n)
+  early = count-early most n then· lengths-early (eqb (length (l .rows)) (slotsOf (l .work) * rowNumbers) && eqb (length (l .chains)) n)
 
   stages : treeResult most l ≡ (wholeRecords (l .sheet) >>= λ _. lengths >>= λ _. records >>= λ _. built l)
   unfolding treeResult treeOfSheet
@@ -64,7 +65,7 @@ module _ (most : ℕ) (l : TreeInput) where
     a = Checks.passed (wholeRecords (l .sheet)) r (length-early (l .sheet)) e z
 
     -- the lengths agree or not
-    module _ (agreed : Bool) (o : agreed ≡ (eqb (length (l .rows)) (slotsOf (l .work) * 4) && eqb (length (l .chains)) n)) (s : Refusal)
+    module _ (agreed : Bool) (o : agreed ≡ (eqb (length (l .rows)) (slotsOf (l .work) * rowNumbers) && eqb (length (l .chains)) n)) (s : Refusal)
         (k : s ≡ refusalOf (countCheck most n then lengthsCheck agreed)) where
       f : s ≡ refusalOf lengths
       f = k ∙ ap (λ (b : Bool). refusalOf (countCheck most n then lengthsCheck b)) o
@@ -89,5 +90,5 @@ module _ (most : ℕ) (l : TreeInput) where
 
           pub passed : most ≤ mostParticles → Passed l
           passed m =
-              let h = tests (leb n most) (eqb (length (l .rows)) (slotsOf (l .work) * 4)) (eqb (length (l .chains)) n) b in
+              let h = tests (leb n most) (eqb (length (l .rows)) (slotsOf (l .work) * rowNumbers)) (eqb (length (l .chains)) n) b in
               record { few = omega (arith, leb-true n most (h .0)); rows = eqb-true _ _ (h .1); chains = eqb-true _ _ (h .2); sound = c }

@@ -1,18 +1,16 @@
 -- The tree call: what it is lent, and what its parts ask and leave. Definitions only.
 use mathlib.Core.Path.{_≡_}
-use mathlib.Core.Bool.{cond}
 use mathlib.Core.List.{List}
 use Prim.Native.Nat.{ℕ, _*_, _≤_}
 use lib.ListN.{length}
 use Rattle.rules.specs.declared.Extent.{Extent}
 use Rattle.rules.specs.declared.Refusal.{Refusal}
 use Rattle.rules.specs.declared.TreeAnswer.{TreeAnswer}
-use Rattle.rules.specs.Plain.{zeros}
-use Rattle.rules.specs.Outcome.{Outcome, done, refused, fine, _>>=_, refusalOf, ifDone, zeroesWork, workAfter}
+use Rattle.rules.specs.Outcome.{Outcome, done, refused, fine, _>>=_, refusalOf, ifDone, workAfter}
 use Rattle.rules.specs.Refusal.{mostParticles}
 use Rattle.rules.specs.Sheet.{countOf, particlesOf, recordsCheck, placesOf}
 use Rattle.rules.specs.Cell.{nowhere}
-use Rattle.rules.specs.Tree.{Tree, nodes, treeOf, treeCheck}
+use Rattle.rules.specs.Tree.{Tree, nodes, rowNumbers, treeOf, treeCheck}
 use Rattle.rules.specs.Calls.{slotsOf, rowsIn, chainsIn, TreeInput, treeAnswer, rowsAfter, chainsAfter, treeWorkAfter}
 use Rattle.tree_rows.specs.List.{Whole}
 use Rattle.tree_build.specs.declared.build.Built.{Built}
@@ -35,14 +33,14 @@ refusedTree r = record { refusal = r; nodes = 0; extent = nowhere }
 
 -- the work slots after a refusal
 abbrev pub refusedWork : Refusal → List ℕ → List ℕ
-refusedWork r work = cond (zeroesWork r) (zeros work) work
+refusedWork r work = workAfter {A = Tree Extent} (refused r) work
 
 -- ---- what building came to, of a sheet or of edits
 
 -- a tree, which stands in the slots and can be listed, or a refusal
 abbrev pub Comes : Outcome (Tree Extent) → Built → List ℕ → List ℕ → ℕ → ℕ → Type 0
 Comes o (Built.Tree q) m next rows chains = (t : Tree Extent) × (o ≡ done t) × Whole t m next q rows chains
-Comes o (Built.Refused r) m next rows chains = (o ≡ refused r) × (r .number ≡ 0 → ⊥)
+Comes o (Built.Refused r) m next rows chains = o ≡ refused r
 
 -- the extent of what was built
 abbrev pub extentBuilt : Built → Extent
@@ -61,7 +59,7 @@ pub record Answers (o : Outcome (Tree Extent)) (b : Built) (r : TreeAnswer) (row
 -- past its checks of the count, of the lengths and of the records
 pub record Passed (l : TreeInput) : Type 0 where
   pub few : countOf (l .sheet) ≤ mostParticles
-  pub rows : length (l .rows) ≡ slotsOf (l .work) * 4
+  pub rows : length (l .rows) ≡ slotsOf (l .work) * rowNumbers
   pub chains : length (l .chains) ≡ countOf (l .sheet)
   pub sound : recordsCheck (particlesOf (l .sheet)) ≡ fine
 

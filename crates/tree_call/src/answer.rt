@@ -1,22 +1,20 @@
 // What a call that builds a tree answers, and what it leaves of the lent lists.
-use tree_build::build::Built;
-use tree_rows::list;
 use rules::Extent;
 use rules::Refusal;
 use rules::TreeAnswer;
+use tree_build::build::Built;
+use tree_rows::list;
 use tree_slots::store::clear;
 ghost use mathlib.Core.Path.{_≡_};
-ghost use mathlib.Core.Bool.{_&&_, _||_};
-ghost use lib.Dec.{leb, eqb};
 ghost use lib.ListN.{length};
 ghost use Rattle.rules.specs.declared.Extent.{Extent};
-ghost use Rattle.rules.specs.Outcome.{Outcome};
+ghost use Rattle.rules.specs.Outcome.{Outcome, refusal, onTheWay};
 ghost use Rattle.rules.specs.Tree.{Tree};
 ghost use Rattle.tree_call.specs.Tree.{refusedTree, refusedWork, Comes, Answers};
 
-// Whether a refusal clears the work slots: 6 to 9 and 15.
+// Whether a refusal clears the work slots.
 fn met_while_working(number: u64) -> bool
-    ensures { λ r. ⌜ r ≡ (leb 6 number && leb number 9 || eqb number 15) ⌝ }
+    ensures { λ r. ⌜ r ≡ onTheWay (refusal number 0) ⌝ }
 {
     if number == 15 {
         return true;
@@ -26,7 +24,6 @@ fn met_while_working(number: u64) -> bool
 
 // Counts zero and no extent; refusals that aren't met while working leave the work slots as they were.
 pub fn refuse(work: &mut [u64], refusal: Refusal) -> TreeAnswer
-    requires { ⌜ (refusal .number ≡ 0 → ⊥) ⌝ }
     ensures { λ r. ⌜ (r ≡ refusedTree refusal) × (now (work .exit) ≡ refusedWork refusal (now (work .entry))) ⌝ }
 {
     let number = refusal.number;
@@ -67,10 +64,7 @@ pub fn answer(
             list(q, work, next, rows, chains);
             clear(work);
             TreeAnswer {
-                refusal: Refusal {
-                    number: 0,
-                    place: 0,
-                },
+                refusal: Refusal::none(),
                 nodes: nodes as u64,
                 extent,
             }

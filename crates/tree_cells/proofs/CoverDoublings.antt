@@ -16,7 +16,7 @@ use Rattle.rules.proofs.CoverSquare.{grows-rest}
 use Rattle.rules.proofs.Cover.{covering, covered-already, cover-next}
 use Rattle.tree_cells.specs.declared.cover.Doubled.{Doubled}
 use Rattle.tree_cells.specs.Cover.{squareOf, Reachable, Near, doublings, DoubledTo, CoveredTo}
-use Rattle.tree_cells.proofs.CoverEnds.{near-x, near-y, doubled-square}
+use Rattle.tree_cells.proofs.CoverNear.{near-x, near-y, doubled-square}
 
 module _ (x y : ℤ) where
   none-more : (k : ℕ) (s : Square) → inside s x y ≡ true → doublings k x y s ≡ 0

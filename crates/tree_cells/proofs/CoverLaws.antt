@@ -19,13 +19,13 @@ use Rattle.rules.proofs.CoverCount.{le-more}
 use Rattle.rules.proofs.CoverTerms.{Grows, Covering, AllNear, floors}
 use Rattle.rules.proofs.CoverSquare.{four-true}
 use Rattle.rules.proofs.CoverReach.{next-contains}
-use Rattle.rules.proofs.Cover.{old-quadrant-less, contains-inside, held-sided, held-ends, covering, cover-all, cover-inside, cover-append, reached-some}
+use Rattle.rules.proofs.Cover.{old-quadrant-less, contains-inside, held-sided, held-near, covering, cover-all, cover-inside, cover-append, reached-some}
 use Rattle.number.proofs.Integers.{le-int}
 use Rattle.number.proofs.Flooring.{floor-le, floor-lt, floor-within, within-finite}
 use Rattle.tree_cells.specs.declared.cover.Doubled.{Doubled}
 use Rattle.tree_cells.specs.declared.cover.Covered as Answer
 use Rattle.tree_cells.specs.Cover.{squareOf, Reachable, Near, DoubledTo, CoveredTo}
-use Rattle.tree_cells.proofs.CoverEnds.{x0-is, y0-is, x1-is, y1-is, x0-has, y0-has, x1-has, y1-has, near-x, near-y, square-back, reachable, doubled-square}
+use Rattle.tree_cells.proofs.CoverNear.{x0-is, y0-is, x1-is, y1-is, x0-has, y0-has, x1-has, y1-has, near-x, near-y, square-back, reachable, doubled-square}
 use Rattle.tree_cells.proofs.CoverDoublings.{grows-count}
 use Rattle.tree_cells.proofs.CoverMiddles.{Tame, whole-tame}
 use Rattle.tree_cells.proofs.CoverCells.{TameCell, tame-finite}
@@ -36,10 +36,10 @@ pub use Rattle.tree_cells.proofs.CoverCells.{Lies, lies-quadrant, lies-
 -- The ends lie within 2 ^ 44 of zero, and in order.
 pub reachable-tame : {e : Extent} → Reachable e → TameCell e
 reachable-tame {e} h = record {
-  x0 = tame (squareOf e .x0) (x0-is h) (held-ends (h .held) .x0);
-  y0 = tame (squareOf e .y0) (y0-is h) (held-ends (h .held) .y0);
-  x1 = tame (squareOf e .x1) (x1-is h) (held-ends (h .held) .x1);
-  y1 = tame (squareOf e .y1) (y1-is h) (held-ends (h .held) .y1);
+  x0 = tame (squareOf e .x0) (x0-is h) (held-near (h .held) .x0);
+  y0 = tame (squareOf e .y0) (y0-is h) (held-near (h .held) .y0);
+  x1 = tame (squareOf e .x1) (x1-is h) (held-near (h .held) .x1);
+  y1 = tame (squareOf e .y1) (y1-is h) (held-near (h .held) .y1);
   wide = le-int (e .x0) (e .x1) (squareOf e .x0) (squareOf e .x1) (x0-has h) (x1-has h) ∙ ap (leZ (squareOf e .x0)) (held-sided (h .held) .wide) ∙ le-more (squareOf e .x0) (2 ^ (h .held .log));
   tall = le-int (e .y0) (e .y1) (squareOf e .y0) (squareOf e .y1) (y0-has h) (y1-has h) ∙ ap (leZ (squareOf e .y0)) (held-sided (h .held) .tall) ∙ le-more (squareOf e .y0) (2 ^ (h .held .log));
 }

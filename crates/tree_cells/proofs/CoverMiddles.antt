@@ -22,7 +22,7 @@ use Rattle.number.proofs.Order.{signed, le-at, two-up, pow-le-back, unitsZ, Fin
 use Rattle.number.proofs.Integers.{HasInt, negative, le-int}
 use Rattle.number.proofs.Flooring.{int-le-x, x-le-int, negatives}
 use Rattle.number.proofs.Tests.{yes}
-use Rattle.tree_cells.proofs.CoverEnds.{whole-has}
+use Rattle.tree_cells.proofs.CoverNear.{whole-has}
 use Rattle.tree_cells.proofs.CoverRounding.{above-twice, below-twice, half-is, half-pos, half-mono}
 
 -- ---- the half of the double is the number itself

@@ -1,5 +1,5 @@
 pub mod Quadrant
-pub mod CoverEnds
+pub mod CoverNear
 pub mod CoverDoublings
 mod CoverRounding
 pub mod CoverMiddles

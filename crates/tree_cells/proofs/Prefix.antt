@@ -31,7 +31,7 @@ use Rattle.rules.proofs.Cover.{old-quadrant-less, covering, cover-append}
 use Rattle.rules.proofs.CellWrap.{all-quarter}
 use Rattle.tree_cells.specs.declared.cover.Doubled.{Doubled}
 use Rattle.tree_cells.specs.Cover.{squareOf, Reachable, Near, DoubledTo}
-use Rattle.tree_cells.proofs.CoverEnds.{near-x, near-y, square-back, reachable, doubled-to, doubled-square}
+use Rattle.tree_cells.proofs.CoverNear.{near-x, near-y, square-back, reachable, doubled-to, doubled-square}
 use Rattle.tree_cells.proofs.CoverCells.{Lies}
 use Rattle.tree_cells.proofs.CoverLaws.{doubled-lies, in-range, list-reachable, list-lies}
 
@@ -147,10 +147,10 @@ module _ (at : List Float) where
     abbrev y : Float
     y = yAt at p
 
-    abbrev Within : Extent → Type 0
-    Within e = (i : ℕ) → In i is → Lies e (xAt at i) (yAt at i)
+    abbrev AllLie : Extent → Type 0
+    AllLie e = (i : ℕ) → In i is → Lies e (xAt at i) (yAt at i)
 
-    module _ (e : Extent) (near : Near e x y) (w : Within e) (out : inside (squareOf e) (floor x) (floor y) ≡ false) where
+    module _ (e : Extent) (near : Near e x y) (w : AllLie e) (out : inside (squareOf e) (floor x) (floor y) ≡ false) where
       abbrev answer : Doubled
       answer = record { extent = extentOf (holds (next (squareOf e) (floor x) (floor y))); quadrant = oldQuadrant (squareOf e) (floor x) (floor y) }
 
@@ -160,7 +160,7 @@ module _ (at : List Float) where
       next-near : Near (answer .extent) x y
       next-near = record { reachable = doubles .reachable; across = near .across; along = near .along }
 
-      next-within : Within (answer .extent)
+      next-within : AllLie (answer .extent)
       next-within i m = doubled-lies near out doubles (record { reachable = near .reachable; across = range i m .0; along = range i m .1 }) (w i m)
 
       next-square : squareOf (answer .extent) ≡ next (squareOf e) (floor x) (floor y)
@@ -169,7 +169,7 @@ module _ (at : List Float) where
       next-fits : depth (treeIn at (answer .extent) is) ≤ 65 → NoLarger (treeIn at e is) (treeIn at (answer .extent) is)
       next-fits d = quarter-fits (answer .extent) e (answer .quadrant) is (old-quadrant-less (squareOf e) (floor x) (floor y)) (doubles .old) (λ i m. let l = w i m in record { x = l .across; y = l .along }) d
 
-    grows-fits : {n : ℕ} {s t : Square} → Grows (floor x) (floor y) n s t → (e to : Extent) → squareOf e ≡ s → squareOf to ≡ t → Near e x y → Reachable to → Within e → depth (treeIn at to is) ≤ 65 → NoLarger (treeIn at e is) (treeIn at to is)
+    grows-fits : {n : ℕ} {s t : Square} → Grows (floor x) (floor y) n s t → (e to : Extent) → squareOf e ≡ s → squareOf to ≡ t → Near e x y → Reachable to → AllLie e → depth (treeIn at to is) ≤ 65 → NoLarger (treeIn at e is) (treeIn at to is)
     grows-fits (done i) e to z u near re w d =
         let same : e ≡ to = near .reachable .is ∙ ap (λ (s : Square). extentOf (holds s)) (z ∙ sym u) ∙ sym (re .is) in
         subst (λ (c : Extent). NoLarger (treeIn at e is) (treeIn at c is)) same (larger-same (treeIn at e is))

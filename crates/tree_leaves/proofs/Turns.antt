@@ -15,7 +15,7 @@ use Rattle.tree_cells.specs.declared.indexer.Descent.{Descent}
 use Rattle.tree_cells.specs.Indexer.{indexer, cellOf, Descends}
 use Rattle.tree_cells.proofs.Quadrant.{quadrant-lt}
 use Rattle.tree_slots.specs.Slots.{putInternal, childless}
-use Rattle.tree_leaves.specs.Leaf.{side, gap, forked, parted}
+use Rattle.tree_leaves.specs.Leaf.{side, sharedLevels, forked, parted}
 
 -- an indexer of a cell
 pub indexed : (i : Indexer) (c : Extent) → i ≡ indexer c → i ≡ indexer (cellOf i)
@@ -43,19 +43,19 @@ module _ (at : List Float) (p : ℕ) where
     one : n - l ≡ suc (n - (l + 1))
     one = omega arith
 
-    pub meet-more : (k : ℕ) → k ≡ side at p c → k ≡ quadrant c (xAt at f) (yAt at f) → gap at p (n - l) c f ≡ suc (gap at p (n - (l + 1)) (quarter k c) f)
+    pub shared-more : (k : ℕ) → k ≡ side at p c → k ≡ quadrant c (xAt at f) (yAt at f) → sharedLevels at p (n - l) c f ≡ suc (sharedLevels at p (n - (l + 1)) (quarter k c) f)
     unfolding inQuarter
-    meet-more k e g = rw (one, e, eq-eqb (side at p c) (quadrant c (xAt at f) (yAt at f)) (sym e ∙ g))
+    shared-more k e g = rw (one, e, eq-eqb (side at p c) (quadrant c (xAt at f) (yAt at f)) (sym e ∙ g))
 
-    pub meet-stop : (k j : ℕ) → k ≡ side at p c → j ≡ quadrant c (xAt at f) (yAt at f) → (k ≡ j → ⊥) → gap at p (n - l) c f ≡ 0
+    pub shared-stop : (k j : ℕ) → k ≡ side at p c → j ≡ quadrant c (xAt at f) (yAt at f) → (k ≡ j → ⊥) → sharedLevels at p (n - l) c f ≡ 0
     unfolding inQuarter
-    meet-stop k j e g n = rw (one, ne-eqb (side at p c) (quadrant c (xAt at f) (yAt at f)) (λ z. n (e ∙ z ∙ sym g)))
+    shared-stop k j e g n = rw (one, ne-eqb (side at p c) (quadrant c (xAt at f) (yAt at f)) (λ z. n (e ∙ z ∙ sym g)))
 
-  pub meet-start : (n f : ℕ) (c : Extent) → gap at p n c f ≡ 0 + gap at p (n - 0) c f
-  meet-start n f c = let z : n ≡ n - 0 = omega arith in omega (arith, ap (λ (k : ℕ). gap at p k c f) z)
+  pub shared-start : (n f : ℕ) (c : Extent) → sharedLevels at p n c f ≡ 0 + sharedLevels at p (n - 0) c f
+  shared-start n f c = let z : n ≡ n - 0 = omega arith in omega (arith, ap (λ (k : ℕ). sharedLevels at p k c f) z)
 
-  pub meet-end : (n l f : ℕ) (c : Extent) → n ≤ l → gap at p (n - l) c f ≡ 0
-  meet-end n l f c h = let z : n - l ≡ 0 = omega arith in rw z
+  pub shared-end : (n l f : ℕ) (c : Extent) → n ≤ l → sharedLevels at p (n - l) c f ≡ 0
+  shared-end n l f c h = let z : n - l ≡ 0 = omega arith in rw z
 
   -- ---- a split
 

@@ -20,7 +20,7 @@ pub record Linked (at : List Float) (is next tail : List ℕ) : Type 0 where
   pub tails : (i : ℕ) → In i is → getD tail (first (atPoint at is i)) 0 ≡ lastOr 0 (atPoint at is i)
 
 -- the chain of f, and a particle p to join it
-pub record Chains (next tail : List ℕ) (f p : ℕ) : Type 0 where
+pub record Joinable (next tail : List ℕ) (f p : ℕ) : Type 0 where
   pub first : f < length tail
   pub last : getD tail f 0 < length next
   pub few : p < mostParticles

@@ -1,7 +1,7 @@
 -- How a leaf comes into the slots: hung under a node, or put beside the leaf that stands there. Definitions only.
 use mathlib.Core.List.{List}
 use Prim.Native.Nat.{ℕ, zero, suc, _+_, _*_, _^_, _≤_, _<_}
-use lib.ListN.{set}
+use lib.ListN.{length, set}
 use lib.Ieee.{Float}
 use Rattle.rules.specs.declared.Extent.{Extent}
 use Rattle.rules.specs.Plain.{branch}
@@ -9,7 +9,8 @@ use Rattle.rules.specs.Number.{xAt, yAt}
 use Rattle.rules.specs.Refusal.{mostParticles}
 use Rattle.rules.specs.Cell.{quadrant, quarter}
 use Rattle.rules.specs.Tree.{inQuarter}
-use Rattle.tree_slots.specs.Slots.{childless, kids, putInternal, putLeaf}
+use Rattle.rules.specs.Calls.{slotWords}
+use Rattle.tree_slots.specs.Slots.{InSlots, childless, kids, putInternal, putLeaf}
 
 -- a leaf of p in slot x, as child k of slot s
 unfoldable pub hung : ℕ → List ℕ → ℕ → ℕ → ℕ → List ℕ
@@ -25,9 +26,9 @@ module _ (at : List Float) (p : ℕ) where
   side c = quadrant c (xAt at p) (yAt at p)
 
   -- how many levels from the cell c on, n at the most, the point i shares the quadrant of p
-  abbrev pub gap : ℕ → Extent → ℕ → ℕ
-  gap zero c i = 0
-  gap (suc n) c i = branch (inQuarter at c (side c) i) (λ _. suc (gap n (quarter (side c) c) i)) (λ _. 0)
+  abbrev pub sharedLevels : ℕ → Extent → ℕ → ℕ
+  sharedLevels zero c i = 0
+  sharedLevels (suc n) c i = branch (inQuarter at c (side c) i) (λ _. suc (sharedLevels n (quarter (side c) c) i)) (λ _. 0)
 
   -- The leaf of f in slot s is split: internal nodes for the g + 1 levels from the cell c on, the first in slot s and the others from slot x on, then the leaves of f and p.
   abbrev pub parted : ℕ → ℕ → Extent → ℕ → ℕ → List ℕ → List ℕ
@@ -35,19 +36,19 @@ module _ (at : List Float) (p : ℕ) where
   parted f (suc g) c s x m = parted f g (quarter (side c) c) x (x + 1) (putInternal m s (set childless (side c) (x + 1)))
 
 -- what a fork asks
-pub record Forks (size s j k x f p : ℕ) : Type 0 where
-  pub own : s * 8 + 8 ≤ size
+pub record Forks (m : List ℕ) (s j k x f p : ℕ) : Type 0 where
+  pub own : InSlots s m
   pub first-quadrant : j < 4
   pub new-quadrant : k < 4
-  pub room : (x + 2) * 8 ≤ size
+  pub room : (x + 2) * slotWords ≤ length m
   pub small : x + 2 < 2 ^ 32
   pub first : f < mostParticles
   pub new : p < mostParticles
 
 -- what a split asks of its slots and particles
-pub record Splits (size places s x g f p : ℕ) : Type 0 where
-  pub own : s * 8 + 8 ≤ size
-  pub room : (x + g + 2) * 8 ≤ size
+pub record Splits (m : List ℕ) (places s x g f p : ℕ) : Type 0 where
+  pub own : InSlots s m
+  pub room : (x + g + 2) * slotWords ≤ length m
   pub small : x + g + 2 < 2 ^ 32
   pub first : f < mostParticles
   pub new : p < mostParticles

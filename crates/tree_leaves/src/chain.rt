@@ -3,7 +3,7 @@ ghost use mathlib.Core.Path.{_≡_};
 ghost use Prim.Native.Nat.{_+_, _<_};
 ghost use lib.ListN.{length, getD, set};
 ghost use Rattle.rules.specs.Refusal.{mostParticles};
-ghost use Rattle.tree_leaves.specs.Chain.{Chains};
+ghost use Rattle.tree_leaves.specs.Chain.{Joinable};
 
 // A chain of p alone.
 pub fn begin(next: &mut [u32], tail: &mut [u32], p: usize)
@@ -16,7 +16,7 @@ pub fn begin(next: &mut [u32], tail: &mut [u32], p: usize)
 
 // p, which was alone, joins the chain of f at its end.
 pub fn join(next: &mut [u32], tail: &mut [u32], f: usize, p: usize)
-    requires { ⌜ Chains (now next) (now tail) f p ⌝ }
+    requires { ⌜ Joinable (now next) (now tail) f p ⌝ }
     ensures { λ _. ⌜ (now (next .exit) ≡ set (now (next .entry)) (getD (now (tail .entry)) f 0) (p + 1)) × (now (tail .exit) ≡ set (now (tail .entry)) f p) ⌝ }
 {
     let last = tail[f] as usize;

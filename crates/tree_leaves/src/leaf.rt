@@ -3,16 +3,18 @@ ghost use mathlib.Core.Path.{_≡_};
 ghost use Prim.Native.Nat.{_+_, _*_, _^_, _≤_, _<_};
 ghost use lib.ListN.{length};
 ghost use Rattle.rules.specs.Refusal.{mostParticles};
-ghost use Rattle.tree_leaves.specs.Leaf.{hung, gap, forked, parted, Forks, Splits};
+ghost use Rattle.rules.specs.Calls.{slotWords};
+ghost use Rattle.tree_slots.specs.Slots.{InSlots};
+ghost use Rattle.tree_leaves.specs.Leaf.{hung, sharedLevels, forked, parted, Forks, Splits};
 use crate::point;
-use tree_cells::indexer::Indexer;
 use rules::Extent;
+use tree_cells::indexer::Indexer;
 use tree_slots::store;
 
 // For how many levels from the cell on, `most` at the most, the two particles share a quadrant.
-pub fn meet(at: &[f64], cell: Extent, most: usize, f: usize, p: usize) -> usize
+pub fn shared_levels(at: &[f64], cell: Extent, most: usize, f: usize, p: usize) -> usize
     requires { ⌜ (f * 2 + 2 ≤ length (now at)) × (p * 2 + 2 ≤ length (now at)) ⌝ }
-    ensures { λ r. ⌜ r ≡ gap (now (at .entry)) p most cell f ⌝ }
+    ensures { λ r. ⌜ r ≡ sharedLevels (now (at .entry)) p most cell f ⌝ }
 {
     let x = point::x_at(at, p);
     let y = point::y_at(at, p);
@@ -34,7 +36,7 @@ pub fn meet(at: &[f64], cell: Extent, most: usize, f: usize, p: usize) -> usize
 
 // A leaf of p in slot x, as child k of slot s.
 pub fn hang(m: &mut [u64], s: usize, k: usize, x: usize, p: usize)
-    requires { ⌜ (s * 8 + 8 ≤ length (now m)) × (k < 4) × ((x + 1) * 8 ≤ length (now m)) × (x + 1 < 2 ^ 32) × (p < mostParticles) ⌝ }
+    requires { ⌜ InSlots s (now m) × (k < 4) × ((x + 1) * slotWords ≤ length (now m)) × (x + 1 < 2 ^ 32) × (p < mostParticles) ⌝ }
     ensures { λ _. ⌜ now (m .exit) ≡ hung p (now (m .entry)) s k x ⌝ }
 {
     let mut children = store::children(m, s);
@@ -45,7 +47,7 @@ pub fn hang(m: &mut [u64], s: usize, k: usize, x: usize, p: usize)
 
 // Slot s becomes an internal node over two new leaves, from slot x on: of f as child j, of p as child k.
 fn fork(m: &mut [u64], s: usize, j: usize, k: usize, x: usize, f: usize, p: usize)
-    requires { ⌜ Forks (length (now m)) s j k x f p ⌝ }
+    requires { ⌜ Forks (now m) s j k x f p ⌝ }
     ensures { λ _. ⌜ now (m .exit) ≡ forked f p (now (m .entry)) s j k x ⌝ }
 {
     let mut children = store::only(j, x + 1);
@@ -66,7 +68,7 @@ pub fn split(
     f: usize,
     p: usize,
 )
-    requires { ⌜ Splits (length (now m)) (length (now at)) s x g f p ⌝ }
+    requires { ⌜ Splits (now m) (length (now at)) s x g f p ⌝ }
     ensures { λ _. ⌜ now (m .exit) ≡ parted (now (at .entry)) p f g cell s x (now (m .entry)) ⌝ }
 {
     let u = point::x_at(at, p);

@@ -7,7 +7,7 @@ use native.Mathlib.Omega.{arith}
 use lib.ListN.{length, getD, set, length-set}
 use lib.Seq.{getD-set-same, getD-set-other}
 use borrow.Author.Tests.{ne-eqb, eq-eqb}
-use Rattle.rules.specs.Edits.{others}
+use Rattle.rules.specs.Plain.{others}
 use Rattle.rules.proofs.CellList.{In}
 use Rattle.tree_slots.specs.Trees.{Trails, Rises, lastOr, Below}
 use Rattle.tree_slots.proofs.Links.{rises-in, below-in, trails-frame, in-next, first-in}

@@ -4,7 +4,7 @@ use mathlib.Core.List.{List}
 use Prim.Native.Nat.{ℕ, _+_, _-_, _≤_, _<_}
 use lib.ListN.{length, getD}
 use Rattle.rules.specs.Refusal.{mostParticles}
-use Rattle.rules.specs.Edits.{others}
+use Rattle.rules.specs.Plain.{others}
 use Rattle.rules.proofs.CellList.{In}
 use Rattle.tree_slots.specs.Trees.{Trails, Rises, lastOr, Below}
 

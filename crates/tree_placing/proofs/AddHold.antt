@@ -3,7 +3,7 @@ use mathlib.Core.Path.{_≡_, refl, sym, ap, _∙_, subst}
 use mathlib.Core.Bool.{Bool, true, false, true≢false}
 use mathlib.Core.List.{List, [], _∷_, _++_}
 use mathlib.Core.Logic.{inl, inr}
-use Prim.Native.Nat.{ℕ, zero, suc, _+_, _-_, _*_, _/_, _^_, _≤_, _<_, max}
+use Prim.Native.Nat.{ℕ, zero, suc, _+_, _-_, _*_, _^_, _≤_, _<_, max}
 use native.Mathlib.Omega.{arith}
 use lib.Dec.{leb}
 use lib.ListN.{length, set}
@@ -14,6 +14,7 @@ use Rattle.rules.specs.Plain.{all}
 use Rattle.rules.specs.Cell.{quarter}
 use Rattle.rules.specs.Outcome.{refused, refusal, fine}
 use Rattle.rules.specs.Tree.{Tree, none, leaf, node, depth, nodes, same, alike, inQuarter, pointsIn, treeIn, fitsCheck}
+use Rattle.rules.specs.Calls.{slotWords, slotsOf}
 use Rattle.rules.proofs.CellList.{In, all-in, keep-in}
 use Rattle.rules.proofs.CellPoints.{same-trans, same-quarter}
 use Rattle.rules.proofs.CellCount.{leaves, Fruitful, fruitful}
@@ -26,10 +27,10 @@ use Rattle.tree_cells.proofs.Prefix.{fits-fine, fits-deep, fits-full}
 use Rattle.tree_slots.proofs.Trees.{cells-depth, cells-nodes, each-map}
 use Rattle.tree_slots.specs.declared.Quadtree.{Quadtree}
 use Rattle.tree_slots.specs.Slots.{kids, putInternal, putLeaf}
-use Rattle.tree_slots.specs.Trees.{EachSlot, Once, inCells}
-use Rattle.tree_leaves.specs.Leaf.{side, gap, hung}
-use Rattle.tree_placing.specs.Add.{lead, Stored, Holds, pick, Reaches, moreCheck}
-use Rattle.tree_slots.proofs.Slots.{Same, same-trans as slot-trans, internal-length, internal-same, internal-tag, internal-kids, leaf-length, leaf-same, leaf-tag}
+use Rattle.tree_slots.specs.Trees.{EachSlot, Once, inCells, lead}
+use Rattle.tree_leaves.specs.Leaf.{side, sharedLevels, hung}
+use Rattle.tree_placing.specs.Add.{Stored, Holds, pick, Reaches, moreCheck}
+use Rattle.tree_slots.proofs.Slots.{Same, same-trans as slot-trans, internal-length, internal-same, node-shown, node-put, leaf-length, leaf-same, leaf-put}
 use Rattle.tree_placing.proofs.SlotsTree.{each-both, lead-le, over, upd, leads, upd-below, each-child, stored-over, stored-child, leads-upd, leads-small, once-out, frame}
 use Rattle.tree_placing.proofs.AddWay.{up, up-is, side-lt, reach-each, reach-stored, reach-once, reach-leaf, reach-depth, plug, plug-nodes, plug-depth, Renews, plug-renews, plug-once, plug-stored, plug-cells, plug-deep}
 use Rattle.tree_placing.proofs.AddSplit.{splitT, split-lead, split-each, split-once, split-depth, split-nodes, split-cells, split-deep}
@@ -77,12 +78,12 @@ module _ (at : List Float) where
   holds-is is m q h = subst (λ (t : Tree Extent). Is at (q .extent) t is) (sym (h .cells)) (tree-whole at (q .extent) is (holds-levels is m q h))
 
   -- so that tree isn't refused
-  pub holds-fits : (is m : List ℕ) (q : Quadtree) (c : Extent) (p : ℕ) → Holds at is m q → q .extent ≡ c → fitsCheck (length m / 8) p (treeIn at c is) ≡ fine
+  pub holds-fits : (is m : List ℕ) (q : Quadtree) (c : Extent) (p : ℕ) → Holds at is m q → q .extent ≡ c → fitsCheck (slotsOf m) p (treeIn at c is) ≡ fine
   holds-fits is m q c p h e =
-      subst (λ (c : Extent). fitsCheck (length m / 8) p (treeIn at c is) ≡ fine) e
-      (fits-fine (length m / 8) p (treeIn at (q .extent) is) .1 (holds-levels is m q h, slots (nodes (treeIn at (q .extent) is)) (sym (ap nodes (h .cells)) ∙ cells-nodes (q .extent) (h .tree) ∙ h .count) (h .room)))
+      subst (λ (c : Extent). fitsCheck (slotsOf m) p (treeIn at c is) ≡ fine) e
+      (fits-fine (slotsOf m) p (treeIn at (q .extent) is) .1 (holds-levels is m q h, slots (nodes (treeIn at (q .extent) is)) (sym (ap nodes (h .cells)) ∙ cells-nodes (q .extent) (h .tree) ∙ h .count) (h .room)))
     where
-      slots : (n : ℕ) → n ≡ q .nodes → q .nodes * 8 ≤ length m → n ≤ length m / 8
+      slots : (n : ℕ) → n ≡ q .nodes → q .nodes * slotWords ≤ length m → n ≤ slotsOf m
       slots n a b = omega arith
 
   -- at most 1 + 64 slots a particle
@@ -181,14 +182,14 @@ module _ (at : List Float) where
           g ∙ insert-tree at p (inCells c (h .tree)) c is (holds-is is m q h) z
 
       -- with too few slots it is refused
-      pub next-full : length m / 8 < y → moreCheck at is m (q .extent) p ≡ refused (refusal 7 p)
+      pub next-full : slotsOf m < y → moreCheck at is m (q .extent) p ≡ refused (refusal 7 p)
       next-full lt =
-          subst (λ (t : Tree Extent). fitsCheck (length m / 8) p t ≡ refused (refusal 7 p)) after-cells
-          (fits-full (length m / 8) p (inCells (q .extent) after) (subst (λ (k : ℕ). k ≤ 65) (sym (cells-depth (q .extent) after)) after-most)
-          (subst (λ (k : ℕ). length m / 8 < k) (sym (cells-nodes (q .extent) after ∙ after-nodes)) lt))
+          subst (λ (t : Tree Extent). fitsCheck (slotsOf m) p t ≡ refused (refusal 7 p)) after-cells
+          (fits-full (slotsOf m) p (inCells (q .extent) after) (subst (λ (k : ℕ). k ≤ 65) (sym (cells-depth (q .extent) after)) after-most)
+          (subst (λ (k : ℕ). slotsOf m < k) (sym (cells-nodes (q .extent) after ∙ after-nodes)) lt))
 
       -- once v is written, the slots hold it
-      pub next-holds : (b : List ℕ) (r' : Quadtree) → Stored b v → ((j : ℕ) → j < q .nodes → (lead u ≡ j + 1 → ⊥) → Same m b j) → y * 8 ≤ length b
+      pub next-holds : (b : List ℕ) (r' : Quadtree) → Stored b v → ((j : ℕ) → j < q .nodes → (lead u ≡ j + 1 → ⊥) → Same m b j) → y * slotWords ≤ length b
           → r' .extent ≡ q .extent → r' .root ≡ q .root → r' .nodes ≡ y → r' .deepest ≡ max (q .deepest) (l + e - 1) → Holds at (is ++ (p ∷ [])) b r'
       next-holds b r' stored keeps room ex ro nn de =
           let o = plug-stored at p m b (λ j. j < q .nodes) l (q .extent) (h .tree) d u v r (w .top) stored keeps (h .below) (h .once) (h .stored) in
@@ -268,7 +269,7 @@ module _ (at : List Float) where
           }
 
       -- it splits a leaf at another point
-      pub splits : (s i : ℕ) (js : List ℕ) (g : ℕ) → Reaches at p l (q .extent) (h .tree) d (leaf s (i ∷ js)) → same at i p ≡ false → gap at p (64 - l) d i ≡ g → g < 64 - l
+      pub splits : (s i : ℕ) (js : List ℕ) (g : ℕ) → Reaches at p l (q .extent) (h .tree) d (leaf s (i ∷ js)) → same at i p ≡ false → sharedLevels at p (64 - l) d i ≡ g → g < 64 - l
           → Replaces l (64 - l) d (leaf s (i ∷ js)) (splitT at p (i ∷ js) g d s (q .nodes)) (q .nodes) (q .nodes + (g + 2)) (g + 2)
       splits s i js g r ne e lt =
           let z : l ≤ 64 = leaf-level s (i ∷ js) r in
@@ -289,12 +290,12 @@ module _ (at : List Float) where
           greater g = omega arith
 
       -- the two stay together to the last level
-      pub too-deep : (s i : ℕ) (js : List ℕ) → Reaches at p l (q .extent) (h .tree) d (leaf s (i ∷ js)) → same at i p ≡ false → gap at p (64 - l) d i ≡ 64 - l → (w : List ℕ) → moreCheck at is w (q .extent) p ≡ refused (refusal 6 p)
+      pub too-deep : (s i : ℕ) (js : List ℕ) → Reaches at p l (q .extent) (h .tree) d (leaf s (i ∷ js)) → same at i p ≡ false → sharedLevels at p (64 - l) d i ≡ 64 - l → (w : List ℕ) → moreCheck at is w (q .extent) p ≡ refused (refusal 6 p)
       too-deep s i js r ne e w =
           let c = q .extent in
           let z : l ≤ 64 = leaf-level s (i ∷ js) r in
           let f : up l (suc (64 - l)) ≡ 65 = up-is l (suc (64 - l)) ∙ levels z in
-          fits-deep (length w / 8) p (treeIn at c (is ++ (p ∷ [])))
+          fits-deep (slotsOf w) p (treeIn at c (is ++ (p ∷ [])))
           (insert-refused at p (inCells c (h .tree)) c is (holds-is is m q h)
           (subst (λ (k : ℕ). k < depth (insertT at p c k (inCells c (h .tree)))) f (plug-deep at p l c (h .tree) d (leaf s (i ∷ js)) (suc (64 - l)) r (split-deep at p i js (64 - l) d d ne e))))
         where
@@ -305,9 +306,9 @@ module _ (at : List Float) where
 
       -- nothing, for a chain
       pub joined-stored : (s i : ℕ) (js : List ℕ) → Reaches at p l (q .extent) (h .tree) d (leaf s (i ∷ js)) → Stored m (leaf s (i ∷ js ++ (p ∷ [])))
-      joined-stored s i js r = reach-stored at p l (q .extent) (h .tree) d (leaf s (i ∷ js)) r m (h .stored)
+      joined-stored s i js r = record { tag = reach-stored at p l (q .extent) (h .tree) d (leaf s (i ∷ js)) r m (h .stored) .tag }
 
-      module _ (s : ℕ) (u0 u1 u2 u3 : Tree ℕ) (r : Reaches at p l (q .extent) (h .tree) d (node s u0 u1 u2 u3)) (room : (q .nodes + 1) * 8 ≤ length m) (small : q .nodes + 1 < 2 ^ 32) where
+      module _ (s : ℕ) (u0 u1 u2 u3 : Tree ℕ) (r : Reaches at p l (q .extent) (h .tree) d (node s u0 u1 u2 u3)) (room : (q .nodes + 1) * slotWords ≤ length m) (small : q .nodes + 1 < 2 ^ 32) where
         abbrev hangs-in : ℕ → List ℕ
         hangs-in k = hung p m s k (q .nodes)
 
@@ -331,14 +332,15 @@ module _ (at : List Float) where
             let b : EachSlot (λ j. j < x) u = reach-each at p l (q .extent) (h .tree) d u r (λ j. j < x) (h .below) in
             let o : Once u = reach-once at p l (q .extent) (h .tree) d u r (h .once) in
             let ks : List ℕ = set (kids m s) i (x + 1) in
-            let numbers : ks ≡ leads (upd k i t) = ap (λ (y : List ℕ). set y i (x + 1)) (g .1) ∙ leads-upd k i (x + 1) t (side-lt at p d) refl in
+            let numbers : ks ≡ leads (upd k i t) = ap (λ (y : List ℕ). set y i (x + 1)) (g .0 .kids) ∙ leads-upd k i (x + 1) t (side-lt at p d) refl in
             let m1 : List ℕ = putInternal m s ks in
             let w : List ℕ = putLeaf m1 x p in
             let own : Same m1 w s = leaf-same m1 x p s (omega (arith, b .0)) in
-            stored-over w s (upd k i t) (own .0 ∙ internal-tag m s ks (omega (arith, b .0)))
-            (own .1 ∙ ap (λ (y : List ℕ). kids (putInternal m s y) s) numbers
-            ∙ internal-kids m s (leads (upd k i t)) (omega (arith, b .0))
-            (leads-small (x + 1) (upd k i t) small (upd-below (λ r u. lead u ≤ x + 1) k i t (omega arith) (λ r l n. omega (arith, lead-le x (k r) (each-child u0 u1 u2 u3 s (λ j. j < x) b r))))))
-            (upd-below (λ r u. Stored w u) k i t (leaf-tag m1 x p (simp internal-length (omega arith)))
+            let l : ℕ → Tree ℕ = upd k i t in
+            stored-over w s l
+            (node-shown own
+            (node-put m s ks (l 0) (l 1) (l 2) (l 3) (omega (arith, b .0))
+            (leads-small (x + 1) l small (upd-below (λ r u. lead u ≤ x + 1) k i t (omega arith) (λ r l n. omega (arith, lead-le x (k r) (each-child u0 u1 u2 u3 s (λ j. j < x) b r))))) numbers))
+            (upd-below (λ r u. Stored w u) k i t (leaf-put m1 x p (p ∷ []) (simp internal-length (omega arith)) refl)
             (λ y z n. frame m w (λ j. (j < x) × (j ≡ s → ⊥)) (λ j e. slot-trans m m1 w j (internal-same m s ks j (e .1)) (leaf-same m1 x p j (omega (arith, e .0)))) (k y)
             (each-both (λ j. j < x) (λ j. j ≡ s → ⊥) (k y) (each-child u0 u1 u2 u3 s (λ j. j < x) b y) (once-out s u0 u1 u2 u3 o y)) (stored-child u0 u1 u2 u3 s m g y)))

@@ -10,20 +10,23 @@ use lib.Ieee.{Float}
 use Rattle.rules.specs.declared.Extent.{Extent}
 use Rattle.rules.specs.Number.{within, xAt, yAt}
 use Rattle.rules.specs.Tree.{Tree, none, leaf, node, depth, same}
+use Rattle.rules.specs.Calls.{slotWords, slotsOf}
+use Rattle.rules.specs.Refusal.{mostParticles}
 use Rattle.rules.proofs.CellList.{In, in-some, both, in-keep, keep-in}
 use Rattle.rules.proofs.CellChain.{Points}
 use Rattle.rules.proofs.CellRule.{points}
 use Rattle.tree_slots.specs.declared.Quadtree.{Quadtree}
+use Rattle.tree_slots.proofs.Slots.{same-refl}
 use Rattle.tree_placing.specs.declared.Inserted.{Inserted}
 use Rattle.tree_placing.specs.declared.Inserted.the-variants.{Done, Deep, Full}
-use Rattle.tree_slots.specs.Trees.{first, lastOr}
+use Rattle.tree_slots.specs.Trees.{first, lastOr, InSlots}
 use Rattle.tree_slots.proofs.Links.{rises-length, last-in}
-use Rattle.tree_leaves.specs.Chain.{atPoint, Linked, Chains}
-use Rattle.tree_leaves.specs.Leaf.{side, gap, hung, parted, Splits}
+use Rattle.tree_leaves.specs.Chain.{atPoint, Linked, Joinable}
+use Rattle.tree_leaves.specs.Leaf.{side, sharedLevels, hung, parted, Splits}
 use Rattle.tree_placing.specs.Add.{Holds, pick, Reaches, Ranged, Seeks, Puts, Alone, FoundLeaf, FoundHole, withMore, Grown, Placed}
 use Rattle.tree_placing.proofs.SlotsTree.{over, upd}
 use Rattle.tree_placing.proofs.AddWay.{side-lt, reach-each, reach-depth}
-use Rattle.tree_placing.proofs.AddSplit.{splitT, gap-le, split-length, split-same, split-stored}
+use Rattle.tree_placing.proofs.AddSplit.{splitT, shared-le, split-length, split-same, split-stored}
 use Rattle.tree_placing.proofs.AddChain.{new-linked, join-linked, chain-first}
 use Rattle.tree_placing.proofs.AddHold.{holds-fits, holds-few, hole-new, leaf-new, leaf-chain, Replaces, next-full, next-holds, leaf-level, node-level, joins, hangs, splits, too-deep, joined-stored, hung-length, hung-same, hung-stored}
 
@@ -82,7 +85,7 @@ module _ (at : List Float) (is m : List ℕ) (q : Quadtree) (p : ℕ) (g : Seeks
     joined-holds e =
         let v = joins at p is m q (h .holds) l c s f (h .rest) way e in
         next-holds at p is m q (h .holds) l (64 - l) c u (leaf s (f ∷ h .rest ++ (p ∷ []))) (q .nodes) 1 way v m q
-        (joined-stored at p is m q (h .holds) l c s f (h .rest) way) (λ j y n. (refl, refl)) (h .holds .room) refl refl refl
+        (joined-stored at p is m q (h .holds) l c s f (h .rest) way) (λ j y n. same-refl m j) (h .holds .room) refl refl refl
         (level (depth (h .holds .tree)) (h .holds .deepest) (reach-depth at p l (q .extent) (h .holds .tree) c u way))
       where
         level : (d : ℕ) → d ≤ q .deepest + 1 → l + 1 ≤ d → q .deepest ≡ max (q .deepest) (l + 1 - 1)
@@ -93,33 +96,33 @@ module _ (at : List Float) (is m : List ℕ) (q : Quadtree) (p : ℕ) (g : Seeks
     pub leaf-new-point : same at f p ≡ false → (i : ℕ) → In i is → same at i p ≡ true → ⊥
     leaf-new-point ne = leaf-new at p is m q (h .holds) l c s f (h .rest) way ne
 
-    module _ (ne : same at f p ≡ false) (k : ℕ) (ek : k ≡ gap at p (64 - l) c f) where
+    module _ (ne : same at f p ≡ false) (k : ℕ) (ek : k ≡ sharedLevels at p (64 - l) c f) where
       pub grown-deep : k ≡ 64 - l → (w : List ℕ) → Grown at is w (q .extent) p Deep
       grown-deep e w = too-deep at p is m q (h .holds) l c s f (h .rest) way ne (sym ek ∙ e) w
 
-      pub gap-most : k ≤ 64
-      gap-most = omega (arith, gap-le at p (64 - l) c f)
+      pub shared-most : k ≤ 64
+      shared-most = omega (arith, shared-le at p (64 - l) c f)
 
       module _ (shallow : k ≡ 64 - l → ⊥) where
         less : k < 64 - l
-        less = other (gap-le at p (64 - l) c f)
+        less = other (shared-le at p (64 - l) c f)
           where
-            other : gap at p (64 - l) c f ≤ 64 - l → k < 64 - l
+            other : sharedLevels at p (64 - l) c f ≤ 64 - l → k < 64 - l
             other z = omega arith
 
         split-replaces : Replaces at p l (64 - l) c u (splitT at p (f ∷ h .rest) k c s (q .nodes)) (q .nodes) (q .nodes + (k + 2)) (k + 2)
         split-replaces = splits at p is m q (h .holds) l c s f (h .rest) k way ne (sym ek) less
 
-        pub grown-split-full : length m / 8 < q .nodes + k + 2 → Grown at is m (q .extent) p Full
+        pub grown-split-full : slotsOf m < q .nodes + k + 2 → Grown at is m (q .extent) p Full
         grown-split-full lt = next-full at p is m q (h .holds) l (64 - l) c u (splitT at p (f ∷ h .rest) k c s (q .nodes)) (q .nodes + (k + 2)) (k + 2) way split-replaces (omega arith)
 
-        module _ (fits : q .nodes + k + 2 ≤ length m / 8) where
-          pub split-asks : Splits (length m) (length at) s (q .nodes) k f p
+        module _ (fits : q .nodes + k + 2 ≤ slotsOf m) where
+          pub split-asks : Splits m (length at) s (q .nodes) k f p
           split-asks =
               record {
                 own = omega (arith, leaf-below, h .holds .room);
                 room = omega arith;
-                small = omega (arith, few, gap-most);
+                small = omega (arith, few, shared-most);
                 first = omega (arith, first-less, g .few);
                 new = g .few;
                 first-place = omega (arith, first-less, g .read);
@@ -165,17 +168,17 @@ module _ (at : List Float) (is m : List ℕ) (q : Quadtree) (p : ℕ) (g : Seeks
     pub hole-new-point : (i : ℕ) → In i is → same at i p ≡ true → ⊥
     hole-new-point = hole-new at p is m q (h .holds) l d s (h .t0) (h .t1) (h .t2) (h .t3) (h .reached) empty
 
-    pub grown-hole-full : length m / 8 ≡ q .nodes → Grown at is m (q .extent) p Full
+    pub grown-hole-full : slotsOf m ≡ q .nodes → Grown at is m (q .extent) p Full
     grown-hole-full e = next-full at p is m q (h .holds) l (64 - l) d t v (q .nodes + 1) 2 (h .reached) hang-replaces (omega arith)
 
-    module _ (free : length m / 8 ≡ q .nodes → ⊥) where
-      fits : q .nodes + 1 ≤ length m / 8
+    module _ (free : slotsOf m ≡ q .nodes → ⊥) where
+      fits : q .nodes + 1 ≤ slotsOf m
       fits = more (length m) (h .holds .room) free
         where
-          more : (n : ℕ) → q .nodes * 8 ≤ n → (n / 8 ≡ q .nodes → ⊥) → q .nodes + 1 ≤ n / 8
+          more : (n : ℕ) → q .nodes * slotWords ≤ n → (n / slotWords ≡ q .nodes → ⊥) → q .nodes + 1 ≤ n / slotWords
           more n a b = omega arith
 
-      pub hang-asks : (s * 8 + 8 ≤ length m) × (k < 4) × ((q .nodes + 1) * 8 ≤ length m) × (q .nodes + 1 < 2 ^ 32) × (p < 4096)
+      pub hang-asks : InSlots s m × (k < 4) × ((q .nodes + 1) * slotWords ≤ length m) × (q .nodes + 1 < 2 ^ 32) × (p < mostParticles)
       hang-asks =
           let b = reach-each at p l (q .extent) (h .holds .tree) d t (h .reached) (λ j. j < q .nodes) (h .holds .below) in
           (omega (arith, b .0, h .holds .room), subst (λ (i : ℕ). i < 4) (sym (h .quadrant)) (side-lt at p d), omega (arith, fits), omega (arith, few), g .few)
@@ -222,7 +225,7 @@ module _ (at : List Float) (is m next tail : List ℕ) (q : Quadtree) (p : ℕ) 
         let own-in : In f js = keep-in (same at f) is f (starts .0) (before-points at is m q p k f (starts .0)) in
         subst (λ (x : ℕ). In x is) (sym (ap (λ (x : ℕ). getD tail x 0) (sym (starts .1)) ∙ g .linked .tails f (starts .0))) (in-keep (same at f) is (lastOr 0 js) (last-in 0 js (in-some f js own-in)) .0)
 
-    pub join-asks : Chains next tail f p
+    pub join-asks : Joinable next tail f p
     join-asks = record { first = in-tail; last = in-next (getD tail f 0) last-there; few = k .few }
 
     pub placed-joined : same at f p ≡ true → (a b : List ℕ) → a ≡ set next (getD tail f 0) (p + 1) → b ≡ set tail f p → Placed at is m a b (q .extent) p (Done q)

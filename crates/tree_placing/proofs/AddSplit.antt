@@ -13,13 +13,14 @@ use Rattle.rules.specs.Plain.{branch}
 use Rattle.rules.specs.Number.{xAt, yAt}
 use Rattle.rules.specs.Cell.{quadrant, quarter}
 use Rattle.rules.specs.Tree.{Tree, none, leaf, depth, nodes, same, inQuarter}
-use Rattle.rules.proofs.CellInsert.{insertT, into, moved, ends, below, insert-apart, insert-together, insert-other, insert-node}
+use Rattle.rules.specs.Calls.{slotWords}
+use Rattle.rules.proofs.CellInsert.{insertT, into, moved, tips, below, insert-apart, insert-together, insert-other, insert-node}
 use Rattle.rules.proofs.CellDeep.{quarterOf, inQuarter-is, inQuarter-own}
-use Rattle.tree_slots.specs.Slots.{kids, putInternal, putLeaf, childless}
-use Rattle.tree_slots.specs.Trees.{first, EachSlot, Apart, Once, inCells}
-use Rattle.tree_leaves.specs.Leaf.{side, gap, parted}
-use Rattle.tree_placing.specs.Add.{lead, Stored, pick}
-use Rattle.tree_slots.proofs.Slots.{Same, Small, same-trans, internal-length, internal-same, internal-tag, internal-kids, leaf-length, leaf-same, leaf-tag}
+use Rattle.tree_slots.specs.Slots.{putInternal, putLeaf, childless}
+use Rattle.tree_slots.specs.Trees.{first, EachSlot, Apart, Once, inCells, lead}
+use Rattle.tree_leaves.specs.Leaf.{side, sharedLevels, parted}
+use Rattle.tree_placing.specs.Add.{Stored, pick}
+use Rattle.tree_slots.proofs.Slots.{Same, Small, same-trans, internal-length, internal-same, node-shown, node-put, leaf-length, leaf-same, leaf-shown, leaf-put}
 use Rattle.tree_placing.proofs.SlotsTree.{each-true, apart-sym, over, upd, bare, leads, upd-all, upd-below, each-over, stored-over, leads-upd, leads-small, depth-upd, nodes-upd, depth-child, once-over, pair-upd}
 use Rattle.tree_placing.proofs.AddWay.{pick-ap, deeper, side-lt}
 use Rattle.tree_cells.proofs.Quadrant.{quadrant-lt}
@@ -87,27 +88,27 @@ module _ (at : List Float) (p : ℕ) where
       more d e = omega arith
 
   -- where the quadrants differ
-  pub gap-stop : (n : ℕ) (c : Extent) (i : ℕ) → 0 < n → gap at p n c i ≡ 0 → inQuarter at c (side at p c) i ≡ false
-  gap-stop zero c i l e = absurd (omega arith)
-  gap-stop (suc n) c i l e = go (inQuarter at c (side at p c) i) refl e
+  pub shared-stop : (n : ℕ) (c : Extent) (i : ℕ) → 0 < n → sharedLevels at p n c i ≡ 0 → inQuarter at c (side at p c) i ≡ false
+  shared-stop zero c i l e = absurd (omega arith)
+  shared-stop (suc n) c i l e = go (inQuarter at c (side at p c) i) refl e
     where
-      go : (b : Bool) → inQuarter at c (side at p c) i ≡ b → branch b (λ _. suc (gap at p n (quarter (side at p c) c) i)) (λ _. 0) ≡ 0 → inQuarter at c (side at p c) i ≡ false
+      go : (b : Bool) → inQuarter at c (side at p c) i ≡ b → branch b (λ _. suc (sharedLevels at p n (quarter (side at p c) c) i)) (λ _. 0) ≡ 0 → inQuarter at c (side at p c) i ≡ false
       go true f e = absurd (omega arith)
       go false f e = f
 
   -- where they are the same
-  pub gap-more : (n : ℕ) (c : Extent) (i g : ℕ) → gap at p (suc n) c i ≡ suc g → (inQuarter at c (side at p c) i ≡ true) × (gap at p n (quarter (side at p c) c) i ≡ g)
-  gap-more n c i g e = go (inQuarter at c (side at p c) i) refl e
+  pub shared-more : (n : ℕ) (c : Extent) (i g : ℕ) → sharedLevels at p (suc n) c i ≡ suc g → (inQuarter at c (side at p c) i ≡ true) × (sharedLevels at p n (quarter (side at p c) c) i ≡ g)
+  shared-more n c i g e = go (inQuarter at c (side at p c) i) refl e
     where
-      go : (b : Bool) → inQuarter at c (side at p c) i ≡ b → branch b (λ _. suc (gap at p n (quarter (side at p c) c) i)) (λ _. 0) ≡ suc g → (inQuarter at c (side at p c) i ≡ true) × (gap at p n (quarter (side at p c) c) i ≡ g)
+      go : (b : Bool) → inQuarter at c (side at p c) i ≡ b → branch b (λ _. suc (sharedLevels at p n (quarter (side at p c) c) i)) (λ _. 0) ≡ suc g → (inQuarter at c (side at p c) i ≡ true) × (sharedLevels at p n (quarter (side at p c) c) i ≡ g)
       go true f e = (f, omega arith)
       go false f e = absurd (omega arith)
 
-  pub gap-le : (n : ℕ) (c : Extent) (i : ℕ) → gap at p n c i ≤ n
-  gap-le zero c i = omega arith
-  gap-le (suc n) c i = go (inQuarter at c (side at p c) i) (gap-le n (quarter (side at p c) c) i)
+  pub shared-le : (n : ℕ) (c : Extent) (i : ℕ) → sharedLevels at p n c i ≤ n
+  shared-le zero c i = omega arith
+  shared-le (suc n) c i = go (inQuarter at c (side at p c) i) (shared-le n (quarter (side at p c) c) i)
     where
-      go : (b : Bool) → gap at p n (quarter (side at p c) c) i ≤ n → branch b (λ _. suc (gap at p n (quarter (side at p c) c) i)) (λ _. 0) ≤ suc n
+      go : (b : Bool) → sharedLevels at p n (quarter (side at p c) c) i ≤ n → branch b (λ _. suc (sharedLevels at p n (quarter (side at p c) c) i)) (λ _. 0) ≤ suc n
       go true h = omega arith
       go false h = omega arith
 
@@ -116,16 +117,16 @@ module _ (at : List Float) (p : ℕ) where
   unfolding inQuarter
   other-quarter c i e = eqb-false (side at p c) (quarterOf at c i) e
 
-  pub split-nodes : (is : List ℕ) (g n : ℕ) (c : Extent) (s x : ℕ) → g < n → gap at p n c (first is) ≡ g → nodes (splitT is g c s x) ≡ g + 3
+  pub split-nodes : (is : List ℕ) (g n : ℕ) (c : Extent) (s x : ℕ) → g < n → sharedLevels at p n c (first is) ≡ g → nodes (splitT is g c s x) ≡ g + 3
   split-nodes is zero n c s x l e =
       let q = quarterOf at c (first is) in
       let k : ℕ → Tree ℕ = upd bare q (leaf x is) in
-      let a : nodes (k (side at p c)) ≡ 0 = rw (ne-eqb (side at p c) q (other-quarter c (first is) (gap-stop n c (first is) l e))) in
+      let a : nodes (k (side at p c)) ≡ 0 = rw (ne-eqb (side at p c) q (other-quarter c (first is) (shared-stop n c (first is) l e))) in
       omega (arith, nodes-upd s bare q (leaf x is) (quadrant-lt c (xAt at (first is)) (yAt at (first is))), nodes-upd s k (side at p c) (leaf (x + 1) (p ∷ [])) (side-lt at p c))
   split-nodes is (suc g) zero c s x l e = absurd (omega arith)
   split-nodes is (suc g) (suc n) c s x l e =
       let t : Tree ℕ = splitT is g (quarter (side at p c) c) x (x + 1) in
-      omega (arith, nodes-upd s bare (side at p c) t (side-lt at p c), split-nodes is g n (quarter (side at p c) c) x (x + 1) (omega arith) (gap-more n c (first is) g e .1))
+      omega (arith, nodes-upd s bare (side at p c) t (side-lt at p c), split-nodes is g n (quarter (side at p c) c) x (x + 1) (omega arith) (shared-more n c (first is) g e .1))
 
   -- ---- what is written
 
@@ -138,7 +139,7 @@ module _ (at : List Float) (p : ℕ) where
       same-trans m _ _ j (same-trans m _ _ j (internal-same m s _ j n) (leaf-same _ x f j (omega arith))) (leaf-same _ (x + 1) p j (omega arith))
   split-same f (suc g) c s x m j n l = same-trans m _ _ j (internal-same m s _ j n) (split-same f g (quarter (side at p c) c) x (x + 1) _ j (omega arith) (omega arith))
 
-  pub split-stored : (is : List ℕ) (f g : ℕ) (c : Extent) (s x : ℕ) (m : List ℕ) → f ≡ first is → s < x → (x + g + 2) * 8 ≤ length m → x + g + 2 < 2 ^ 32 → Stored (parted at p f g c s x m) (splitT is g c s x)
+  pub split-stored : (is : List ℕ) (f g : ℕ) (c : Extent) (s x : ℕ) (m : List ℕ) → f ≡ first is → s < x → (x + g + 2) * slotWords ≤ length m → x + g + 2 < 2 ^ 32 → Stored (parted at p f g c s x m) (splitT is g c s x)
   split-stored is f zero c s x m e lt room small =
       let q : ℕ = quadrant c (xAt at f) (yAt at f) in
       let k0 : ℕ → Tree ℕ = upd bare q (leaf x is) in
@@ -152,11 +153,10 @@ module _ (at : List Float) (p : ℕ) where
       let own : Same m1 w s = same-trans m1 m2 w s (leaf-same m1 x f s (omega arith)) (leaf-same m2 (x + 1) p s (omega arith)) in
       let fits : Small (leads k) = leads-small (x + 2) k (omega arith)
       (upd-below (λ r u. lead u ≤ x + 2) k0 (side at p c) (leaf (x + 1) (p ∷ [])) (omega arith) (λ r l n. upd-all (λ r u. lead u ≤ x + 2) bare q (leaf x is) (omega arith) (λ r n. omega arith) r)) in
-      let old : Stored w (leaf x is) = leaf-same m2 (x + 1) p x (omega arith) .0 ∙ leaf-tag m1 x f (simp internal-length (omega arith)) ∙ ap (λ (i : ℕ). i + 1) e in
-      let new : Stored w (leaf (x + 1) (p ∷ [])) = leaf-tag m2 (x + 1) p (simp (leaf-length, internal-length) (omega arith)) in
+      let old : Stored w (leaf x is) = leaf-shown (leaf-same m2 (x + 1) p x (omega arith)) (leaf-put m1 x f is (simp internal-length (omega arith)) e) in
+      let new : Stored w (leaf (x + 1) (p ∷ [])) = leaf-put m2 (x + 1) p (p ∷ []) (simp (leaf-length, internal-length) (omega arith)) refl in
       subst (λ (i : ℕ). Stored w (over s (upd (upd bare (quadrant c (xAt at i) (yAt at i)) (leaf x is)) (side at p c) (leaf (x + 1) (p ∷ []))))) e
-      (stored-over w s k (own .0 ∙ internal-tag m s ks (omega arith))
-      (own .1 ∙ ap (λ (l : List ℕ). kids (putInternal m s l) s) numbers ∙ internal-kids m s (leads k) (omega arith) fits)
+      (stored-over w s k (node-shown own (node-put m s ks (k 0) (k 1) (k 2) (k 3) (omega arith) fits numbers))
       (upd-below (λ r u. Stored w u) k0 (side at p c) (leaf (x + 1) (p ∷ [])) new (λ r l n. upd-all (λ r u. Stored w u) bare q (leaf x is) old (λ r n. tt) r)))
   split-stored is f (suc g) c s x m e lt room small =
       let t : Tree ℕ = splitT is g (quarter (side at p c) c) x (x + 1) in
@@ -168,8 +168,7 @@ module _ (at : List Float) (p : ℕ) where
       let own : Same m1 w s = split-same f g (quarter (side at p c) c) x (x + 1) m1 s (omega arith) (omega arith) in
       let fits : Small (leads k) = leads-small (x + 1) k (omega arith)
       (upd-below (λ r u. lead u ≤ x + 1) bare (side at p c) t (omega (arith, split-lead is g (quarter (side at p c) c) x (x + 1))) (λ r l n. omega arith)) in
-      stored-over w s k (own .0 ∙ internal-tag m s ks (omega arith))
-      (own .1 ∙ ap (λ (l : List ℕ). kids (putInternal m s l) s) numbers ∙ internal-kids m s (leads k) (omega arith) fits)
+      stored-over w s k (node-shown own (node-put m s ks (k 0) (k 1) (k 2) (k 3) (omega arith) fits numbers))
       (upd-below (λ r u. Stored w u) bare (side at p c) t (split-stored is f g (quarter (side at p c) c) x (x + 1) m1 e (omega arith) (simp internal-length (omega arith)) (omega arith)) (λ r l n. tt))
 
   -- ---- the tree of the cell rule
@@ -183,10 +182,10 @@ module _ (at : List Float) (p : ℕ) where
   together-too c i e = eq-eqb (quarterOf at c i) (side at p c) (sym (eqb-true (side at p c) (quarterOf at c i) e))
 
   -- two leaves in different quarters
-  ends-at : (c : Extent) (i : ℕ) (js : List ℕ) (x r : ℕ)
-      → inCells (quarter r c) (upd (upd bare (quarterOf at c i) (leaf x (i ∷ js))) (side at p c) (leaf (x + 1) (p ∷ [])) r) ≡ ends at p c (i ∷ js) r
+  tips-at : (c : Extent) (i : ℕ) (js : List ℕ) (x r : ℕ)
+      → inCells (quarter r c) (upd (upd bare (quarterOf at c i) (leaf x (i ∷ js))) (side at p c) (leaf (x + 1) (p ∷ [])) r) ≡ tips at p c (i ∷ js) r
   unfolding inQuarter
-  ends-at c i js x r = go (eqb r (side at p c)) (eqb r (quarterOf at c i))
+  tips-at c i js x r = go (eqb r (side at p c)) (eqb r (quarterOf at c i))
     where
       go : (a b : Bool) → inCells (quarter r c) (branch a (λ _. leaf (x + 1) (p ∷ [])) (λ _. branch b (λ _. leaf x (i ∷ js)) (λ _. none)))
           ≡ branch a (λ _. leaf (quarter r c) (p ∷ [])) (λ _. branch b (λ _. leaf (quarter r c) (i ∷ js)) (λ _. none))
@@ -205,12 +204,12 @@ module _ (at : List Float) (p : ℕ) where
       go true e = subst (λ (j : ℕ). inCells (quarter j c) t ≡ insertT at p (quarter j c) k (leaf (quarter j c) (i ∷ js))) (sym (eqb-true r (side at p c) e)) h
       go false e = refl
 
-  pub split-cells : (i : ℕ) (js : List ℕ) (g n : ℕ) (c d : Extent) (s x : ℕ) → same at i p ≡ false → g < n → gap at p n c i ≡ g → inCells c (splitT (i ∷ js) g c s x) ≡ insertT at p c (suc n) (leaf d (i ∷ js))
+  pub split-cells : (i : ℕ) (js : List ℕ) (g n : ℕ) (c d : Extent) (s x : ℕ) → same at i p ≡ false → g < n → sharedLevels at p n c i ≡ g → inCells c (splitT (i ∷ js) g c s x) ≡ insertT at p c (suc n) (leaf d (i ∷ js))
   split-cells i js zero n c d s x ne l e =
-      rw (ends-at c i js x 0, ends-at c i js x 1, ends-at c i js x 2, ends-at c i js x 3) (sym (insert-apart at p c d n i js ne (apart-too c i (gap-stop n c i l e))))
+      rw (tips-at c i js x 0, tips-at c i js x 1, tips-at c i js x 2, tips-at c i js x 3) (sym (insert-apart at p c d n i js ne (apart-too c i (shared-stop n c i l e))))
   split-cells i js (suc g) zero c d s x ne l e = absurd (omega arith)
   split-cells i js (suc g) (suc n) c d s x ne l e =
-      let h = gap-more n c i g e in
+      let h = shared-more n c i g e in
       let q : ℕ = side at p c in
       let at-r = below-at c (suc n) i js (splitT (i ∷ js) g (quarter q c) x (x + 1)) (h .0) (split-cells i js g n (quarter q c) (quarter q c) x (x + 1) ne (omega arith) (h .1)) in
       rw (at-r 0, at-r 1, at-r 2, at-r 3) (sym (insert-together at p c d (suc n) i js ne (together-too c i (h .0))))
@@ -220,7 +219,7 @@ module _ (at : List Float) (p : ℕ) where
   last c t = refl
 
   -- points that stay together to the last level pass it
-  pub split-deep : (i : ℕ) (js : List ℕ) (n : ℕ) (c d : Extent) → same at i p ≡ false → gap at p n c i ≡ n → suc n < depth (insertT at p c (suc n) (leaf d (i ∷ js)))
+  pub split-deep : (i : ℕ) (js : List ℕ) (n : ℕ) (c d : Extent) → same at i p ≡ false → sharedLevels at p n c i ≡ n → suc n < depth (insertT at p c (suc n) (leaf d (i ∷ js)))
   split-deep i js zero c d ne e =
       let q : ℕ = side at p c in
       let t : ℕ → Tree Extent = moved at c (i ∷ js) in
@@ -232,7 +231,7 @@ module _ (at : List Float) (p : ℕ) where
       two : {b e : ℕ} → b ≡ 1 → suc b ≤ e → 1 < e
       two x y = omega arith
   split-deep i js (suc n) c d ne e =
-      let h = gap-more n c i n e in
+      let h = shared-more n c i n e in
       let q : ℕ = quarterOf at c i in
       let z : side at p c ≡ q = inQuarter-is at c (side at p c) i (h .0) in
       let rest : suc n < depth (insertT at p (quarter q c) (suc n) (leaf (quarter q c) (i ∷ js))) =

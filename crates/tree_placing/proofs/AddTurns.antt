@@ -1,7 +1,7 @@
 -- The turns of the loops that find a particle's way, count the levels that two share, and split a leaf.
 use mathlib.Core.Path.{_≡_, refl, sym, ap, _∙_, subst}
 use mathlib.Core.List.{List, [], _∷_}
-use Prim.Native.Nat.{ℕ, _+_, _-_, _*_, _≤_, _<_}
+use Prim.Native.Nat.{ℕ, _+_, _-_, _≤_, _<_}
 use native.Mathlib.Omega.{arith}
 use native.Mathlib.Numerals.{add-one}
 use lib.ListN.{length, getD}
@@ -10,9 +10,10 @@ use Rattle.rules.specs.declared.Extent.{Extent}
 use Rattle.rules.specs.Cell.{quadrant, quarter}
 use Rattle.rules.specs.Tree.{Tree, none, leaf, node}
 use Rattle.tree_slots.specs.declared.Quadtree.{Quadtree}
-use Rattle.tree_slots.specs.Slots.{word, kids}
+use Rattle.tree_slots.specs.Slots.{word, kids, InSlots}
 use Rattle.tree_leaves.specs.Leaf.{side}
-use Rattle.tree_placing.specs.Add.{lead, Holds, pick, Reaches, FoundLeaf, FoundHole}
+use Rattle.tree_slots.specs.Trees.{lead, InternalIn}
+use Rattle.tree_placing.specs.Add.{Holds, pick, Reaches, FoundLeaf, FoundHole}
 use Rattle.tree_placing.proofs.SlotsTree.{lead-each, lead-none, leads-at}
 use Rattle.tree_placing.proofs.AddWay.{side-lt, reach-each, reach-stored, reach-down}
 use Rattle.tree_placing.proofs.AddHold.{reached, node-level}
@@ -28,21 +29,21 @@ module _ (at : List Float) (p : ℕ) where
   way-start m r b is q h e f = (h .tree, (f, refl), sym (h .root) ∙ e)
 
   module _ (is m : List ℕ) (q : Quadtree) (h : Holds at is m q) (s l : ℕ) (c : Extent) (u : Tree ℕ) (r : Reaches at p l (q .extent) (h .tree) c u) (e : lead u ≡ s + 1) where
-    pub way-slot : s * 8 + 8 ≤ length m
+    pub way-slot : InSlots s m
     way-slot = let b = lead-each (λ j. j < q .nodes) u s e (reach-each at p l (q .extent) (h .tree) c u r (λ j. j < q .nodes) (h .below)) in omega (arith, h .room)
 
-  pub way-leaf : (is m : List ℕ) (q : Quadtree) (h : Holds at is m q) (s l : ℕ) (c : Extent) (u : Tree ℕ) → Reaches at p l (q .extent) (h .tree) c u → lead u ≡ s + 1 → (word m s 0 ≡ 0 → ⊥)
+  pub way-leaf : (is m : List ℕ) (q : Quadtree) (h : Holds at is m q) (s l : ℕ) (c : Extent) (u : Tree ℕ) → Reaches at p l (q .extent) (h .tree) c u → lead u ≡ s + 1 → (InternalIn m s → ⊥)
       → FoundLeaf at is m q p s l (word m s 0 - 1) c
   way-leaf is m q h s l c none r e n = absurd (omega arith)
   way-leaf is m q h s l c (leaf z []) r e n = let (js, g, f) = reached at p is m q h l c (leaf z []) r in absurd (omega (arith, g .2, ap length (g .1)))
   way-leaf is m q h s l c (leaf z (i ∷ js)) r e n =
       let y : z ≡ s = omega arith in
       let t = reach-stored at p l (q .extent) (h .tree) c (leaf z (i ∷ js)) r m (h .stored) in
-      let f : i ≡ word m s 0 - 1 = omega (arith, ap (λ (j : ℕ). word m j 0) y) in
+      let f : i ≡ word m s 0 - 1 = omega (arith, t .tag, ap (λ (j : ℕ). word m j 0) y) in
       record { holds = h; rest = js; reached = subst (λ (f : ℕ). Reaches at p l (q .extent) (h .tree) c (leaf s (f ∷ js))) f (subst (λ (s : ℕ). Reaches at p l (q .extent) (h .tree) c (leaf s (i ∷ js))) y r) }
   way-leaf is m q h s l c (node z t0 t1 t2 t3) r e n =
       let y : z ≡ s = omega arith in
-      absurd (n (ap (λ (j : ℕ). word m j 0) (sym y) ∙ reach-stored at p l (q .extent) (h .tree) c (node z t0 t1 t2 t3) r m (h .stored) .0))
+      absurd (n (ap (λ (j : ℕ). word m j 0) (sym y) ∙ reach-stored at p l (q .extent) (h .tree) c (node z t0 t1 t2 t3) r m (h .stored) .0 .tag))
 
   -- an internal node: its level, and its child on the way
   pub record Inner (is m : List ℕ) (q : Quadtree) (h : Holds at is m q) (s l : ℕ) (c : Extent) : Type 0 where
@@ -54,11 +55,11 @@ module _ (at : List Float) (p : ℕ) where
     pub level : l ≤ 63
     pub child : getD (kids m s) (side at p c) 0 ≡ lead (pick t0 t1 t2 t3 (side at p c))
 
-  pub way-inner : (is m : List ℕ) (q : Quadtree) (h : Holds at is m q) (s l : ℕ) (c : Extent) (u : Tree ℕ) → Reaches at p l (q .extent) (h .tree) c u → lead u ≡ s + 1 → word m s 0 ≡ 0 → Inner is m q h s l c
+  pub way-inner : (is m : List ℕ) (q : Quadtree) (h : Holds at is m q) (s l : ℕ) (c : Extent) (u : Tree ℕ) → Reaches at p l (q .extent) (h .tree) c u → lead u ≡ s + 1 → InternalIn m s → Inner is m q h s l c
   way-inner is m q h s l c none r e n = absurd (omega arith)
   way-inner is m q h s l c (leaf z js) r e n =
       let y : z ≡ s = omega arith in
-      absurd (omega (arith, ap (λ (j : ℕ). word m j 0) y, reach-stored at p l (q .extent) (h .tree) c (leaf z js) r m (h .stored)))
+      absurd (omega (arith, ap (λ (j : ℕ). word m j 0) y, reach-stored at p l (q .extent) (h .tree) c (leaf z js) r m (h .stored) .tag))
   way-inner is m q h s l c (node z t0 t1 t2 t3) r e n =
       let y : z ≡ s = omega arith in
       let t = reach-stored at p l (q .extent) (h .tree) c (node z t0 t1 t2 t3) r m (h .stored) in
@@ -69,7 +70,7 @@ module _ (at : List Float) (p : ℕ) where
         t3 = t3;
         way = subst (λ (s : ℕ). Reaches at p l (q .extent) (h .tree) c (node s t0 t1 t2 t3)) y r;
         level = node-level at p is m q h l c z t0 t1 t2 t3 r;
-        child = ap (λ (j : ℕ). getD (kids m j) (side at p c) 0) (sym y) ∙ ap (λ (ks : List ℕ). getD ks (side at p c) 0) (t .1) ∙ leads-at (pick t0 t1 t2 t3) (side at p c) (side-lt at p c);
+        child = ap (λ (j : ℕ). getD (kids m j) (side at p c) 0) (sym y) ∙ ap (λ (ks : List ℕ). getD ks (side at p c) 0) (t .0 .kids) ∙ leads-at (pick t0 t1 t2 t3) (side at p c) (side-lt at p c);
       }
 
   module _ (is m : List ℕ) (q : Quadtree) (h : Holds at is m q) (s l : ℕ) (c : Extent) (i : Inner is m q h s l c) (k : ℕ) (e : k ≡ side at p c) where

@@ -15,12 +15,12 @@ use Rattle.rules.specs.Tree.{Tree, none, leaf, node, depth, nodes, inQuarter}
 use Rattle.rules.proofs.CellChain.{EachLeaf}
 use Rattle.rules.proofs.CellInsert.{insertT, into, insert-node}
 use Rattle.rules.proofs.CellDeep.{inQuarter-own}
-use Rattle.tree_slots.specs.Trees.{EachSlot, Apart, Once, inCells}
+use Rattle.tree_slots.specs.Trees.{EachSlot, Apart, Once, inCells, lead}
 use Rattle.tree_leaves.specs.Leaf.{side}
-use Rattle.tree_placing.specs.Add.{lead, Stored, pick, Reaches}
-use Rattle.tree_slots.proofs.Slots.{Same}
+use Rattle.tree_placing.specs.Add.{Stored, pick, Reaches}
+use Rattle.tree_slots.proofs.Slots.{Same, node-shown}
 use Rattle.tree_slots.proofs.Trees.{each-map}
-use Rattle.tree_placing.proofs.SlotsTree.{each-both, apart-sym, lead-each, over, upd, each-child, stored-child, leaf-child, upd-below, each-over, stored-over, leads-keep, depth-upd, nodes-upd, depth-child, once-out, once-apart, once-child, once-over, pair-upd, frame}
+use Rattle.tree_placing.proofs.SlotsTree.{each-both, apart-sym, lead-each, over, upd, each-child, stored-child, leaf-child, upd-below, each-over, stored-over, node-leads, leads-keep, depth-upd, nodes-upd, depth-child, once-out, once-apart, once-child, once-over, pair-upd, frame}
 use Rattle.tree_cells.proofs.Quadrant.{quadrant-lt}
 
 -- n levels more
@@ -169,7 +169,7 @@ module _ (at : List Float) (p : ℕ) where
       let z : Tree ℕ = plug n (quarter q c) (k q) v in
       let rest = plug-stored m w P n (quarter q c) (k q) d u v r e o f (each-child t0 t1 t2 t3 s P b q) (once-child s t0 t1 t2 t3 h q) (stored-child t0 t1 t2 t3 s m g q) in
       let own : Same m w s = f s (b .0) (λ y. lead-each (λ j. j ≡ s → ⊥) u s y (reach-each n (quarter q c) (k q) d u r (λ j. j ≡ s → ⊥) (once-out s t0 t1 t2 t3 h q)) refl) in (
-        stored-over w s (upd k q z) (own .0 ∙ g .0) (own .1 ∙ g .1 ∙ sym (leads-keep k q z (rest .1)))
+        stored-over w s (upd k q z) (node-leads w s k (upd k q z) (leads-keep k q z (rest .1)) (node-shown own (g .0)))
             (upd-below (λ i u. Stored w u) k q z (rest .0)
             (λ i l ne. frame m w (λ j. P j × (lead u ≡ j + 1 → ⊥)) (λ j y. f j (y .0) (y .1)) (k i)
             (each-both P (λ j. lead u ≡ j + 1 → ⊥) (k i) (each-child t0 t1 t2 t3 s P b i)

@@ -10,11 +10,10 @@ use borrow.Author.Tests.{eqb-true, eqb-false}
 use Rattle.rules.specs.Plain.{branch}
 use Rattle.rules.specs.Tree.{Tree, none, leaf, node, depth, nodes}
 use Rattle.rules.proofs.CellChain.{EachLeaf}
-use Rattle.tree_slots.specs.Slots.{word, kids}
-use Rattle.tree_slots.specs.Trees.{Follows, Leads, EachSlot, Apart, Once}
-use Rattle.tree_placing.specs.Add.{lead, Stored, pick}
+use Rattle.tree_slots.specs.Trees.{NodeIn, Follows, Leads, EachSlot, Apart, Once, lead}
+use Rattle.tree_placing.specs.Add.{Stored, pick}
 use Rattle.tree_slots.proofs.Trees.{each-map}
-use Rattle.tree_slots.proofs.Slots.{Same, Small}
+use Rattle.tree_slots.proofs.Slots.{Same, Small, leaf-shown, node-shown}
 
 -- ---- each slot
 
@@ -95,7 +94,7 @@ module _ (t0 t1 t2 t3 : Tree ℕ) where
   each-child s P h = pick-all (EachSlot P) (h .1) (h .2) (h .3) (h .4)
 
   pub stored-child : (s : ℕ) (m : List ℕ) → Stored m (node s t0 t1 t2 t3) → (r : ℕ) → Stored m (pick t0 t1 t2 t3 r)
-  stored-child s m h = pick-all (Stored m) (h .2) (h .3) (h .4) (h .5)
+  stored-child s m h = pick-all (Stored m) (h .1) (h .2) (h .3) (h .4)
 
   pub leaf-child : (s : ℕ) (Q : List ℕ → Type 0) → EachLeaf (λ _. Q) (node s t0 t1 t2 t3) → (r : ℕ) → EachLeaf (λ _. Q) (pick t0 t1 t2 t3 r)
   leaf-child s Q h = pick-all (EachLeaf (λ _. Q)) (h .0) (h .1) (h .2) (h .3)
@@ -115,8 +114,12 @@ upd-below P k q t a b r = upd-all (λ r u. r < 4 → P r u) k q t (λ l. a) (λ 
 pub each-over : (P : ℕ → Type 0) (s : ℕ) (k : ℕ → Tree ℕ) → P s → ((r : ℕ) → r < 4 → EachSlot P (k r)) → EachSlot P (over s k)
 each-over P s k h f = (h, f 0 (omega arith), f 1 (omega arith), f 2 (omega arith), f 3 (omega arith))
 
-pub stored-over : (m : List ℕ) (s : ℕ) (k : ℕ → Tree ℕ) → word m s 0 ≡ 0 → kids m s ≡ leads k → ((r : ℕ) → r < 4 → Stored m (k r)) → Stored m (over s k)
-stored-over m s k e f h = (e, f, h 0 (omega arith), h 1 (omega arith), h 2 (omega arith), h 3 (omega arith))
+pub stored-over : (m : List ℕ) (s : ℕ) (k : ℕ → Tree ℕ) → NodeIn m s (k 0) (k 1) (k 2) (k 3) → ((r : ℕ) → r < 4 → Stored m (k r)) → Stored m (over s k)
+stored-over m s k e h = (e, h 0 (omega arith), h 1 (omega arith), h 2 (omega arith), h 3 (omega arith))
+
+-- a node whose children are led to by the same numbers
+pub node-leads : (m : List ℕ) (s : ℕ) (k l : ℕ → Tree ℕ) → leads l ≡ leads k → NodeIn m s (k 0) (k 1) (k 2) (k 3) → NodeIn m s (l 0) (l 1) (l 2) (l 3)
+node-leads m s k l e n = record { tag = n .tag; kids = n .kids ∙ sym e }
 
 -- one number replaced
 pub leads-upd : (k : ℕ → Tree ℕ) (q v : ℕ) (t : Tree ℕ) → q < 4 → v ≡ lead t → set (leads k) q v ≡ leads (upd k q t)
@@ -234,10 +237,9 @@ pair-upd R k q t h a b i j =
 
 pub frame : (m w : List ℕ) (P : ℕ → Type 0) → ((j : ℕ) → P j → Same m w j) → (t : Tree ℕ) → EachSlot P t → Stored m t → Stored w t
 frame m w P f none a h = tt
-frame m w P f (leaf s is) a h = f s a .0 ∙ h
+frame m w P f (leaf s is) a h = leaf-shown (f s a) h
 frame m w P f (node s t0 t1 t2 t3) a h =
-    let e = f s (a .0) in
-    (e .0 ∙ h .0, e .1 ∙ h .1, frame m w P f t0 (a .1) (h .2), frame m w P f t1 (a .2) (h .3), frame m w P f t2 (a .3) (h .4), frame m w P f t3 (a .4) (h .5))
+    (node-shown (f s (a .0)) (h .0), frame m w P f t0 (a .1) (h .1), frame m w P f t1 (a .2) (h .2), frame m w P f t2 (a .3) (h .3), frame m w P f t3 (a .4) (h .4))
 
 -- ---- with and without the chains
 
@@ -245,4 +247,5 @@ pub stored-leads : (m next : List ℕ) (p : ℕ) (t : Tree ℕ) → p ≡ lead t
 stored-leads m next p none e h f = e
 stored-leads m next p (leaf s is) e h f = (e, h, f)
 stored-leads m next p (node s t0 t1 t2 t3) e h f =
-    (e, h .0, stored-leads m next _ t0 (cc) (h .2) (f .0), stored-leads m next _ t1 (cc) (h .3) (f .1), stored-leads m next _ t2 (cc) (h .4) (f .2), stored-leads m next _ t3 (cc) (h .5) (f .3))
+    let k = h .0 .kids in
+    (e, h .0, stored-leads m next _ t0 (cc) (h .1) (f .0), stored-leads m next _ t1 (cc) (h .2) (f .1), stored-leads m next _ t2 (cc) (h .3) (f .2), stored-leads m next _ t3 (cc) (h .4) (f .3))

@@ -2,7 +2,7 @@
 use mathlib.Core.Path.{_≡_}
 use mathlib.Core.Bool.{true}
 use mathlib.Core.List.{List, [], _∷_, _++_}
-use Prim.Native.Nat.{ℕ, zero, suc, _+_, _-_, _*_, _/_, _^_, _≤_, _<_, max}
+use Prim.Native.Nat.{ℕ, zero, suc, _+_, _-_, _*_, _^_, _≤_, _<_, max}
 use lib.ListN.{length, getD}
 use lib.Ieee.{Float}
 use Rattle.rules.specs.declared.Extent.{Extent}
@@ -12,6 +12,7 @@ use Rattle.rules.specs.Outcome.{Outcome, done, refused, refusal, Check, DoneOr,
 use Rattle.rules.specs.Refusal.{mostParticles}
 use Rattle.rules.specs.Cell.{quarter}
 use Rattle.rules.specs.Tree.{Tree, none, leaf, node, nodes, depth, treeIn, greatestLevel, fitsCheck}
+use Rattle.rules.specs.Calls.{slotWords, slotsOf}
 use Rattle.rules.proofs.CellList.{In}
 use Rattle.rules.proofs.CellInside.{Inside}
 use Rattle.rules.proofs.CoverTerms.{Grows}
@@ -23,24 +24,17 @@ use Rattle.tree_placing.specs.declared.Inserted.{Inserted}
 use Rattle.tree_placing.specs.declared.Inserted.the-variants.{Done, Deep, Full}
 use Rattle.tree_cells.specs.Cover.{squareOf, Reachable, Near, CoveredTo}
 use Rattle.tree_leaves.specs.Chain.{Linked}
-use Rattle.tree_slots.specs.Slots.{word, kids, putLeaf}
+use Rattle.tree_slots.specs.Slots.{putLeaf}
 use Rattle.tree_leaves.specs.Leaf.{side}
-use Rattle.tree_slots.specs.Trees.{first, Rises, EachSlot, Once, inCells}
+use Rattle.tree_slots.specs.Trees.{lead, LeafIn, InternalIn, NodeIn, Rises, EachSlot, Once, inCells}
 
 -- ---- trees in slots, whatever their chains
-
--- the number that leads to a tree
-abbrev pub lead : Tree ℕ → ℕ
-lead none = 0
-lead (leaf s is) = s + 1
-lead (node s t0 t1 t2 t3) = s + 1
 
 -- the slots hold the tree; of a leaf's chain only the first is there
 abbrev pub Stored : List ℕ → Tree ℕ → Type 0
 Stored m none = Unit {0}
-Stored m (leaf s is) = word m s 0 ≡ first is + 1
-Stored m (node s t0 t1 t2 t3) =
-    (word m s 0 ≡ 0) × (kids m s ≡ lead t0 ∷ lead t1 ∷ lead t2 ∷ lead t3 ∷ []) × Stored m t0 × Stored m t1 × Stored m t2 × Stored m t3
+Stored m (leaf s is) = LeafIn m s is
+Stored m (node s t0 t1 t2 t3) = NodeIn m s t0 t1 t2 t3 × Stored m t0 × Stored m t1 × Stored m t2 × Stored m t3
 
 -- The slots hold the tree of these points in the extent of q. No level lies below the deepest; there may be none that deep, after a removal.
 pub record Holds (at : List Float) (is m : List ℕ) (q : Quadtree) : Type 0 where
@@ -53,7 +47,7 @@ pub record Holds (at : List Float) (is m : List ℕ) (q : Quadtree) : Type 0 whe
   pub count : nodes tree ≡ q .nodes
   pub below : EachSlot (λ s. s < q .nodes) tree
   pub once : Once tree
-  pub room : q .nodes * 8 ≤ length m
+  pub room : q .nodes * slotWords ≤ length m
 
 -- one of four, by its number
 abbrev pub pick : {A : Type 0} → A → A → A → A → ℕ → A
@@ -132,7 +126,7 @@ insertOutcome p Full = refused (refusal 7 p)
 
 -- what the rules refuse of the tree with p in the extent c, in the slots m
 abbrev pub moreCheck : List Float → List ℕ → List ℕ → Extent → ℕ → Check
-moreCheck at is m c p = fitsCheck (length m / 8) p (treeIn at c (is ++ (p ∷ [])))
+moreCheck at is m c p = fitsCheck (slotsOf m) p (treeIn at c (is ++ (p ∷ [])))
 
 -- It is refused as the rules refuse it; otherwise the slots hold the tree with p in the extent c.
 abbrev pub Grown : List Float → List ℕ → List ℕ → Extent → ℕ → Inserted → Type 0
@@ -157,14 +151,14 @@ pub record Inserts (at : List Float) (is m next tail : List ℕ) (q : Quadtree) 
 pub record Wraps (at : List Float) (is m : List ℕ) (q : Quadtree) (to : Extent) (p n : ℕ) : Type 0 where
   pub holds : Holds at is m q
   pub rooted : 0 < q .root
-  pub internal : word m (q .root - 1) 0 ≡ 0
+  pub internal : InternalIn m (q .root - 1)
   pub near : Near (q .extent) (xAt at p) (yAt at p)
   pub ranged : (i : ℕ) → In i is → (within (xAt at i) ≡ true) × (within (yAt at i) ≡ true)
   pub inside : (i : ℕ) → In i is → Inside at (q .extent) i
   pub grows : Grows (floor (xAt at p)) (floor (yAt at p)) n (squareOf (q .extent)) (squareOf to)
   pub end : Reachable to
   pub levels : q .deepest + n ≤ greatestLevel
-  pub room : (q .nodes + n) * 8 ≤ length m
+  pub room : (q .nodes + n) * slotWords ≤ length m
   pub small : q .nodes + n < 2 ^ 32
   pub read : p * 2 + 2 ≤ length at
 
@@ -181,4 +175,4 @@ Enlarged at is m c p r = DoneOr (Wrapped at is m c) (λ z. moreCheck at is m c p
 -- the first leaf, which is the whole tree, or what the rules refuse of it
 abbrev pub Planted : List ℕ → List ℕ → Extent → ℕ → Inserted → Type 0
 Planted m w c p r =
-    DoneUnless (fitsCheck (length w / 8) p (leaf c (p ∷ []))) (λ q. (w ≡ putLeaf m 0 p) × (q ≡ record { extent = c; root = 1; nodes = 1; deepest = 0 })) (insertOutcome p r)
+    DoneUnless (fitsCheck (slotsOf w) p (leaf c (p ∷ []))) (λ q. (w ≡ putLeaf m 0 p) × (q ≡ record { extent = c; root = 1; nodes = 1; deepest = 0 })) (insertOutcome p r)

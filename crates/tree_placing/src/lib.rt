@@ -6,11 +6,11 @@ ghost use Prim.Native.Nat.{ℕ, _+_, _*_, _≤_, _<_, max};
 ghost use Rattle.rules.specs.Refusal.{mostParticles};
 ghost use Rattle.rules.specs.Tree.{same, greatestLevel};
 ghost use Rattle.tree_placing.specs.Add.{withMore, Seeks, Alone, Found, Puts, FoundLeaf, Grown, Placed};
+use rules::Extent;
 use tree_cells::indexer::Indexer;
 use tree_leaves::chain;
 use tree_leaves::leaf;
 use tree_leaves::point;
-use rules::Extent;
 use tree_slots::Quadtree;
 use tree_slots::store;
 
@@ -97,7 +97,7 @@ fn at_leaf(
         → Grown (now (at .entry)) is (now (m .exit)) (q .extent) p r) ⌝ }
 {
     let left = Quadtree::GREATEST_LEVEL - l;
-    let g = leaf::meet(at, cell, left, f, p);
+    let g = leaf::shared_levels(at, cell, left, f, p);
     if g == left {
         return Inserted::Deep;
     }

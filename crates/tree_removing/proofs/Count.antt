@@ -11,9 +11,9 @@ use borrow.Author.Tests.{eqb-true, eqb-false, ne-eqb}
 use Rattle.rules.specs.declared.Extent.{Extent}
 use Rattle.rules.specs.Cell.{quarter}
 use Rattle.rules.specs.Tree.{Tree, none, leaf, node, nodes}
-use Rattle.tree_slots.specs.Trees.{EachSlot, Apart, Once}
+use Rattle.tree_slots.specs.Trees.{EachSlot, Apart, Once, lead}
 use Rattle.tree_leaves.specs.Leaf.{side}
-use Rattle.tree_placing.specs.Add.{lead, pick, Reaches}
+use Rattle.tree_placing.specs.Add.{pick, Reaches}
 use Rattle.tree_removing.specs.Remove.{Lie, OnWay, LeafOf}
 
 -- how often the slot x stands in the tree

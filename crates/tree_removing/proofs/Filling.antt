@@ -12,21 +12,22 @@ use Rattle.rules.specs.Tree.{Tree, none, leaf, node, depth, nodes}
 use Rattle.rules.proofs.CellCount.{Fruitful}
 use Rattle.rules.proofs.CellChain.{EachLeaf}
 use Rattle.tree_slots.specs.declared.Quadtree.{Quadtree}
-use Rattle.tree_slots.specs.Slots.{kids, putInternal, copied}
+use Rattle.tree_slots.specs.Slots.{kids, putInternal, copied, InSlots}
 use Rattle.tree_slots.proofs.Trees.{each-map}
-use Rattle.tree_placing.specs.Add.{lead, Stored, pick, Reaches}
+use Rattle.tree_placing.specs.Add.{Stored, pick, Reaches}
 use Rattle.tree_placing.proofs.SlotsTree.{over, upd, each-child, stored-child, depth-child}
 use Rattle.tree_placing.proofs.AddWay.{reach-each, plug}
-use Rattle.tree_removing.specs.Remove.{Placed, But, Hollow, Filled, LeafOf}
-use Rattle.tree_removing.specs.Ways.{Lent, Rooted, Under, Above}
+use Rattle.tree_slots.specs.Trees.{lead, SlotsLent}
+use Rattle.tree_removing.specs.Remove.{HasPlace, But, Hollow, Filled, LeafOf}
+use Rattle.tree_removing.specs.Ways.{StandsFrom, Under, Above}
 use Rattle.tree_removing.specs.declared.way.Edge.{Edge}
 use Rattle.tree_removing.proofs.Plug.{fruit-child}
-use Rattle.tree_removing.proofs.Replace.{lies-slots, relabel}
+use Rattle.tree_removing.proofs.Replace.{occupies-slots, relabel}
 use Rattle.tree_removing.proofs.Move.{relabel-cells, move-root, move-child, move-cells}
 use Rattle.tree_removing.proofs.Count.{Sub, last-there, sub-of}
 
 -- what holds of each chain holds of a leaf's
-placed-of : (at : List Float) (f : ℕ) (t : Tree ℕ) → EachLeaf (λ _. Placed at) t → LeafOf f t → (f < mostParticles) × (f * 2 + 2 ≤ length at)
+placed-of : (at : List Float) (f : ℕ) (t : Tree ℕ) → EachLeaf (λ _. HasPlace at) t → LeafOf f t → (f < mostParticles) × (f * 2 + 2 ≤ length at)
 placed-of at f none h m = absurd m
 placed-of at f (leaf s js) h m = subst (λ (y : ℕ). (y < mostParticles) × (y * 2 + 2 ≤ length at)) m h
 placed-of at f (node s t0 t1 t2 t3) h (inl m) = placed-of at f t0 (h .0) m
@@ -46,7 +47,7 @@ module _ (at : List Float) (m : List ℕ) (q : Quadtree) (h : ℕ) (t : Tree ℕ
   fill-last e =
       record {
         tree = t;
-        whole = lies-slots at m c (q .root) n (But n h) (λ j. j < n) (λ j y. let (a, b) = y in less j a (λ z. b (z ∙ sym e))) t (g .lies);
+        packed = occupies-slots at m c (q .root) n (But n h) (λ j. j < n) (λ j y. let (a, b) = y in less j a (λ z. b (z ∙ sym e))) t (g .occupies);
         cells = refl;
         extent = refl;
         nodes = refl;
@@ -56,8 +57,8 @@ module _ (at : List Float) (m : List ℕ) (q : Quadtree) (h : ℕ) (t : Tree ℕ
       less : (j : ℕ) → j < q .nodes + 1 → (j ≡ q .nodes → ⊥) → j < q .nodes
       less j a b = omega arith
 
-  lent : Lent m t
-  lent = each-map (But n h) (λ j. j * 8 + 8 ≤ length m) (λ j y. let (a, b) = y in omega (arith, a, g .room)) t (g .lies .slots)
+  lent : SlotsLent m t
+  lent = each-map (But n h) (λ j. InSlots j m) (λ j y. let (a, b) = y in omega (arith, a, g .room)) t (g .occupies .slots)
 
   module _ (ne : h ≡ q .nodes → ⊥) where
     less : h < q .nodes
@@ -68,7 +69,7 @@ module _ (at : List Float) (m : List ℕ) (q : Quadtree) (h : ℕ) (t : Tree ℕ
     fill-root e =
         record {
           tree = relabel h t;
-          whole = move-root at m c n h less (g .room) (q .root) t (g .lies) (sym (g .lies .leads) ∙ e);
+          packed = move-root at m c n h less (g .room) (q .root) t (g .occupies) (sym (g .occupies .leads) ∙ e);
           cells = relabel-cells h c t;
           extent = refl;
           nodes = refl;
@@ -79,22 +80,22 @@ module _ (at : List Float) (m : List ℕ) (q : Quadtree) (h : ℕ) (t : Tree ℕ
     sub : Sub at (q .extent) t (q .nodes)
     sub =
         sub-of at n c t
-        (last-there n h t (g .lies .count) (g .lies .once) (each-map (But n h) (λ j. j < suc n) (λ j y. let (a, b) = y in omega (arith, a)) t (g .lies .slots)) (each-map (But n h) (λ j. j ≡ h → ⊥) (λ j y. y .1) t (g .lies .slots)) less) (g .lies .ways)
+        (last-there n h t (g .occupies .count) (g .occupies .once) (each-map (But n h) (λ j. j < suc n) (λ j y. let (a, b) = y in omega (arith, a)) t (g .occupies .slots)) (each-map (But n h) (λ j. j ≡ h → ⊥) (λ j y. y .1) t (g .occupies .slots)) less) (g .occupies .ways)
 
-    rooted : Rooted m (q .nodes) (sub .tree)
+    rooted : StandsFrom m (q .nodes) (sub .tree)
     rooted =
         record {
           top = sub .top;
-          stored = sub .part (Stored m) (λ s t0 t1 t2 t3 h. stored-child t0 t1 t2 t3 s m h) (g .lies .stored);
-          lent = sub .part (Lent m) (λ s t0 t1 t2 t3 h. each-child t0 t1 t2 t3 s (λ j. j * 8 + 8 ≤ length m) h) lent;
-          fruitful = sub .part Fruitful (λ s t0 t1 t2 t3 h. fruit-child s t0 t1 t2 t3 h) (g .lies .fruitful);
-          levels = sub .part (λ u. depth u ≤ 65) (λ s t0 t1 t2 t3 h r. omega (arith, depth-child s t0 t1 t2 t3 r, h)) (g .lies .most);
+          stored = sub .part (Stored m) (λ s t0 t1 t2 t3 h. stored-child t0 t1 t2 t3 s m h) (g .occupies .stored);
+          lent = sub .part (SlotsLent m) (λ s t0 t1 t2 t3 h. each-child t0 t1 t2 t3 s (λ j. InSlots j m) h) lent;
+          fruitful = sub .part Fruitful (λ s t0 t1 t2 t3 h. fruit-child s t0 t1 t2 t3 h) (g .occupies .fruitful);
+          levels = sub .part (λ u. depth u ≤ 65) (λ s t0 t1 t2 t3 h r. omega (arith, depth-child s t0 t1 t2 t3 r, h)) (g .occupies .most);
         }
 
-    pub fill-rooted : (u : Tree ℕ) × Rooted m (q .nodes) u
+    pub fill-rooted : (u : Tree ℕ) × StandsFrom m (q .nodes) u
     fill-rooted = (sub .tree, rooted)
 
-    module _ (f : ℕ) (below : (u : Tree ℕ) → Rooted m (q .nodes) u → LeafOf f u) (nr : q .root ≡ q .nodes + 1 → ⊥) where
+    module _ (f : ℕ) (below : (u : Tree ℕ) → StandsFrom m (q .nodes) u → LeafOf f u) (nr : q .root ≡ q .nodes + 1 → ⊥) where
       own : LeafOf f (sub .tree)
       own = below (sub .tree) rooted
 
@@ -102,38 +103,38 @@ module _ (at : List Float) (m : List ℕ) (q : Quadtree) (h : ℕ) (t : Tree ℕ
       deep = go (sub .way f own)
         where
           go : (l : ℕ) × (d : Extent) × Reaches at f l (q .extent) t d (sub .tree) → (l : ℕ) × (d : Extent) × Reaches at f (suc l) (q .extent) t d (sub .tree)
-          go (zero, d, r) = absurd (nr (g .lies .leads ∙ ap lead (r .1) ∙ sub .top))
+          go (zero, d, r) = absurd (nr (g .occupies .leads ∙ ap lead (r .1) ∙ sub .top))
           go (suc l, d, r) = (l, d, r)
 
       pub fill-under : Under at m q (q .nodes) f t
       fill-under =
           record {
-            leads = g .lies .leads;
-            stored = g .lies .stored;
+            leads = g .occupies .leads;
+            stored = g .occupies .stored;
             lent = lent;
-            levels = g .lies .most;
+            levels = g .occupies .most;
             down = deep .0;
             cell = deep .1;
             sub = sub .tree;
             way = deep .2;
             top = sub .top;
-            place = placed-of at f t (g .lies .places) (sub .up f own) .1;
+            place = placed-of at f t (g .occupies .places) (sub .up f own) .1;
             small = omega (arith, g .few);
           }
 
       -- the slots that are written
       pub fill-slots : (r : Edge) → Above at (q .extent) t (q .nodes) f r
-          → (r .slot * 8 + 8 ≤ length m) × (r .quadrant < 4) × (q .nodes * 8 + 8 ≤ length m) × (h * 8 + 8 ≤ length m) × (h + 1 < 2 ^ 32)
+          → InSlots (r .slot) m × (r .quadrant < 4) × InSlots (q .nodes) m × InSlots h m × (h + 1 < 2 ^ 32)
       fill-slots r b =
-          (reach-each at f (b .level) c t (b .cell) (node (r .slot) (b .t0) (b .t1) (b .t2) (b .t3)) (b .way) (λ j. j * 8 + 8 ≤ length m) lent .0, b .less, omega (arith, g .room), omega (arith, g .room, less), omega (arith, less, g .few))
+          (reach-each at f (b .level) c t (b .cell) (node (r .slot) (b .t0) (b .t1) (b .t2) (b .t3)) (b .way) (λ j. InSlots j m) lent .0, b .less, omega (arith, g .room), omega (arith, g .room, less), omega (arith, less, g .few))
 
       pub fill-child : (r : Edge) → Above at (q .extent) t (q .nodes) f r → (w : List ℕ)
           → w ≡ putInternal (copied m (q .nodes) h) (r .slot) (set (kids (copied m (q .nodes) h) (r .slot)) (r .quadrant) (h + 1)) → Filled at w q q t
       fill-child r b w e =
           record {
             tree = plug at f (b .level) c t (over (r .slot) (upd (pick (b .t0) (b .t1) (b .t2) (b .t3)) (r .quadrant) (relabel h (pick (b .t0) (b .t1) (b .t2) (b .t3) (r .quadrant)))));
-            whole = move-child at m c n h less (g .room) f (q .root) t (g .lies) (b .level) (b .cell) (r .slot) (b .t0) (b .t1) (b .t2) (b .t3) (b .way) (r .quadrant) (b .less) (b .child) (omega (arith, g .few)) w e;
-            cells = move-cells at m c n h less (g .room) f (q .root) t (g .lies) (b .level) (b .cell) (r .slot) (b .t0) (b .t1) (b .t2) (b .t3) (b .way) (r .quadrant) (b .less) (b .child) (omega (arith, g .few));
+            packed = move-child at m c n h less (g .room) f (q .root) t (g .occupies) (b .level) (b .cell) (r .slot) (b .t0) (b .t1) (b .t2) (b .t3) (b .way) (r .quadrant) (b .less) (b .child) (omega (arith, g .few)) w e;
+            cells = move-cells at m c n h less (g .room) f (q .root) t (g .occupies) (b .level) (b .cell) (r .slot) (b .t0) (b .t1) (b .t2) (b .t3) (b .way) (r .quadrant) (b .less) (b .child) (omega (arith, g .few));
             extent = refl;
             nodes = refl;
             deepest = refl;

@@ -1,9 +1,9 @@
--- The last internal node on a way: it is settled, or its one child is a leaf.
+-- The last internal node on a way: it is gathered, or its one child is a leaf.
 use mathlib.Core.Path.{_≡_, refl, sym, ap, _∙_, subst}
 use mathlib.Core.List.{List, [], _++_, append-nil}
-use Prim.Native.Nat.{ℕ, zero, suc, _+_, _-_, _*_, _≤_, _<_}
+use Prim.Native.Nat.{ℕ, zero, suc, _+_, _-_, _≤_, _<_}
 use native.Mathlib.Omega.{arith}
-use lib.ListN.{length, getD}
+use lib.ListN.{getD}
 use lib.Ieee.{Float}
 use Rattle.rules.specs.declared.Extent.{Extent}
 use Rattle.rules.specs.Cell.{quarter}
@@ -11,20 +11,20 @@ use Rattle.rules.specs.Tree.{Tree, none, leaf, node, nodes}
 use Rattle.rules.proofs.CellCount.{Fruitful}
 use Rattle.rules.proofs.CellWithout.{joined, leaves-nodes, joined-node}
 use Rattle.tree_slots.specs.declared.Quadtree.{Quadtree}
-use Rattle.tree_slots.specs.Slots.{word, kids}
-use Rattle.tree_slots.specs.Trees.{inCells}
+use Rattle.tree_slots.specs.Slots.{word, kids, InSlots}
+use Rattle.tree_slots.specs.Trees.{inCells, lead, InternalIn, SlotsLent}
 use Rattle.tree_slots.proofs.Trees.{each-map, cells-nodes}
 use Rattle.tree_leaves.specs.Leaf.{side}
-use Rattle.tree_placing.specs.Add.{lead, Stored, pick}
+use Rattle.tree_placing.specs.Add.{Stored, pick}
 use Rattle.tree_placing.proofs.SlotsTree.{lead-each, lead-none, leads, each-child, stored-child}
 use Rattle.tree_placing.proofs.Roots.{root-leaf}
 use Rattle.tree_placing.proofs.AddWay.{reach-all, reach-each, reach-stored}
-use Rattle.tree_removing.specs.Remove.{settle, Tidies, FoldsAt}
-use Rattle.tree_removing.specs.Ways.{firstOf, someKid, Lent, Tops, Outer, Ends}
+use Rattle.tree_removing.specs.Remove.{gather, Tidies, FoldsAt}
+use Rattle.tree_removing.specs.Ways.{firstOf, someKid, Tops, Outer, Innermost}
 use Rattle.tree_removing.specs.declared.way.Edge.{Edge}
 use Rattle.tree_removing.proofs.Plug.{fruit-child}
 use Rattle.tree_removing.proofs.Turns.{some-kid}
-use Rattle.tree_removing.proofs.Settle.{settle-leaf, settle-none, settle-node, settle-stays}
+use Rattle.tree_removing.proofs.Gather.{gather-leaf, gather-none, gather-node, gather-stays}
 
 -- ---- four numbers
 
@@ -84,28 +84,28 @@ module _ (at : List Float) (m : List ℕ) (q : Quadtree) (i : ℕ) (t : Tree ℕ
   abbrev c : Extent
   c = q .extent
 
-  lent : Lent m t
-  lent = each-map (λ j. j < q .nodes) (λ j. j * 8 + 8 ≤ length m) (λ j y. omega (arith, y, g .room)) t (g .whole .slots)
+  lent : SlotsLent m t
+  lent = each-map (λ j. j < q .nodes) (λ j. InSlots j m) (λ j y. omega (arith, y, g .room)) t (g .packed .slots)
 
   -- ---- no internal root
 
-  pub lone-none : q .root ≡ 0 → settle at i (q .extent) (inCells (q .extent) t) ≡ inCells (q .extent) t
-  lone-none e = subst (λ (u : Tree ℕ). settle at i c (inCells c u) ≡ inCells c u) (sym (lead-none t (sym (g .whole .leads) ∙ e))) (settle-none at i c)
+  pub lone-none : q .root ≡ 0 → gather at i (q .extent) (inCells (q .extent) t) ≡ inCells (q .extent) t
+  lone-none e = subst (λ (u : Tree ℕ). gather at i c (inCells c u) ≡ inCells c u) (sym (lead-none t (sym (g .packed .leads) ∙ e))) (gather-none at i c)
 
-  pub lone-leaf : (q .root ≡ 0 → ⊥) → (word m (q .root - 1) 0 ≡ 0 → ⊥) → settle at i (q .extent) (inCells (q .extent) t) ≡ inCells (q .extent) t
+  pub lone-leaf : (q .root ≡ 0 → ⊥) → (InternalIn m (q .root - 1) → ⊥) → gather at i (q .extent) (inCells (q .extent) t) ≡ inCells (q .extent) t
   lone-leaf n e =
-      let (s, js, z) = root-leaf m t (q .root) (g .whole .leads) (omega (arith, n)) e (g .whole .stored) in
-      subst (λ (u : Tree ℕ). settle at i c (inCells c u) ≡ inCells c u) (sym z) (settle-leaf at i c c js)
+      let (s, js, z) = root-leaf m t (q .root) (g .packed .leads) (omega (arith, n)) e (g .packed .stored) in
+      subst (λ (u : Tree ℕ). gather at i c (inCells c u) ≡ inCells c u) (sym z) (gather-leaf at i c c js)
 
   -- ---- an internal root
 
-  pub lone-tops : (q .root ≡ 0 → ⊥) → word m (q .root - 1) 0 ≡ 0 → Tops at m q i t
-  lone-tops n e = record { leads = g .whole .leads; rooted = omega (arith, n); internal = e; stored = g .whole .stored; lent = lent; levels = g .whole .most; place = g .place }
+  pub lone-tops : (q .root ≡ 0 → ⊥) → InternalIn m (q .root - 1) → Tops at m q i t
+  lone-tops n e = record { leads = g .packed .leads; rooted = omega (arith, n); internal = e; stored = g .packed .stored; lent = lent; levels = g .packed .most; place = g .place }
 
-  pub lone-root : (q .root ≡ 0 → ⊥) → (q .root - 1) * 8 + 8 ≤ length m
-  lone-root n = lead-each (λ j. j * 8 + 8 ≤ length m) t (q .root - 1) (sym (g .whole .leads) ∙ (let z : q .root ≡ q .root - 1 + 1 = omega (arith, n) in z)) lent
+  pub lone-root : (q .root ≡ 0 → ⊥) → InSlots (q .root - 1) m
+  lone-root n = lead-each (λ j. InSlots j m) t (q .root - 1) (sym (g .packed .leads) ∙ (let z : q .root ≡ q .root - 1 + 1 = omega (arith, n) in z)) lent
 
-  module _ (e : Edge) (h : Ends at (q .extent) t i e) where
+  module _ (e : Edge) (h : Innermost at (q .extent) t i e) where
     abbrev k : ℕ → Tree ℕ
     k = pick (h .t0) (h .t1) (h .t2) (h .t3)
 
@@ -113,26 +113,26 @@ module _ (at : List Float) (m : List ℕ) (q : Quadtree) (i : ℕ) (t : Tree ℕ
     u = node (e .slot) (h .t0) (h .t1) (h .t2) (h .t3)
 
     fruit : Fruitful (node (e .slot) (h .t0) (h .t1) (h .t2) (h .t3))
-    fruit = reach-all at i Fruitful (λ s t0 t1 t2 t3 h. fruit-child s t0 t1 t2 t3 h) (h .level) c t (h .cell) u (h .way) (g .whole .fruitful)
+    fruit = reach-all at i Fruitful (λ s t0 t1 t2 t3 h. fruit-child s t0 t1 t2 t3 h) (h .level) c t (h .cell) u (h .way) (g .packed .fruitful)
 
-    pub lone-slot : e .slot * 8 + 8 ≤ length m
-    lone-slot = reach-each at i (h .level) c t (h .cell) u (h .way) (λ j. j * 8 + 8 ≤ length m) lent .0
+    pub lone-slot : InSlots (e .slot) m
+    lone-slot = reach-each at i (h .level) c t (h .cell) u (h .way) (λ j. InSlots j m) lent .0
 
     kids-are : kids m (e .slot) ≡ leads (pick (h .t0) (h .t1) (h .t2) (h .t3))
-    kids-are = reach-stored at i (h .level) c t (h .cell) u (h .way) m (g .whole .stored) .1
+    kids-are = reach-stored at i (h .level) c t (h .cell) u (h .way) m (g .packed .stored) .0 .kids
 
-    still : settle at i (h .cell) (inCells (h .cell) u) ≡ joined (h .cell) (inCells (quarter 0 (h .cell)) (h .t0)) (inCells (quarter 1 (h .cell)) (h .t1)) (inCells (quarter 2 (h .cell)) (h .t2)) (inCells (quarter 3 (h .cell)) (h .t3))
-    still = settle-node at i (h .cell) (e .slot) (h .t0) (h .t1) (h .t2) (h .t3) (outer (quarter (side at i (h .cell)) (h .cell)) (k (side at i (h .cell))) (subst (λ (j : ℕ). Outer (k j)) (h .quadrant) (h .outer)))
+    still : gather at i (h .cell) (inCells (h .cell) u) ≡ joined (h .cell) (inCells (quarter 0 (h .cell)) (h .t0)) (inCells (quarter 1 (h .cell)) (h .t1)) (inCells (quarter 2 (h .cell)) (h .t2)) (inCells (quarter 3 (h .cell)) (h .t3))
+    still = gather-node at i (h .cell) (e .slot) (h .t0) (h .t1) (h .t2) (h .t3) (outer (quarter (side at i (h .cell)) (h .cell)) (k (side at i (h .cell))) (subst (λ (j : ℕ). Outer (k j)) (h .quadrant) (h .outer)))
       where
-        outer : (d : Extent) (v : Tree ℕ) → Outer v → settle at i d (inCells d v) ≡ inCells d v
-        outer d none o = settle-none at i d
-        outer d (leaf s is) o = settle-leaf at i d d is
+        outer : (d : Extent) (v : Tree ℕ) → Outer v → gather at i d (inCells d v) ≡ inCells d v
+        outer d none o = gather-none at i d
+        outer d (leaf s is) o = gather-leaf at i d d is
         outer d (node s t0 t1 t2 t3) o = absurd o
 
     -- two nodes or more below it
-    stays : 2 ≤ nodes (h .t0) + nodes (h .t1) + nodes (h .t2) + nodes (h .t3) → settle at i (q .extent) (inCells (q .extent) t) ≡ inCells (q .extent) t
+    stays : 2 ≤ nodes (h .t0) + nodes (h .t1) + nodes (h .t2) + nodes (h .t3) → gather at i (q .extent) (inCells (q .extent) t) ≡ inCells (q .extent) t
     stays l =
-        settle-stays at i (h .level) c t (h .cell) u (h .way) (omega arith)
+        gather-stays at i (h .level) c t (h .cell) u (h .way) (omega arith)
         (still ∙ joined-node (h .cell) (inCells (quarter 0 (h .cell)) (h .t0)) (inCells (quarter 1 (h .cell)) (h .t1)) (inCells (quarter 2 (h .cell)) (h .t2)) (inCells (quarter 3 (h .cell)) (h .t3))
         (λ z. omega (arith, cells-nodes (quarter 0 (h .cell)) (h .t0), cells-nodes (quarter 1 (h .cell)) (h .t1), cells-nodes (quarter 2 (h .cell)) (h .t2), cells-nodes (quarter 3 (h .cell)) (h .t3))))
 
@@ -143,7 +143,7 @@ module _ (at : List Float) (m : List ℕ) (q : Quadtree) (i : ℕ) (t : Tree ℕ
       kid-is : someKid ks ≡ someKid (leads (pick (h .t0) (h .t1) (h .t2) (h .t3)))
       kid-is = ap someKid (ek ∙ kids-are)
 
-      pub lone-many : (someKid ks ≡ getD ks 0 0 + getD ks 1 0 + getD ks 2 0 + getD ks 3 0 → ⊥) → settle at i (q .extent) (inCells (q .extent) t) ≡ inCells (q .extent) t
+      pub lone-many : (someKid ks ≡ getD ks 0 0 + getD ks 1 0 + getD ks 2 0 + getD ks 3 0 → ⊥) → gather at i (q .extent) (inCells (q .extent) t) ≡ inCells (q .extent) t
       lone-many n =
           stays (two-kids (lead (h .t0)) (lead (h .t1)) (lead (h .t2)) (lead (h .t3)) (nodes (h .t0)) (nodes (h .t1)) (nodes (h .t2)) (nodes (h .t3)) (lead-nodes (h .t0)) (lead-nodes (h .t1)) (lead-nodes (h .t2)) (lead-nodes (h .t3))
           (λ z. n (kid-is ∙ z ∙ sym sum-is)))
@@ -158,30 +158,30 @@ module _ (at : List Float) (m : List ℕ) (q : Quadtree) (i : ℕ) (t : Tree ℕ
         nonzero : someKid ks ≡ someKid ks - 1 + 1
         nonzero = omega (arith, some)
 
-        pub lone-child : (0 < someKid ks) × ((someKid ks - 1) * 8 + 8 ≤ length m)
+        pub lone-child : (0 < someKid ks) × InSlots (someKid ks - 1) m
         lone-child = (
           some,
-          lead-each (λ j. j * 8 + 8 ≤ length m) (k (only .r)) (someKid ks - 1) (only .is ∙ nonzero)
-              (each-child (h .t0) (h .t1) (h .t2) (h .t3) (e .slot) (λ j. j * 8 + 8 ≤ length m) (reach-each at i (h .level) c t (h .cell) u (h .way) (λ j. j * 8 + 8 ≤ length m) lent) (only .r)),
+          lead-each (λ j. InSlots j m) (k (only .r)) (someKid ks - 1) (only .is ∙ nonzero)
+              (each-child (h .t0) (h .t1) (h .t2) (h .t3) (e .slot) (λ j. InSlots j m) (reach-each at i (h .level) c t (h .cell) u (h .way) (λ j. InSlots j m) lent) (only .r)),
         )
 
         st : Stored m (k (only .r))
-        st = stored-child (h .t0) (h .t1) (h .t2) (h .t3) (e .slot) m (reach-stored at i (h .level) c t (h .cell) u (h .way) m (g .whole .stored)) (only .r)
+        st = stored-child (h .t0) (h .t1) (h .t2) (h .t3) (e .slot) m (reach-stored at i (h .level) c t (h .cell) u (h .way) m (g .packed .stored)) (only .r)
 
-        pub lone-inner : word m (someKid ks - 1) 0 ≡ 0 → settle at i (q .extent) (inCells (q .extent) t) ≡ inCells (q .extent) t
+        pub lone-inner : InternalIn m (someKid ks - 1) → gather at i (q .extent) (inCells (q .extent) t) ≡ inCells (q .extent) t
         lone-inner n = stays (omega (arith, only .total, go (k (only .r)) (only .is) st (fruit-child (e .slot) (h .t0) (h .t1) (h .t2) (h .t3) fruit (only .r))))
           where
             go : (v : Tree ℕ) → lead v ≡ someKid ks → Stored m v → Fruitful v → 2 ≤ nodes v
             go none w s f = absurd (omega (arith, some))
-            go (leaf z is) w s f = let y : z ≡ someKid ks - 1 = omega arith in absurd (omega (arith, s, n, ap (λ (j : ℕ). word m j 0) y))
+            go (leaf z is) w s f = let y : z ≡ someKid ks - 1 = omega arith in absurd (omega (arith, s .tag, n, ap (λ (j : ℕ). word m j 0) y))
             go (node z v0 v1 v2 v3) w s f = omega (arith, f .0, leaves-nodes v0, leaves-nodes v1, leaves-nodes v2, leaves-nodes v3)
 
-        pub lone-fold : (word m (someKid ks - 1) 0 ≡ 0 → ⊥) → FoldsAt at (q .extent) t i (e .slot) (someKid ks - 1)
+        pub lone-fold : (InternalIn m (someKid ks - 1) → ⊥) → FoldsAt at (q .extent) t i (e .slot) (someKid ks - 1)
         lone-fold n = go (k (only .r)) refl (only .is) st
           where
             go : (v : Tree ℕ) → pick (h .t0) (h .t1) (h .t2) (h .t3) (only .r) ≡ v → lead v ≡ someKid ks → Stored m v → FoldsAt at (q .extent) t i (e .slot) (someKid ks - 1)
             go none y w s = absurd (omega (arith, some))
-            go (node z v0 v1 v2 v3) y w s = let x : someKid ks - 1 ≡ z = omega arith in absurd (n (ap (λ (j : ℕ). word m j 0) x ∙ s .0))
+            go (node z v0 v1 v2 v3) y w s = let x : someKid ks - 1 ≡ z = omega arith in absurd (n (ap (λ (j : ℕ). word m j 0) x ∙ s .0 .tag))
             go (leaf z js) y w s =
                 let x : z ≡ someKid ks - 1 = omega arith in
                 record {
@@ -197,5 +197,5 @@ module _ (at : List Float) (m : List ℕ) (q : Quadtree) (i : ℕ) (t : Tree ℕ
                   chain = js;
                   child = y ∙ ap (λ (j : ℕ). leaf j js) x;
                   two = omega (arith, only .total, ap nodes y);
-                  settled = still ∙ only .joins (h .cell) z js y;
+                  gathered = still ∙ only .joins (h .cell) z js y;
                 }

@@ -16,15 +16,14 @@ use Rattle.rules.proofs.CellDeep.{inQuarter-is}
 use Rattle.rules.proofs.CellCount.{Fruitful, fruitful, leaves-distinct}
 use Rattle.rules.proofs.CellWithout.{two-distinct}
 use Rattle.tree_slots.specs.declared.Quadtree.{Quadtree}
-use Rattle.tree_slots.specs.Trees.{first, inCells}
+use Rattle.tree_slots.specs.Trees.{first, inCells, InSlots, SlotsLent}
 use Rattle.tree_slots.proofs.Links.{head-in}
 use Rattle.tree_slots.proofs.Trees.{each-map}
 use Rattle.tree_leaves.specs.Leaf.{side}
 use Rattle.tree_placing.specs.Add.{Holds, pick}
 use Rattle.tree_placing.proofs.SlotsTree.{pick-all}
 use Rattle.tree_placing.proofs.AddHold.{holds-most, holds-is}
-use Rattle.tree_removing.specs.Remove.{Lie, OnWay, Whole}
-use Rattle.tree_removing.specs.Ways.{Lent}
+use Rattle.tree_removing.specs.Remove.{Lie, OnWay, Packed}
 
 -- ---- cells for slots
 
@@ -89,11 +88,11 @@ module _ (at : List Float) where
     pub known-two : Two (h .tree)
     known-two = two-is (q .extent) (h .tree) is (holds-is at is m q h)
 
-    pub known-lent : Lent m (h .tree)
-    known-lent = each-map (λ j. j < q .nodes) (λ j. j * 8 + 8 ≤ length m) (λ j y. omega (arith, y, h .room)) (h .tree) (h .below)
+    pub known-lent : SlotsLent m (h .tree)
+    known-lent = each-map (λ j. j < q .nodes) (λ j. InSlots j m) (λ j y. omega (arith, y, h .room)) (h .tree) (h .below)
 
-    pub known-whole : ((j : ℕ) → In j is → (j < mostParticles) × (j * 2 + 2 ≤ length at)) → Whole at m q (h .tree)
-    known-whole places =
+    pub known-packed : ((j : ℕ) → In j is → (j < mostParticles) × (j * 2 + 2 ≤ length at)) → Packed at m q (h .tree)
+    known-packed places =
         let c = q .extent in
         let g = holds-is at is m q h in
         record {

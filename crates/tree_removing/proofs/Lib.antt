@@ -1,5 +1,5 @@
 pub mod Plug
-pub mod Settle
+pub mod Gather
 pub mod Replace
 pub mod Count
 pub mod Move

@@ -8,18 +8,19 @@ use lib.Ieee.{Float}
 use Rattle.rules.specs.declared.Extent.{Extent}
 use Rattle.rules.specs.Cell.{quarter}
 use Rattle.rules.specs.Tree.{Tree, none, leaf, node, nodes}
+use Rattle.rules.specs.Calls.{slotWords}
 use Rattle.rules.proofs.CellCount.{leaves, Fruitful}
 use Rattle.tree_slots.specs.Slots.{kids, putInternal, copied}
-use Rattle.tree_slots.specs.Trees.{EachSlot, Once, inCells}
-use Rattle.tree_slots.proofs.Slots.{Same, same-trans, internal-same, copied-same, copied-own, copied-length}
+use Rattle.tree_slots.specs.Trees.{EachSlot, Once, inCells, lead}
+use Rattle.tree_slots.proofs.Slots.{Same, shows-trans, same-trans, internal-same, copied-same, copied-own, copied-length}
 use Rattle.tree_slots.proofs.Trees.{each-map}
 use Rattle.tree_leaves.specs.Leaf.{side}
-use Rattle.tree_placing.specs.Add.{lead, Stored, pick, Reaches}
+use Rattle.tree_placing.specs.Add.{Stored, pick, Reaches}
 use Rattle.tree_placing.proofs.SlotsTree.{each-both, each-true, lead-each, over, upd, each-child, stored-child, upd-all, upd-below, each-over, once-out, once-apart, once-child, nodes-upd}
 use Rattle.tree_placing.proofs.AddWay.{reach-all, reach-each, reach-stored, reach-once, plug, plug-each}
-use Rattle.tree_removing.specs.Remove.{OnWay, Placed, But, Lies}
+use Rattle.tree_removing.specs.Remove.{OnWay, HasPlace, But, Occupies}
 use Rattle.tree_removing.proofs.Plug.{fruit-child, leaves-upd, way-child, reach-ways}
-use Rattle.tree_removing.proofs.Replace.{Fits, Child, plug-out, replaced, rewire, fits-child, relabel, relabel-child}
+use Rattle.tree_removing.proofs.Replace.{TakesPlace, Child, plug-out, replaced, rewire, fits-child, relabel, relabel-child}
 
 -- ---- what a new slot leaves as it was
 
@@ -68,7 +69,7 @@ plug-same at p (suc n) c (node s t0 t1 t2 t3) d u v r e =
     let own : (i : ℕ) → inCells (quarter i c) (upd k q w i) ≡ inCells (quarter i c) (k i) = upd-all (λ i u. inCells (quarter i c) u ≡ inCells (quarter i c) (k i)) k q w (plug-same at p n (quarter q c) (k q) d u v r e) (λ i ne. refl) in
     rw (own 0, own 1, own 2, own 3)
 
-module _ (at : List Float) (m : List ℕ) (c : Extent) (n h : ℕ) (less : h < n) (room : (n + 1) * 8 ≤ length m) where
+module _ (at : List Float) (m : List ℕ) (c : Extent) (n h : ℕ) (less : h < n) (room : (n + 1) * slotWords ≤ length m) where
   other : h ≡ n → ⊥
   other e = omega arith
 
@@ -83,10 +84,10 @@ module _ (at : List Float) (m : List ℕ) (c : Extent) (n h : ℕ) (less : h < n
 
   -- ---- the root
 
-  pub move-root : (root : ℕ) (t : Tree ℕ) → Lies at m c root n (But n h) t → lead t ≡ n + 1 → Lies at (copied m n h) c (h + 1) n (λ j. j < n) (relabel h t)
+  pub move-root : (root : ℕ) (t : Tree ℕ) → Occupies at m c root n (But n h) t → lead t ≡ n + 1 → Occupies at (copied m n h) c (h + 1) n (λ j. j < n) (relabel h t)
   move-root root t g e =
       let k : Child (copied m n h) (λ j. j ≡ h) t (relabel h t) = relabel-child m (copied m n h) n h t e (g .stored) (g .once) (g .fruitful) (free t (g .slots)) (λ _. Unit {0}) (each-true (λ _. Unit {0}) (λ _. tt) t)
-      (λ j _ ne. copied-same m n h j ne) (copied-own m n h (omega arith) .0) (copied-own m n h (omega arith) .1) in
+      (λ j _ ne. copied-same m n h j ne) (copied-own m n h (omega arith)) in
       record {
         leads = sym (relabel-lead n h t e);
         stored = k .stored;
@@ -97,12 +98,12 @@ module _ (at : List Float) (m : List ℕ) (c : Extent) (n h : ℕ) (less : h < n
         once = k .once;
         fruitful = k .fruitful;
         ways = relabel-ways at h c t (g .ways);
-        places = k .relink (Placed at) (g .places);
+        places = k .relink (HasPlace at) (g .places);
       }
 
   -- ---- a child
 
-  module _ (p root : ℕ) (t : Tree ℕ) (g : Lies at m c root n (But n h) t) (l : ℕ) (d : Extent) (s : ℕ) (t0 t1 t2 t3 : Tree ℕ) (r : Reaches at p l c t d (node s t0 t1 t2 t3)) (q : ℕ) (lt : q < 4) (e : lead (pick t0 t1 t2 t3 q) ≡ n + 1) (small : n + 1 < 2 ^ 32) where
+  module _ (p root : ℕ) (t : Tree ℕ) (g : Occupies at m c root n (But n h) t) (l : ℕ) (d : Extent) (s : ℕ) (t0 t1 t2 t3 : Tree ℕ) (r : Reaches at p l c t d (node s t0 t1 t2 t3)) (q : ℕ) (lt : q < 4) (e : lead (pick t0 t1 t2 t3 q) ≡ n + 1) (small : n + 1 < 2 ^ 32) where
     abbrev u : Tree ℕ
     u = node s t0 t1 t2 t3
 
@@ -139,14 +140,14 @@ module _ (at : List Float) (m : List ℕ) (c : Extent) (n h : ℕ) (less : h < n
     child : Child w (λ j. j ≡ h) y (relabel h y)
     child =
         relabel-child m w n h y e (stored-child t0 t1 t2 t3 s m (reach-stored at p l c t d u r m (g .stored)) q) (once-child s t0 t1 t2 t3 o q) (fruit-child s t0 t1 t2 t3 fruit q) (free y (each-child t0 t1 t2 t3 s (But n h) b q))
-        (λ j. j ≡ s → ⊥) (once-out s t0 t1 t2 t3 o q) (λ j a f. kept j f a) (at-h .0 ∙ copied-own m n h (omega arith) .0) (at-h .1 ∙ copied-own m n h (omega arith) .1)
+        (λ j. j ≡ s → ⊥) (once-out s t0 t1 t2 t3 o q) (λ j a f. kept j f a) (shows-trans (copied-own m n h (omega arith)) at-h)
 
     st : Stored w v
     st =
         rewire m (copied m n h) s t0 t1 t2 t3 (λ j. j ≡ h → ⊥) (λ j f. copied-same m n h j f) (free u b) (reach-stored at p l c t d u r m (g .stored)) o (n + 1) small (below u b)
-        (subst (λ (x : ℕ). s * 8 + 8 ≤ x) (sym (copied-length m n h)) (omega (arith, b .0 .0))) q lt (relabel h y) (omega (arith, relabel-lead n h y e)) (child .stored)
+        (subst (λ (x : ℕ). s * slotWords + slotWords ≤ x) (sym (copied-length m n h)) (omega (arith, b .0 .0))) q lt (relabel h y) (omega (arith, relabel-lead n h y e)) (child .stored)
 
-    fits : Fits at w d (λ j. j ≡ h) u v
+    fits : TakesPlace at w d (λ j. j ≡ h) u v
     fits =
         fits-child at d s t0 t1 t2 t3 o fruit (reach-ways at p l c t d u r (g .ways)) q lt (λ j. j ≡ h) (free u b) w (relabel h y) child
         (relabel-ways at h (quarter q d) y (way-child at d s t0 t1 t2 t3 (reach-ways at p l c t d u r (g .ways)) q lt .1)) st
@@ -158,7 +159,7 @@ module _ (at : List Float) (m : List ℕ) (c : Extent) (n h : ℕ) (less : h < n
         (upd-below (λ i u. EachSlot (λ j. j ≡ n → ⊥) u) (pick t0 t1 t2 t3) q (relabel h y) (relabel-out n h y e (once-child s t0 t1 t2 t3 o q) other)
         (λ i l ne. lead-each (λ j. EachSlot (λ z. z ≡ j → ⊥) (pick t0 t1 t2 t3 i)) y n e (once-apart s t0 t1 t2 t3 o q i lt l (λ z. ne (sym z)))))
 
-    moved : Lies at w c root n (λ j. j < n) (plug at p l c t v)
+    moved : Occupies at w c root n (λ j. j < n) (plug at p l c t v)
     moved =
         replaced at p m w c root n (But n h) t g l d u v r (λ j. j ≡ h) fits (free t (g .slots)) (λ j a f. kept j (a .1) (λ z. f (ap (λ (x : ℕ). x + 1) (sym z)))) n
         (omega (arith, nodes-upd s (pick t0 t1 t2 t3) q (relabel h y) lt, relabel-nodes h y)) (λ j. j < n)
@@ -166,8 +167,8 @@ module _ (at : List Float) (m : List ℕ) (c : Extent) (n h : ℕ) (less : h < n
         (each-both (λ j. j < n + 1) (λ j. j ≡ n → ⊥) (plug at p l c t v) (plug-each at p (λ j. j < n + 1) l c t v (below t (g .slots)) (fits .renew (λ j. j < n + 1) (below u b) (λ j z. omega (arith, z))))
         (plug-out at p n l c t d u v r has gone (g .once))))
 
-    pub move-child : (W : List ℕ) → W ≡ putInternal (copied m n h) s (set (kids (copied m n h) s) q (h + 1)) → Lies at W c root n (λ j. j < n) (plug at p l c t v)
-    move-child W z = subst (λ (x : List ℕ). Lies at x c root n (λ j. j < n) (plug at p l c t v)) (ap (λ (x : ℕ). putInternal (copied m n h) s (set (kids (copied m n h) s) q x)) (relabel-lead n h y e) ∙ sym z) moved
+    pub move-child : (W : List ℕ) → W ≡ putInternal (copied m n h) s (set (kids (copied m n h) s) q (h + 1)) → Occupies at W c root n (λ j. j < n) (plug at p l c t v)
+    move-child W z = subst (λ (x : List ℕ). Occupies at x c root n (λ j. j < n) (plug at p l c t v)) (ap (λ (x : ℕ). putInternal (copied m n h) s (set (kids (copied m n h) s) q x)) (relabel-lead n h y e) ∙ sym z) moved
 
     pub move-cells : inCells c (plug at p l c t v) ≡ inCells c t
     move-cells = plug-same at p l c t d u v r cells

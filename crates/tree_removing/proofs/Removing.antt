@@ -9,7 +9,7 @@ use lib.ListN.{length, getD}
 use lib.Ieee.{Float}
 use borrow.Author.Tests.{ne-eqb}
 use Rattle.rules.specs.Tree.{same}
-use Rattle.rules.specs.Edits.{others}
+use Rattle.rules.specs.Plain.{others}
 use Rattle.rules.proofs.CellList.{In, in-some, in-keep, keep-in, keep-keep}
 use Rattle.rules.proofs.CellPoints.{same-sym}
 use Rattle.rules.proofs.CellWithout.{keep-swap}

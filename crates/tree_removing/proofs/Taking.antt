@@ -9,20 +9,20 @@ use lib.ListN.{length, set}
 use lib.Ieee.{Float}
 use borrow.Author.Tests.{eqb-true}
 use Rattle.rules.specs.declared.Extent.{Extent}
-use Rattle.rules.specs.Plain.{branch}
+use Rattle.rules.specs.Plain.{branch, others}
 use Rattle.rules.specs.Refusal.{mostParticles}
 use Rattle.rules.specs.Cell.{quarter}
 use Rattle.rules.specs.Tree.{Tree, none, leaf, node, depth, nodes, same, inQuarter, treeIn}
 use Rattle.rules.specs.Terms.{leaves, mostNodes}
-use Rattle.rules.specs.Edits.{others}
+use Rattle.rules.specs.Calls.{slotWords}
 use Rattle.rules.proofs.CellList.{In, in-keep}
 use Rattle.rules.proofs.CellChain.{Points}
 use Rattle.rules.proofs.CellWithout.{chained, without, leaves-nodes, joined-node, without-leaf, without-node, without-tree, without-fits}
 use Rattle.tree_slots.specs.declared.Quadtree.{Quadtree}
-use Rattle.tree_slots.specs.Slots.{word, kids, putLeaf, putInternal}
-use Rattle.tree_slots.specs.Trees.{first, EachSlot, inCells}
+use Rattle.tree_slots.specs.Slots.{kids, putLeaf, putInternal, InSlots}
+use Rattle.tree_slots.specs.Trees.{first, EachSlot, inCells, LeafIn}
 use Rattle.tree_slots.proofs.Links.{rises-length, head-in}
-use Rattle.tree_slots.proofs.Slots.{leaf-tag, leaf-same, leaf-length, internal-length}
+use Rattle.tree_slots.proofs.Slots.{leaf-put, leaf-same, leaf-length, internal-length}
 use Rattle.tree_slots.proofs.Trees.{cells-depth, cells-nodes}
 use Rattle.tree_leaves.specs.Chain.{atPoint}
 use Rattle.tree_leaves.specs.Leaf.{side}
@@ -30,13 +30,13 @@ use Rattle.tree_placing.specs.Add.{Stored, Holds, pick, Reaches}
 use Rattle.tree_placing.proofs.SlotsTree.{each-true, over, upd, each-child, nodes-upd}
 use Rattle.tree_placing.proofs.AddWay.{side-lt, reach-all, reach-each, reach-stored, reach-down, plug, plug-each, plug-nodes, plug-once, plug-stored}
 use Rattle.tree_placing.proofs.AddHold.{holds-levels, holds-few, reached, leaf-chain}
-use Rattle.tree_removing.specs.Remove.{settle, Lies, Hollow, Filled, withLess, Tidies, Tidied}
+use Rattle.tree_removing.specs.Remove.{gather, Occupies, Hollow, Filled, withLess, Tidies, Tidied}
 use Rattle.tree_removing.specs.Take.{Finds, Hangs, Spotted}
 use Rattle.tree_removing.specs.declared.take.Spot.{Spot}
 use Rattle.tree_removing.proofs.Plug.{plug-less}
 use Rattle.tree_removing.proofs.Replace.{hollowed, cut}
-use Rattle.tree_removing.proofs.Settle.{settle-down, settle-none, without-down, plug-down}
-use Rattle.tree_removing.proofs.Known.{Two, two-child, known-two, known-lent, known-whole}
+use Rattle.tree_removing.proofs.Gather.{gather-down, gather-none, without-down, plug-down}
+use Rattle.tree_removing.proofs.Known.{Two, two-child, known-two, known-lent, known-packed}
 
 chained-some : {A : Type 0} (a : A) (js : List ℕ) → 0 < length js → chained a js ≡ leaf a js
 chained-some a [] l = absurd (omega arith)
@@ -135,10 +135,10 @@ module _ (at : List Float) (is m : List ℕ) (q : Quadtree) (i : ℕ) (g : Finds
         let (ks, a, f) = reached at i is m q (h .holds) n d (leaf x js) w in
         leaf-chain at i is m q (h .holds) n d x js w points .whole i (subst (In i) (sym (a .1)) (f i (g .within) own))
 
-    pub spot-leaf : (r .leaf * 8 + 8 ≤ length m) × (word m (r .leaf) 0 ≡ first (atPoint at is i) + 1)
+    pub spot-leaf : InSlots (r .leaf) m × LeafIn m (r .leaf) (atPoint at is i)
     spot-leaf =
         let (n, d, w) = way in
-        (reach-each at i n c t d (leaf x js) w (λ j. j * 8 + 8 ≤ length m) (known-lent at is m q (h .holds)), reach-stored at i n c t d (leaf x js) w m (h .holds .stored) ∙ ap (λ (l : List ℕ). first l + 1) chain-is)
+        (reach-each at i n c t d (leaf x js) w (λ j. InSlots j m) (known-lent at is m q (h .holds)), subst (LeafIn m x) chain-is (reach-stored at i n c t d (leaf x js) w m (h .holds .stored)))
 
     -- ---- others are left at the point
 
@@ -153,7 +153,7 @@ module _ (at : List Float) (is m : List ℕ) (q : Quadtree) (i : ℕ) (g : Finds
         let f : ℕ = first (others i (atPoint at is i)) in
         let v : Tree ℕ = leaf x (others i js) in
         let same-chain : others i (atPoint at is i) ≡ others i js = ap (others i) (sym chain-is) in
-        let st = plug-stored at i m (putLeaf m x f) (λ _. Unit {0}) n c t d (leaf x js) v y refl (leaf-tag m x f (spot-leaf .0) ∙ ap (λ (l : List ℕ). first l + 1) same-chain)
+        let st = plug-stored at i m (putLeaf m x f) (λ _. Unit {0}) n c t d (leaf x js) v y refl (leaf-put m x f (others i js) (spot-leaf .0) (ap first same-chain))
         (λ j _ a. leaf-same m x f j (λ z. a (ap (λ (k : ℕ). k + 1) (sym z)))) (each-true (λ _. Unit {0}) (λ _. tt) t) (h .holds .once) (h .holds .stored) in
         record {
           tree = plug at i n c t v;
@@ -165,7 +165,7 @@ module _ (at : List Float) (is m : List ℕ) (q : Quadtree) (i : ℕ) (g : Finds
           count = omega (arith, h .holds .count, plug-nodes at i n c t d (leaf x js) v y);
           below = plug-each at i (λ s. s < q .nodes) n c t v (h .holds .below) (reach-each at i n c t d (leaf x js) y (λ s. s < q .nodes) (h .holds .below));
           once = plug-once at i (λ _. ⊥) n c t d (leaf x js) v y (λ P h new. h) tt (each-true (λ j. ⊥ → ⊥) (λ j z. z) t) (h .holds .once);
-          room = subst (λ (l : ℕ). q .nodes * 8 ≤ l) (sym (ap length e ∙ leaf-length m x f)) (h .holds .room);
+          room = subst (λ (l : ℕ). q .nodes * slotWords ≤ l) (sym (ap length e ∙ leaf-length m x f)) (h .holds .room);
         }
 
     -- ---- none is left: the leaf goes
@@ -212,7 +212,7 @@ module _ (at : List Float) (is m : List ℕ) (q : Quadtree) (i : ℕ) (g : Finds
         quadrant-less : r .quadrant < 4
         quadrant-less = subst (λ (j : ℕ). j < 4) (sym (hang .quadrant)) (side-lt at i (hang .cell))
 
-        pub cut-slot : ((r .above - 1) * 8 + 8 ≤ length m) × (r .quadrant < 4) × (0 < q .nodes)
+        pub cut-slot : InSlots (r .above - 1) m × (r .quadrant < 4) × (0 < q .nodes)
         cut-slot = (omega (arith, slots-below .0, h .holds .room), quadrant-less, omega (arith, child-below))
 
         two : 2 ≤ leaves (node (r .above - 1) (hang .t0) (hang .t1) (hang .t2) (hang .t3))
@@ -221,24 +221,24 @@ module _ (at : List Float) (is m : List ℕ) (q : Quadtree) (i : ℕ) (g : Finds
         after : Tree ℕ
         after = plug at i (hang .level) (q .extent) (h .holds .tree) (over (r .above - 1) (upd (pick (hang .t0) (hang .t1) (hang .t2) (hang .t3)) (r .quadrant) none))
 
-        lies-after : Lies at (putInternal m (r .above - 1) (set (kids m (r .above - 1)) (r .quadrant) 0)) (q .extent) (q .root) (q .nodes - 1) (λ j. (j < q .nodes) × (j ≡ r .leaf → ⊥)) after
+        occupies-after : Occupies at (putInternal m (r .above - 1) (set (kids m (r .above - 1)) (r .quadrant) 0)) (q .extent) (q .root) (q .nodes - 1) (λ j. (j < q .nodes) × (j ≡ r .leaf → ⊥)) after
         unfolding after
-        lies-after =
+        occupies-after =
             let one : q .nodes ≡ suc (q .nodes - 1) = omega (arith, child-below) in
             cut at i m c (q .root) (q .nodes - 1) (λ j. j < q .nodes) t
-            (subst (λ (n : ℕ). Lies at m c (q .root) n (λ j. j < q .nodes) t) one (known-whole at is m q (h .holds) (λ j n. (g .points j n .2, g .points j n .1))))
+            (subst (λ (n : ℕ). Occupies at m c (q .root) n (λ j. j < q .nodes) t) one (known-packed at is m q (h .holds) (λ j n. (g .points j n .2, g .points j n .1))))
             (hang .level) (hang .cell) s (hang .t0) (hang .t1) (hang .t2) (hang .t3) (hang .way) (r .quadrant) quadrant-less x js (hang .child) (q .nodes) (omega (arith, few)) (h .holds .below) (cut-slot .0) two
 
-        -- what is then settled is the tree without i
-        settles : settle at i (q .extent) (inCells (q .extent) after) ≡ without at i (q .extent) (inCells (q .extent) (h .holds .tree))
+        -- what is then gathered is the tree without i
+        gathers : gather at i (q .extent) (inCells (q .extent) after) ≡ without at i (q .extent) (inCells (q .extent) (h .holds .tree))
         unfolding after
-        settles =
+        gathers =
             let d : Extent = hang .cell in
             let o : ℕ = side at i d in
-            plug-down at i (settle at i) (without at i) (settle-down at i) (without-down at i) (hang .level) c t d u (over s (upd k (r .quadrant) none)) (hang .way)
-            (subst (λ (j : ℕ). settle at i d (inCells d (over s (upd k j none))) ≡ without at i d (inCells d u)) (sym (hang .quadrant))
-            (plug-down at i (settle at i) (without at i) (settle-down at i) (without-down at i) 1 d u (quarter o d) (k o) none (refl, refl)
-            (settle-none at i (quarter o d) ∙ sym (empty (quarter o d) (k o) (ap k (sym (hang .quadrant)) ∙ hang .child)))))
+            plug-down at i (gather at i) (without at i) (gather-down at i) (without-down at i) (hang .level) c t d u (over s (upd k (r .quadrant) none)) (hang .way)
+            (subst (λ (j : ℕ). gather at i d (inCells d (over s (upd k j none))) ≡ without at i d (inCells d u)) (sym (hang .quadrant))
+            (plug-down at i (gather at i) (without at i) (gather-down at i) (without-down at i) 1 d u (quarter o d) (k o) none (refl, refl)
+            (gather-none at i (quarter o d) ∙ sym (empty (quarter o d) (k o) (ap k (sym (hang .quadrant)) ∙ hang .child)))))
           where
             empty : (d : Extent) (v : Tree ℕ) → v ≡ leaf (r .leaf) (h .chain) → without at i d (inCells d v) ≡ none
             empty d v y = ap (λ (v : Tree ℕ). without at i d (inCells d v)) y ∙ without-leaf at i d d (h .chain) ∙ ap (chained d) bare
@@ -248,7 +248,7 @@ module _ (at : List Float) (is m : List ℕ) (q : Quadtree) (i : ℕ) (g : Finds
           hollow =
               let z : w ≡ putInternal m s (set (kids m s) (r .quadrant) 0) = y ∙ ap (λ (l : List ℕ). putInternal m s (set l (r .quadrant) 0)) ek in
               hollowed at m w q x after child-below (h .holds .room) few (ap length z ∙ internal-length m s (set (kids m s) (r .quadrant) 0))
-              (subst (λ (w : List ℕ). Lies at w (q .extent) (q .root) (q .nodes - 1) (λ j. (j < q .nodes) × (j ≡ r .leaf → ⊥)) after) (sym z) lies-after)
+              (subst (λ (w : List ℕ). Occupies at w (q .extent) (q .root) (q .nodes - 1) (λ j. (j < q .nodes) × (j ≡ r .leaf → ⊥)) after) (sym z) occupies-after)
 
           pub cut-hollow : (v : Tree ℕ) × Hollow at w (withLess q) (r .leaf) v
           cut-hollow = (after, hollow)
@@ -258,7 +258,7 @@ module _ (at : List Float) (is m : List ℕ) (q : Quadtree) (i : ℕ) (g : Finds
             filled = subst (λ (l : Quadtree). (v : Tree ℕ) → Hollow at w l (r .leaf) v → Filled at w′ l f v) el fill after hollow
 
             tidies : Tidies at w′ f i (filled .tree)
-            tidies = record { whole = filled .whole; room = omega (arith, filled .nodes, h .holds .room, size); few = omega (arith, filled .nodes, few); place = g .points i (g .within) .1 }
+            tidies = record { packed = filled .packed; room = omega (arith, filled .nodes, h .holds .room, size); few = omega (arith, filled .nodes, few); place = g .points i (g .within) .1 }
 
             pub cut-tidies : (v : Tree ℕ) × Tidies at w′ f i v
             cut-tidies = (filled .tree, tidies)
@@ -267,20 +267,20 @@ module _ (at : List Float) (is m : List ℕ) (q : Quadtree) (i : ℕ) (g : Finds
             cut-done b v len tidy =
                 let d = tidy (filled .tree) tidies in
                 let ex : b .extent ≡ q .extent = d .extent ∙ filled .extent in
-                let all : inCells (q .extent) (d .tree) ≡ treeIn at (q .extent) (others i is) = subst (λ (c : Extent). inCells c (d .tree) ≡ settle at i c (inCells c (filled .tree))) (filled .extent) (d .cells)
-                ∙ ap (settle at i (q .extent)) (filled .cells) ∙ settles ∙ without-rest (h .holds) in
+                let all : inCells (q .extent) (d .tree) ≡ treeIn at (q .extent) (others i is) = subst (λ (c : Extent). inCells c (d .tree) ≡ gather at i c (inCells c (filled .tree))) (filled .extent) (d .cells)
+                ∙ ap (gather at i (q .extent)) (filled .cells) ∙ gathers ∙ without-rest (h .holds) in
                 let less : depth (treeIn at (q .extent) (others i is)) ≤ depth (treeIn at (q .extent) is) = without-fits at i c is own (holds-levels at is m q (h .holds)) .levels in
                 let kept : b .deepest ≡ q .deepest = d .deepest ∙ filled .deepest in (
                   record {
                     tree = d .tree;
-                    root = d .whole .leads;
-                    stored = d .whole .stored;
+                    root = d .packed .leads;
+                    stored = d .packed .stored;
                     cells = subst (λ (c : Extent). inCells c (d .tree) ≡ treeIn at c (others i is)) (sym ex) all;
                     deepest = omega (arith, less, ap depth all, cells-depth c (d .tree), ap depth (h .holds .cells), cells-depth c t, h .holds .deepest, kept);
                     shallow = subst (λ (n : ℕ). n ≤ 64) (sym kept) (h .holds .shallow);
-                    count = d .whole .count;
-                    below = d .whole .slots;
-                    once = d .whole .once;
+                    count = d .packed .count;
+                    below = d .packed .slots;
+                    once = d .packed .once;
                     room = omega (arith, len, size, h .holds .room, slots-few b (d .few));
                   },
                   ex,

@@ -1,23 +1,24 @@
 -- The turns of the loops that go down a tree: to any leaf, to the node above a slot, to the last internal node on a way.
 use mathlib.Core.Path.{_≡_, refl, sym, ap, _∙_, subst}
 use mathlib.Core.List.{List}
-use Prim.Native.Nat.{ℕ, zero, suc, _+_, _-_, _*_, _≤_, _<_}
+use Prim.Native.Nat.{ℕ, zero, suc, _+_, _-_, _≤_, _<_}
 use native.Mathlib.Numerals.{add-one}
 use native.Mathlib.Omega.{arith}
-use lib.ListN.{length, getD}
+use lib.ListN.{getD}
 use lib.Ieee.{Float}
 use Rattle.rules.specs.declared.Extent.{Extent}
 use Rattle.rules.specs.Cell.{quarter}
 use Rattle.rules.specs.Tree.{Tree, none, leaf, node, depth}
 use Rattle.rules.proofs.CellCount.{leaves, Fruitful}
-use Rattle.tree_slots.specs.Slots.{word, kids}
+use Rattle.tree_slots.specs.Slots.{word, kids, InSlots}
 use Rattle.tree_leaves.specs.Leaf.{side}
-use Rattle.tree_placing.specs.Add.{lead, Stored, pick, Reaches}
+use Rattle.tree_placing.specs.Add.{Stored, pick, Reaches}
 use Rattle.tree_placing.proofs.SlotsTree.{lead-each, lead-none, over, leads, leads-at, each-child, stored-child, depth-child}
 use Rattle.tree_placing.proofs.Roots.{root-node}
 use Rattle.tree_placing.proofs.AddWay.{side-lt, reach-each, reach-stored, reach-depth, reach-down}
+use Rattle.tree_slots.specs.Trees.{lead, InternalIn, SlotsLent}
 use Rattle.tree_removing.specs.Remove.{LeafOf}
-use Rattle.tree_removing.specs.Ways.{firstOf, someKid, Lent, Rooted, Outer}
+use Rattle.tree_removing.specs.Ways.{firstOf, someKid, StandsFrom, Outer}
 use Rattle.tree_removing.proofs.Plug.{fruit-child}
 use Rattle.tree_removing.proofs.Count.{leaf-in}
 
@@ -30,12 +31,12 @@ pub record Deeper (m : List ℕ) (t : Tree ℕ) (x l : ℕ) : Type 0 where
   pub sub : Tree ℕ
   pub top : lead sub ≡ x + 1
   pub stored : Stored m sub
-  pub lent : Lent m sub
+  pub lent : SlotsLent m sub
   pub fruitful : Fruitful sub
   pub levels : l + depth sub ≤ 65
   pub up : (f : ℕ) → LeafOf f sub → LeafOf f t
 
-pub deeper-start : (m : List ℕ) (s : ℕ) (t : Tree ℕ) → Rooted m s t → Deeper m t s 0
+pub deeper-start : (m : List ℕ) (s : ℕ) (t : Tree ℕ) → StandsFrom m s t → Deeper m t s 0
 deeper-start m s t g = record { sub = t; top = g .top; stored = g .stored; lent = g .lent; fruitful = g .fruitful; levels = omega (arith, g .levels); up = λ f e. e }
 
 pub some-kid : (s : ℕ) (k : ℕ → Tree ℕ) → 0 < leaves (over s k) → (r : ℕ) × (r < 4) × (someKid (leads k) ≡ lead (k r)) × (0 < someKid (leads k))
@@ -50,27 +51,27 @@ some-kid s k l = go (lead (k 0)) (lead (k 1)) (lead (k 2)) (lead (k 3)) refl ref
     go zero zero zero zero e0 e1 e2 e3 = absurd (omega (arith, l, ap leaves (lead-none (k 0) e0), ap leaves (lead-none (k 1) e1), ap leaves (lead-none (k 2) e2), ap leaves (lead-none (k 3) e3)))
 
 module _ (m : List ℕ) (t : Tree ℕ) (x l : ℕ) (d : Deeper m t x l) where
-  pub deeper-slot : x * 8 + 8 ≤ length m
-  deeper-slot = lead-each (λ j. j * 8 + 8 ≤ length m) (d .sub) x (d .top) (d .lent)
+  pub deeper-slot : InSlots x m
+  deeper-slot = lead-each (λ j. InSlots j m) (d .sub) x (d .top) (d .lent)
 
-  pub deeper-leaf : (word m x 0 ≡ 0 → ⊥) → LeafOf (word m x 0 - 1) t
+  pub deeper-leaf : (InternalIn m x → ⊥) → LeafOf (word m x 0 - 1) t
   deeper-leaf n = d .up (word m x 0 - 1) (go (d .sub) (d .top) (d .stored))
     where
       go : (u : Tree ℕ) → lead u ≡ x + 1 → Stored m u → LeafOf (word m x 0 - 1) u
       go none e st = absurd (omega arith)
-      go (leaf s is) e st = let z : s ≡ x = omega arith in omega (arith, st, ap (λ (j : ℕ). word m j 0) z)
-      go (node s t0 t1 t2 t3) e st = let z : s ≡ x = omega arith in absurd (n (ap (λ (j : ℕ). word m j 0) (sym z) ∙ st .0))
+      go (leaf s is) e st = let z : s ≡ x = omega arith in omega (arith, st .tag, ap (λ (j : ℕ). word m j 0) z)
+      go (node s t0 t1 t2 t3) e st = let z : s ≡ x = omega arith in absurd (n (ap (λ (j : ℕ). word m j 0) (sym z) ∙ st .0 .tag))
 
-  pub deeper-turn : word m x 0 ≡ 0 → (0 < someKid (kids m x)) × (l < 64) × Deeper m t (someKid (kids m x) - 1) (l + 1)
+  pub deeper-turn : InternalIn m x → (0 < someKid (kids m x)) × (l < 64) × Deeper m t (someKid (kids m x) - 1) (l + 1)
   deeper-turn n = go (d .sub) (d .top) (d .stored) (d .lent) (d .fruitful) (d .levels) (d .up)
     where
-      go : (u : Tree ℕ) → lead u ≡ x + 1 → Stored m u → Lent m u → Fruitful u → l + depth u ≤ 65 → ((f : ℕ) → LeafOf f u → LeafOf f t) → (0 < someKid (kids m x)) × (l < 64) × Deeper m t (someKid (kids m x) - 1) (l + 1)
+      go : (u : Tree ℕ) → lead u ≡ x + 1 → Stored m u → SlotsLent m u → Fruitful u → l + depth u ≤ 65 → ((f : ℕ) → LeafOf f u → LeafOf f t) → (0 < someKid (kids m x)) × (l < 64) × Deeper m t (someKid (kids m x) - 1) (l + 1)
       go none e st b f v up = absurd (omega arith)
-      go (leaf s is) e st b f v up = let z : s ≡ x = omega arith in absurd (omega (arith, st, n, ap (λ (j : ℕ). word m j 0) z))
+      go (leaf s is) e st b f v up = let z : s ≡ x = omega arith in absurd (omega (arith, st .tag, n, ap (λ (j : ℕ). word m j 0) z))
       go (node s t0 t1 t2 t3) e st b f v up =
           let z : x ≡ s = omega arith in
           let (r, lt, w, pos) = some-kid s (pick t0 t1 t2 t3) (f .0) in
-          let ks : someKid (kids m x) ≡ someKid (leads (pick t0 t1 t2 t3)) = ap someKid (ap (kids m) z ∙ st .1) in
+          let ks : someKid (kids m x) ≡ someKid (leads (pick t0 t1 t2 t3)) = ap someKid (ap (kids m) z ∙ st .0 .kids) in
           let dc = depth-child s t0 t1 t2 t3 r in
           let p1 : 1 ≤ depth (pick t0 t1 t2 t3 r) = some-depth (pick t0 t1 t2 t3 r) (omega (arith, pos, w)) in (
             omega (arith, pos, ks),
@@ -79,7 +80,7 @@ module _ (m : List ℕ) (t : Tree ℕ) (x l : ℕ) (d : Deeper m t x l) where
               sub = pick t0 t1 t2 t3 r;
               top = omega (arith, pos, ks, w);
               stored = stored-child t0 t1 t2 t3 s m st r;
-              lent = each-child t0 t1 t2 t3 s (λ j. j * 8 + 8 ≤ length m) b r;
+              lent = each-child t0 t1 t2 t3 s (λ j. InSlots j m) b r;
               fruitful = fruit-child s t0 t1 t2 t3 f r;
               levels = omega (arith, dc);
               up = λ g y. up g (leaf-in s t0 t1 t2 t3 g r y);
@@ -102,13 +103,13 @@ module _ (at : List Float) (f : ℕ) (c : Extent) (t : Tree ℕ) where
     pub t3 : Tree ℕ
     pub way : Reaches at f l c t cell (node s t0 t1 t2 t3)
 
-  module _ (m : List ℕ) (st : Stored m t) (b : Lent m t) (v : depth t ≤ 65) (s l : ℕ) (cell : Extent) (a : Come s l cell) where
-    pub come-slot : s * 8 + 8 ≤ length m
-    come-slot = reach-each at f l c t cell (node s (a .t0) (a .t1) (a .t2) (a .t3)) (a .way) (λ j. j * 8 + 8 ≤ length m) b .0
+  module _ (m : List ℕ) (st : Stored m t) (b : SlotsLent m t) (v : depth t ≤ 65) (s l : ℕ) (cell : Extent) (a : Come s l cell) where
+    pub come-slot : InSlots s m
+    come-slot = reach-each at f l c t cell (node s (a .t0) (a .t1) (a .t2) (a .t3)) (a .way) (λ j. InSlots j m) b .0
 
     pub come-child : (k : ℕ) → k ≡ side at f cell → getD (kids m s) k 0 ≡ lead (pick (a .t0) (a .t1) (a .t2) (a .t3) k)
     come-child k e =
-        ap (λ (ks : List ℕ). getD ks k 0) (reach-stored at f l c t cell (node s (a .t0) (a .t1) (a .t2) (a .t3)) (a .way) m st .1)
+        ap (λ (ks : List ℕ). getD ks k 0) (reach-stored at f l c t cell (node s (a .t0) (a .t1) (a .t2) (a .t3)) (a .way) m st .0 .kids)
         ∙ leads-at (pick (a .t0) (a .t1) (a .t2) (a .t3)) k (subst (λ (j : ℕ). j < 4) (sym e) (side-lt at f cell))
 
     -- the child on the way
@@ -118,26 +119,26 @@ module _ (at : List Float) (f : ℕ) (c : Extent) (t : Tree ℕ) where
         (subst (λ (n : ℕ). Reaches at f n c t (quarter (side at f cell) cell) (pick (a .t0) (a .t1) (a .t2) (a .t3) (side at f cell))) (sym (add-one l)) (reach-down at f l c t cell s (a .t0) (a .t1) (a .t2) (a .t3) (a .way)))
 
     -- a child that is internal
-    pub come-down : (k : ℕ) → k ≡ side at f cell → (x : ℕ) → lead (pick (a .t0) (a .t1) (a .t2) (a .t3) k) ≡ x + 1 → word m x 0 ≡ 0 → (l < 64) × Come x (l + 1) (quarter k cell)
+    pub come-down : (k : ℕ) → k ≡ side at f cell → (x : ℕ) → lead (pick (a .t0) (a .t1) (a .t2) (a .t3) k) ≡ x + 1 → InternalIn m x → (l < 64) × Come x (l + 1) (quarter k cell)
     come-down k e x top n = go (pick (a .t0) (a .t1) (a .t2) (a .t3) k) top (come-below k e)
       where
         go : (u : Tree ℕ) → lead u ≡ x + 1 → Reaches at f (l + 1) c t (quarter k cell) u → (l < 64) × Come x (l + 1) (quarter k cell)
         go none h r = absurd (omega arith)
-        go (leaf z is) h r = let y : z ≡ x = omega arith in absurd (omega (arith, n, ap (λ (j : ℕ). word m j 0) y, reach-stored at f (l + 1) c t (quarter k cell) (leaf z is) r m st))
+        go (leaf z is) h r = let y : z ≡ x = omega arith in absurd (omega (arith, n, ap (λ (j : ℕ). word m j 0) y, reach-stored at f (l + 1) c t (quarter k cell) (leaf z is) r m st .tag))
         go (node z u0 u1 u2 u3) h r =
             let y : z ≡ x = omega arith in
             (omega (arith, reach-depth at f (l + 1) c t (quarter k cell) (node z u0 u1 u2 u3) r), record { t0 = u0; t1 = u1; t2 = u2; t3 = u3; way = subst (λ (j : ℕ). Reaches at f (l + 1) c t (quarter k cell) (node j u0 u1 u2 u3)) y r })
 
-    pub come-outer : (k : ℕ) → k ≡ side at f cell → (x : ℕ) → lead (pick (a .t0) (a .t1) (a .t2) (a .t3) k) ≡ x → (x ≡ 0 → ⊥) → (word m (x - 1) 0 ≡ 0 → ⊥) → Outer (pick (a .t0) (a .t1) (a .t2) (a .t3) k)
+    pub come-outer : (k : ℕ) → k ≡ side at f cell → (x : ℕ) → lead (pick (a .t0) (a .t1) (a .t2) (a .t3) k) ≡ x → (x ≡ 0 → ⊥) → (InternalIn m (x - 1) → ⊥) → Outer (pick (a .t0) (a .t1) (a .t2) (a .t3) k)
     come-outer k e x top nz n = go (pick (a .t0) (a .t1) (a .t2) (a .t3) k) top (come-below k e)
       where
         go : (u : Tree ℕ) → lead u ≡ x → Reaches at f (l + 1) c t (quarter k cell) u → Outer u
         go none h r = tt
         go (leaf z is) h r = tt
-        go (node z u0 u1 u2 u3) h r = let y : z ≡ x - 1 = omega arith in n (ap (λ (j : ℕ). word m j 0) (sym y) ∙ reach-stored at f (l + 1) c t (quarter k cell) (node z u0 u1 u2 u3) r m st .0)
+        go (node z u0 u1 u2 u3) h r = let y : z ≡ x - 1 = omega arith in n (ap (λ (j : ℕ). word m j 0) (sym y) ∙ reach-stored at f (l + 1) c t (quarter k cell) (node z u0 u1 u2 u3) r m st .0 .tag)
 
   -- an internal root
-  pub come-root : (m : List ℕ) → Stored m t → (s : ℕ) → lead t ≡ s + 1 → word m s 0 ≡ 0 → Come s 0 c
+  pub come-root : (m : List ℕ) → Stored m t → (s : ℕ) → lead t ≡ s + 1 → InternalIn m s → Come s 0 c
   come-root m st s e n = go (root-node m t (s + 1) (sym e) (omega arith) (ap (λ (j : ℕ). word m j 0) (let z : s + 1 - 1 ≡ s = omega arith in z) ∙ n) st)
     where
       go : (j : ℕ) × (u0 : Tree ℕ) × (u1 : Tree ℕ) × (u2 : Tree ℕ) × (u3 : Tree ℕ) × (t ≡ node j u0 u1 u2 u3) → Come s 0 c
@@ -164,7 +165,7 @@ module _ (at : List Float) (f : ℕ) (c : Extent) (t : Tree ℕ) where
           let y : j ≡ s = omega arith in
           record { come = record { t0 = u0; t1 = u1; t2 = u2; t3 = u3; way = (refl, z ∙ ap (λ (j : ℕ). node j u0 u1 u2 u3) y) }; down = down; d = d; sub = sub; rest = r; top = h }
 
-  pub nears-turn : (m : List ℕ) → Stored m t → Lent m t → depth t ≤ 65 → (x s l : ℕ) (cell : Extent) (a : Nears x s l cell) (k : ℕ) → k ≡ side at f cell
+  pub nears-turn : (m : List ℕ) → Stored m t → SlotsLent m t → depth t ≤ 65 → (x s l : ℕ) (cell : Extent) (a : Nears x s l cell) (k : ℕ) → k ≡ side at f cell
       → (lead (pick (a .come .t0) (a .come .t1) (a .come .t2) (a .come .t3) k) ≡ x + 1 → ⊥)
       → (0 < lead (pick (a .come .t0) (a .come .t1) (a .come .t2) (a .come .t3) k)) × (l < 64) × Nears x (lead (pick (a .come .t0) (a .come .t1) (a .come .t2) (a .come .t3) k) - 1) (l + 1) (quarter k cell)
   nears-turn m st b v x s l cell a k e n =

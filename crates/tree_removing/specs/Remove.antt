@@ -11,12 +11,13 @@ use Rattle.rules.specs.Cell.{quarter}
 use Rattle.rules.specs.Refusal.{mostParticles}
 use Rattle.rules.specs.Tree.{Tree, none, leaf, node, nodes, depth, inQuarter, greatestLevel}
 use Rattle.rules.specs.Terms.{EachLeaf, mostNodes}
+use Rattle.rules.specs.Calls.{slotWords}
 use Rattle.rules.proofs.CellCount.{Fruitful}
 use Rattle.rules.proofs.CellWithout.{joined}
-use Rattle.tree_slots.specs.Trees.{first, EachSlot, Once, inCells}
+use Rattle.tree_slots.specs.Trees.{first, EachSlot, Once, inCells, lead}
 use Rattle.tree_slots.specs.declared.Quadtree.{Quadtree}
 use Rattle.tree_leaves.specs.Leaf.{side}
-use Rattle.tree_placing.specs.Add.{lead, Stored, pick, Reaches}
+use Rattle.tree_placing.specs.Add.{Stored, pick, Reaches}
 use Rattle.tree_removing.specs.declared.tidy.Fold.{Fold}
 
 -- all but the slot h of the first n + 1
@@ -25,12 +26,12 @@ But n h j = (j < n + 1) × (j ≡ h → ⊥)
 
 module _ (at : List Float) where
   -- on the way of i, from below: what has one leaf below it becomes that leaf
-  unfoldable pub settle : {A : Type 0} → ℕ → Extent → Tree A → Tree A
-  settle i c none = none
-  settle i c (leaf a js) = leaf a js
-  settle i c (node a t0 t1 t2 t3) =
-      joined a (branch (inQuarter at c 0 i) (λ _. settle i (quarter 0 c) t0) (λ _. t0)) (branch (inQuarter at c 1 i) (λ _. settle i (quarter 1 c) t1) (λ _. t1))
-      (branch (inQuarter at c 2 i) (λ _. settle i (quarter 2 c) t2) (λ _. t2)) (branch (inQuarter at c 3 i) (λ _. settle i (quarter 3 c) t3) (λ _. t3))
+  unfoldable pub gather : {A : Type 0} → ℕ → Extent → Tree A → Tree A
+  gather i c none = none
+  gather i c (leaf a js) = leaf a js
+  gather i c (node a t0 t1 t2 t3) =
+      joined a (branch (inQuarter at c 0 i) (λ _. gather i (quarter 0 c) t0) (λ _. t0)) (branch (inQuarter at c 1 i) (λ _. gather i (quarter 1 c) t1) (λ _. t1))
+      (branch (inQuarter at c 2 i) (λ _. gather i (quarter 2 c) t2) (λ _. t2)) (branch (inQuarter at c 3 i) (λ _. gather i (quarter 3 c) t3) (λ _. t3))
 
   -- the first particle of each leaf lies in the quarter r of the cell c
   abbrev pub Lie : Extent → ℕ → Tree ℕ → Type 0
@@ -44,11 +45,11 @@ module _ (at : List Float) where
       (Lie c 0 t0 × OnWay (quarter 0 c) t0) × (Lie c 1 t1 × OnWay (quarter 1 c) t1) × (Lie c 2 t2 × OnWay (quarter 2 c) t2) × (Lie c 3 t3 × OnWay (quarter 3 c) t3)
 
   -- a leaf's first particle has its place in the list
-  abbrev pub Placed : List ℕ → Type 0
-  Placed js = (first js < mostParticles) × (first js * 2 + 2 ≤ length at)
+  abbrev pub HasPlace : List ℕ → Type 0
+  HasPlace js = (first js < mostParticles) × (first js * 2 + 2 ≤ length at)
 
   -- The slots hold the tree t of the cell c, of n nodes in slots that satisfy P, each leaf on the way of its first particle.
-  pub record Lies (m : List ℕ) (c : Extent) (root n : ℕ) (P : ℕ → Type 0) (t : Tree ℕ) : Type 0 where
+  pub record Occupies (m : List ℕ) (c : Extent) (root n : ℕ) (P : ℕ → Type 0) (t : Tree ℕ) : Type 0 where
     pub leads : root ≡ lead t
     pub stored : Stored m t
     pub most : depth t ≤ greatestLevel + 1
@@ -57,23 +58,23 @@ module _ (at : List Float) where
     pub once : Once t
     pub fruitful : Fruitful t
     pub ways : OnWay c t
-    pub places : EachLeaf (λ _. Placed) t
+    pub places : EachLeaf (λ _. HasPlace) t
 
   -- in the first slots
-  abbrev pub Whole : List ℕ → Quadtree → Tree ℕ → Type 0
-  Whole m q t = Lies m (q .extent) (q .root) (q .nodes) (λ j. j < q .nodes) t
+  abbrev pub Packed : List ℕ → Quadtree → Tree ℕ → Type 0
+  Packed m q t = Occupies m (q .extent) (q .root) (q .nodes) (λ j. j < q .nodes) t
 
   -- in the first slots and one more, but for the free slot h
   pub record Hollow (m : List ℕ) (q : Quadtree) (h : ℕ) (t : Tree ℕ) : Type 0 where
-    pub lies : Lies m (q .extent) (q .root) (q .nodes) (But (q .nodes) h) t
+    pub occupies : Occupies m (q .extent) (q .root) (q .nodes) (But (q .nodes) h) t
     pub least : h ≤ q .nodes
-    pub room : (q .nodes + 1) * 8 ≤ length m
+    pub room : (q .nodes + 1) * slotWords ≤ length m
     pub few : q .nodes ≤ mostNodes mostParticles
 
   -- the same cells and chains as in t, in the first slots
   pub record Filled (m : List ℕ) (q r : Quadtree) (t : Tree ℕ) : Type 0 where
     pub tree : Tree ℕ
-    pub whole : Whole m r tree
+    pub packed : Packed m r tree
     pub cells : inCells (q .extent) tree ≡ inCells (q .extent) t
     pub extent : r .extent ≡ q .extent
     pub nodes : r .nodes ≡ q .nodes
@@ -90,10 +91,10 @@ abbrev pub withLess : Quadtree → Quadtree
 withLess q = record { extent = q .extent; root = q .root; nodes = q .nodes - 1; deepest = q .deepest }
 
 module _ (at : List Float) where
-  -- what settling along the way of i asks
+  -- what gathering along the way of i asks
   pub record Tidies (m : List ℕ) (q : Quadtree) (i : ℕ) (t : Tree ℕ) : Type 0 where
-    pub whole : Whole at m q t
-    pub room : q .nodes * 8 ≤ length m
+    pub packed : Packed at m q t
+    pub room : q .nodes * slotWords ≤ length m
     pub few : q .nodes ≤ mostNodes mostParticles
     pub place : i * 2 + 2 ≤ length at
 
@@ -111,18 +112,18 @@ module _ (at : List Float) where
     pub chain : List ℕ
     pub child : pick t0 t1 t2 t3 which ≡ leaf x chain
     pub two : nodes (node s t0 t1 t2 t3) ≡ 2
-    pub settled : settle at i cell (inCells cell (node s t0 t1 t2 t3)) ≡ leaf cell chain
+    pub gathered : gather at i cell (inCells cell (node s t0 t1 t2 t3)) ≡ leaf cell chain
 
-  -- Nothing is left to settle; or a node, and its one child.
+  -- Nothing is left to gather; or a node, and its one child.
   pub record Folds (c : Extent) (t : Tree ℕ) (i : ℕ) (f : Fold) : Type 0 where
-    pub done : f .child ≡ 0 → settle at i c (inCells c t) ≡ inCells c t
+    pub done : f .child ≡ 0 → gather at i c (inCells c t) ≡ inCells c t
     pub more : (f .child ≡ 0 → ⊥) → FoldsAt c t i (f .slot) (f .child - 1)
 
-  -- settled along the way of i
+  -- gathered along the way of i
   pub record Tidied (m : List ℕ) (q r : Quadtree) (i : ℕ) (t : Tree ℕ) : Type 0 where
     pub tree : Tree ℕ
-    pub whole : Whole at m r tree
-    pub cells : inCells (q .extent) tree ≡ settle at i (q .extent) (inCells (q .extent) t)
+    pub packed : Packed at m r tree
+    pub cells : inCells (q .extent) tree ≡ gather at i (q .extent) (inCells (q .extent) t)
     pub extent : r .extent ≡ q .extent
     pub deepest : r .deepest ≡ q .deepest
     pub few : r .nodes ≤ q .nodes

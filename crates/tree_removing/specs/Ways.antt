@@ -8,10 +8,9 @@ use Rattle.rules.specs.declared.Extent.{Extent}
 use Rattle.rules.specs.Tree.{Tree, none, leaf, node, depth, greatestLevel}
 use Rattle.rules.proofs.CellCount.{Fruitful}
 use Rattle.tree_slots.specs.declared.Quadtree.{Quadtree}
-use Rattle.tree_slots.specs.Slots.{word}
-use Rattle.tree_slots.specs.Trees.{EachSlot}
+use Rattle.tree_slots.specs.Trees.{lead, InternalIn, SlotsLent}
 use Rattle.tree_leaves.specs.Leaf.{side}
-use Rattle.tree_placing.specs.Add.{lead, Stored, pick, Reaches}
+use Rattle.tree_placing.specs.Add.{Stored, pick, Reaches}
 use Rattle.tree_removing.specs.declared.way.Edge.{Edge}
 
 -- the first number that isn't 0
@@ -22,15 +21,11 @@ firstOf (suc a) b = suc a
 abbrev pub someKid : List ℕ → ℕ
 someKid ks = firstOf (getD ks 0 0) (firstOf (getD ks 1 0) (firstOf (getD ks 2 0) (getD ks 3 0)))
 
--- each slot is lent
-abbrev pub Lent : List ℕ → Tree ℕ → Type 0
-Lent m t = EachSlot (λ j. j * 8 + 8 ≤ length m) t
-
 -- the tree t from slot s on, in which every internal node has a leaf below it
-pub record Rooted (m : List ℕ) (s : ℕ) (t : Tree ℕ) : Type 0 where
+pub record StandsFrom (m : List ℕ) (s : ℕ) (t : Tree ℕ) : Type 0 where
   pub top : lead t ≡ s + 1
   pub stored : Stored m t
-  pub lent : Lent m t
+  pub lent : SlotsLent m t
   pub fruitful : Fruitful t
   pub levels : depth t ≤ greatestLevel + 1
 
@@ -38,7 +33,7 @@ pub record Rooted (m : List ℕ) (s : ℕ) (t : Tree ℕ) : Type 0 where
 pub record Under (at : List Float) (m : List ℕ) (q : Quadtree) (x f : ℕ) (t : Tree ℕ) : Type 0 where
   pub leads : q .root ≡ lead t
   pub stored : Stored m t
-  pub lent : Lent m t
+  pub lent : SlotsLent m t
   pub levels : depth t ≤ greatestLevel + 1
   pub down : ℕ
   pub cell : Extent
@@ -64,9 +59,9 @@ pub record Above (at : List Float) (c : Extent) (t : Tree ℕ) (x f : ℕ) (r : 
 pub record Tops (at : List Float) (m : List ℕ) (q : Quadtree) (i : ℕ) (t : Tree ℕ) : Type 0 where
   pub leads : q .root ≡ lead t
   pub rooted : 0 < q .root
-  pub internal : word m (q .root - 1) 0 ≡ 0
+  pub internal : InternalIn m (q .root - 1)
   pub stored : Stored m t
-  pub lent : Lent m t
+  pub lent : SlotsLent m t
   pub levels : depth t ≤ greatestLevel + 1
   pub place : i * 2 + 2 ≤ length at
 
@@ -77,7 +72,7 @@ Outer (leaf s js) = Unit {0}
 Outer (node s t0 t1 t2 t3) = ⊥
 
 -- r is the last internal node on the way of i, and the quadrant of i in it
-pub record Ends (at : List Float) (c : Extent) (t : Tree ℕ) (i : ℕ) (r : Edge) : Type 0 where
+pub record Innermost (at : List Float) (c : Extent) (t : Tree ℕ) (i : ℕ) (r : Edge) : Type 0 where
   pub level : ℕ
   pub cell : Extent
   pub t0 : Tree ℕ

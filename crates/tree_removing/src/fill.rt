@@ -1,9 +1,9 @@
 // A slot that falls free is filled at once, so that the tree keeps to the first slots.
 ghost use mathlib.Core.Path.{_≡_};
-ghost use Prim.Native.Nat.{ℕ, _+_, _*_, _^_, _≤_, _<_};
-ghost use lib.ListN.{length, set};
+ghost use Prim.Native.Nat.{ℕ, _+_, _^_, _<_};
+ghost use lib.ListN.{set};
 ghost use Rattle.rules.specs.Tree.{Tree};
-ghost use Rattle.tree_slots.specs.Slots.{kids, putInternal, copied};
+ghost use Rattle.tree_slots.specs.Slots.{kids, putInternal, copied, InSlots};
 ghost use Rattle.tree_removing.specs.Remove.{Hollow, Filled};
 use crate::way;
 use tree_slots::Quadtree;
@@ -11,7 +11,7 @@ use tree_slots::store;
 
 // What stands in slot `from` moves to slot `to`, and child k of slot s with it.
 fn relink(m: &mut [u64], s: usize, k: usize, from: usize, to: usize)
-    requires { ⌜ (s * 8 + 8 ≤ length (now m)) × (k < 4) × (from * 8 + 8 ≤ length (now m)) × (to * 8 + 8 ≤ length (now m)) × (to + 1 < 2 ^ 32) ⌝ }
+    requires { ⌜ InSlots s (now m) × (k < 4) × InSlots from (now m) × InSlots to (now m) × (to + 1 < 2 ^ 32) ⌝ }
     ensures { λ _. ⌜ now (m .exit) ≡ putInternal (copied (now (m .entry)) from to) s (set (kids (copied (now (m .entry)) from to) s) k (to + 1)) ⌝ }
 {
     store::copy(m, from, to);

@@ -1,7 +1,7 @@
 // A particle leaves its chain and the tree.
 ghost use mathlib.Core.List.{List};
 ghost use Prim.Native.Nat.{ℕ};
-ghost use Rattle.rules.specs.Edits.{others};
+ghost use Rattle.rules.specs.Plain.{others};
 ghost use Rattle.tree_removing.specs.Take.{Removes, Removed};
 use crate::take;
 use tree_leaving::leave;

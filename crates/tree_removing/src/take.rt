@@ -2,7 +2,7 @@
 ghost use mathlib.Core.Path.{_≡_};
 ghost use mathlib.Core.List.{List, []};
 ghost use Prim.Native.Nat.{ℕ};
-ghost use Rattle.rules.specs.Edits.{others};
+ghost use Rattle.rules.specs.Plain.{others};
 ghost use Rattle.tree_leaves.specs.Chain.{atPoint};
 ghost use Rattle.tree_placing.specs.Add.{Holds};
 ghost use Rattle.tree_removing.specs.Take.{Finds, Spotted};

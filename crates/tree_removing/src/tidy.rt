@@ -68,7 +68,7 @@ fn lone(m: &[u64], at: &[f64], q: Quadtree, i: usize) -> Fold
     }
 }
 
-// The tree settled along the way of i.
+// The tree gathered along the way of i.
 pub fn tidy(m: &mut [u64], at: &[f64], q: Quadtree, i: usize) -> Quadtree
     requires { ⌜ ((t : Tree ℕ) × Tidies (now at) (now m) q i t) ⌝ }
     ensures { λ r. ⌜ ((t : Tree ℕ) → Tidies (now (at .entry)) (now (m .entry)) q i t → Tidied (now (at .entry)) (now (m .exit)) q r i t) ⌝ }

@@ -2,7 +2,7 @@
 ghost use mathlib.Core.Path.{_≡_};
 ghost use Prim.Native.Nat.{ℕ};
 ghost use Rattle.rules.specs.Tree.{Tree};
-ghost use Rattle.tree_removing.specs.Ways.{firstOf, someKid, Rooted, Under, Above, Tops, Ends};
+ghost use Rattle.tree_removing.specs.Ways.{firstOf, someKid, StandsFrom, Under, Above, Tops, Innermost};
 ghost use Rattle.tree_removing.specs.Remove.{LeafOf};
 use tree_cells::indexer::Indexer;
 use tree_leaves::point;
@@ -36,8 +36,8 @@ pub fn some_child(children: [u32; 4]) -> u32
 
 // The first particle of a leaf below slot s.
 pub fn leaf_below(m: &[u64], s: usize) -> usize
-    requires { ⌜ ((t : Tree ℕ) × Rooted (now m) s t) ⌝ }
-    ensures { λ r. ⌜ ((t : Tree ℕ) → Rooted (now (m .entry)) s t → LeafOf r t) ⌝ }
+    requires { ⌜ ((t : Tree ℕ) × StandsFrom (now m) s t) ⌝ }
+    ensures { λ r. ⌜ ((t : Tree ℕ) → StandsFrom (now (m .entry)) s t → LeafOf r t) ⌝ }
 {
     let mut x = s;
     let mut l: usize = 0;
@@ -82,7 +82,7 @@ pub fn parent(m: &[u64], at: &[f64], q: Quadtree, x: usize, f: usize) -> Edge
 // The last internal node on the way of i.
 pub fn inner(m: &[u64], at: &[f64], q: Quadtree, i: usize) -> Edge
     requires { ⌜ ((t : Tree ℕ) × Tops (now at) (now m) q i t) ⌝ }
-    ensures { λ r. ⌜ ((t : Tree ℕ) → Tops (now (at .entry)) (now (m .entry)) q i t → Ends (now (at .entry)) (q .extent) t i r) ⌝ }
+    ensures { λ r. ⌜ ((t : Tree ℕ) → Tops (now (at .entry)) (now (m .entry)) q i t → Innermost (now (at .entry)) (q .extent) t i r) ⌝ }
 {
     let x = point::x_at(at, i);
     let y = point::y_at(at, i);

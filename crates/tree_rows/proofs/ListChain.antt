@@ -8,17 +8,17 @@ use Rattle.rules.specs.Plain.{overwritten}
 use Rattle.sheet.proofs.Lists.{overwritten-none, store-first}
 use Rattle.tree_slots.proofs.Links.{trails-unique}
 use Rattle.tree_slots.specs.Trees.{Trails}
-use Rattle.tree_rows.specs.List.{Chain}
+use Rattle.tree_rows.specs.List.{ListableChain}
 
 module _ (next before : List ℕ) (p at : ℕ) where
   -- The chain from p on is being written behind the first `at`: it is left to write the one from `link` on at `end`.
   pub record Chaining (chains : List ℕ) (link end : ℕ) : Type 0 where
     pub left : List ℕ
-    pub chain : Chain next link (length before) end left
+    pub chain : ListableChain next link (length before) end left
     pub size : length chains ≡ length before
-    pub whole : (is : List ℕ) → Chain next p (length before) at is → (overwritten before at is ≡ overwritten chains end left) × (at + length is ≡ end + length left)
+    pub whole : (is : List ℕ) → ListableChain next p (length before) at is → (overwritten before at is ≡ overwritten chains end left) × (at + length is ≡ end + length left)
 
-  pub chaining-start : (is : List ℕ) × Chain next p (length before) at is → Chaining before p at
+  pub chaining-start : (is : List ℕ) × ListableChain next p (length before) at is → Chaining before p at
   chaining-start v = record {
     left = v .0;
     chain = v .1;
@@ -35,7 +35,7 @@ module _ (next before : List ℕ) (p at : ℕ) where
   pub chaining-here : (chains : List ℕ) (link end : ℕ) → Chaining chains link end → (link ≡ 0 → ⊥) → Here link end
   chaining-here chains link end h f = go (h .left) (h .chain)
     where
-      go : (is : List ℕ) → Chain next link (length before) end is → Here link end
+      go : (is : List ℕ) → ListableChain next link (length before) end is → Here link end
       go [] v = absurd (f (v .trails))
       go (i ∷ is) v = record { some = omega (arith, v .trails .0); inside = omega (arith, v .trails .0, v .below .0); room = omega (arith, v .room) }
 
@@ -43,8 +43,8 @@ module _ (next before : List ℕ) (p at : ℕ) where
       → Chaining (set chains end (link - 1)) (getD next (link - 1) 0) (end + 1)
   chaining-turn chains link end h f = go (h .left) (h .chain) (h .whole)
     where
-      go : (js : List ℕ) → Chain next link (length before) end js
-          → ((is : List ℕ) → Chain next p (length before) at is → (overwritten before at is ≡ overwritten chains end js) × (at + length is ≡ end + length js))
+      go : (js : List ℕ) → ListableChain next link (length before) end js
+          → ((is : List ℕ) → ListableChain next p (length before) at is → (overwritten before at is ≡ overwritten chains end js) × (at + length is ≡ end + length js))
           → Chaining (set chains end (link - 1)) (getD next (link - 1) 0) (end + 1)
       go [] v g = absurd (f (v .trails))
       go (i ∷ js) v g =
@@ -56,7 +56,7 @@ module _ (next before : List ℕ) (p at : ℕ) where
             whole = λ is w. (g is w .0 ∙ store-first chains end i js (omega (arith, h .size, v .room)), omega (arith, g is w .1));
           })
 
-  pub chaining-end : (chains : List ℕ) (link end : ℕ) → Chaining chains link end → link ≡ 0 → (is : List ℕ) → Chain next p (length before) at is
+  pub chaining-end : (chains : List ℕ) (link end : ℕ) → Chaining chains link end → link ≡ 0 → (is : List ℕ) → ListableChain next p (length before) at is
       → (chains ≡ overwritten before at is) × (end ≡ at + length is)
   chaining-end chains link end h z is w = go (h .left) (h .chain .trails) (h .whole is w .0) (h .whole is w .1)
     where

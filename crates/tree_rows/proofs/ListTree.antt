@@ -5,10 +5,10 @@ use Prim.Native.Nat.{ℕ, _+_, _-_, _*_, _≤_}
 use native.Mathlib.Omega.{arith}
 use lib.ListN.{length, getD, length-append}
 use Rattle.rules.specs.Refusal.{mostParticles}
-use Rattle.rules.specs.Tree.{Tree, none, leaf, node, nodes, Row, row, rowsFrom, flat, chainsOf}
+use Rattle.rules.specs.Tree.{Tree, none, leaf, node, nodes, Row, row, rowsFrom, flat, chainsOf, rowNumbers}
 use Rattle.rules.specs.Plain.{overwritten}
-use Rattle.tree_slots.specs.Trees.{word, kids, first, Follows, Trails, Below}
-use Rattle.tree_rows.specs.List.{Leaf, Lies, Listable, Wrote}
+use Rattle.tree_slots.specs.Trees.{word, kids, first, Follows, Trails, Below, InSlots}
+use Rattle.tree_rows.specs.List.{ListableLeaf, StandsAt, Listable, Wrote}
 use Rattle.tree_rows.specs.declared.Cursor.{Cursor}
 use Rattle.tree_slots.proofs.Links.{follows-trails}
 use Rattle.tree_rows.proofs.ListRows.{rows-count, wrote-internal, wrote-next, wrote-rows, wrote-chains}
@@ -21,21 +21,21 @@ below-append n (i ∷ is) js b = let r = below-append n is js (b .1) in ((b .0, 
 
 module _ (m next : List ℕ) (p level : ℕ) where
   -- 0 leads to no tree
-  pub lies-none : (t : Tree ℕ) → Lies m next p level t → p ≡ 0 → t ≡ none
-  lies-none none l z = refl
-  lies-none (leaf s is) l z = absurd (omega (arith, l .leads .0))
-  lies-none (node s t0 t1 t2 t3) l z = absurd (omega (arith, l .leads .0))
+  pub stands-none : (t : Tree ℕ) → StandsAt m next p level t → p ≡ 0 → t ≡ none
+  stands-none none l z = refl
+  stands-none (leaf s is) l z = absurd (omega (arith, l .leads .0))
+  stands-none (node s t0 t1 t2 t3) l z = absurd (omega (arith, l .leads .0))
 
   -- any other number leads to a node, whose slot is there
   pub record Some (t : Tree ℕ) : Type 0 where
-    pub slot : (p - 1) * 8 + 8 ≤ length m
+    pub slot : InSlots (p - 1) m
     pub shallow : level ≤ 64
     pub one : 1 ≤ nodes t
 
-  pub lies-some : (t : Tree ℕ) → Lies m next p level t → (p ≡ 0 → ⊥) → Some t
-  lies-some none l f = absurd (f (l .leads))
-  lies-some (leaf s is) l f = record { slot = omega (arith, l .leads .0, l .slots); shallow = omega (arith, l .levels); one = omega arith }
-  lies-some (node s t0 t1 t2 t3) l f = record { slot = omega (arith, l .leads .0, l .slots .0); shallow = omega (arith, l .levels); one = omega arith }
+  pub stands-some : (t : Tree ℕ) → StandsAt m next p level t → (p ≡ 0 → ⊥) → Some t
+  stands-some none l f = absurd (f (l .leads))
+  stands-some (leaf s is) l f = record { slot = omega (arith, l .leads .0, l .slots); shallow = omega (arith, l .levels); one = omega arith }
+  stands-some (node s t0 t1 t2 t3) l f = record { slot = omega (arith, l .leads .0, l .slots .0); shallow = omega (arith, l .levels); one = omega arith }
 
   -- with a first word that is not 0 it is a leaf, whose chain begins there
   pub record IsLeaf (w : ℕ) (t : Tree ℕ) : Type 0 where
@@ -46,23 +46,23 @@ module _ (m next : List ℕ) (p level : ℕ) where
     pub below : Below (length next) chain
     pub small : w ≤ length next
 
-  pub lies-leaf : (w : ℕ) (t : Tree ℕ) → Lies m next p level t → (p ≡ 0 → ⊥) → w ≡ word m (p - 1) 0 → (w ≡ 0 → ⊥) → IsLeaf w t
-  lies-leaf w none l f e g = absurd (f (l .leads))
-  lies-leaf w (leaf s is) l f e g =
+  pub stands-leaf : (w : ℕ) (t : Tree ℕ) → StandsAt m next p level t → (p ≡ 0 → ⊥) → w ≡ word m (p - 1) 0 → (w ≡ 0 → ⊥) → IsLeaf w t
+  stands-leaf w none l f e g = absurd (f (l .leads))
+  stands-leaf w (leaf s is) l f e g =
       let k : p - 1 ≡ s = omega (arith, l .leads .0) in
-      let h : w ≡ first is + 1 = e ∙ ap (λ (i : ℕ). word m i 0) k ∙ l .leads .1 in
+      let h : w ≡ first is + 1 = e ∙ ap (λ (i : ℕ). word m i 0) k ∙ l .leads .1 .tag in
       record { label = s; chain = is; is = refl; trails = rw h (follows-trails next is (l .leads .2)); below = l .below; small = go is h (l .leads .2) (l .below) }
     where
       go : (is : List ℕ) → w ≡ first is + 1 → Follows next is → Below (length next) is → w ≤ length next
       go [] h c b = absurd c
       go (i ∷ is) h c b = omega (arith, b .0)
-  lies-leaf w (node s t0 t1 t2 t3) l f e g =
+  stands-leaf w (node s t0 t1 t2 t3) l f e g =
       let k : p - 1 ≡ s = omega (arith, l .leads .0) in
-      absurd (g (e ∙ ap (λ (i : ℕ). word m i 0) k ∙ l .leads .1))
+      absurd (g (e ∙ ap (λ (i : ℕ). word m i 0) k ∙ l .leads .1 .tag))
 
 -- which can be listed
 pub leaf-listable : {m next : List ℕ} {p level k rows chains : ℕ} {at : Cursor} {t : Tree ℕ} → Listable m next p level rows chains at t → (l : IsLeaf m next p level k t)
-    → Leaf next k rows chains at (l .chain)
+    → ListableLeaf next k rows chains at (l .chain)
 leaf-listable {t = t} w l =
     let n : nodes t ≡ 1 = ap nodes (l .is) in
     let e : chainsOf t ≡ l .chain = ap chainsOf (l .is) in
@@ -80,20 +80,20 @@ pub record IsNode (m next ks : List ℕ) (level : ℕ) (t : Tree ℕ) : Type 0 w
   pub t2 : Tree ℕ
   pub t3 : Tree ℕ
   pub is : t ≡ node label t0 t1 t2 t3
-  pub l0 : Lies m next (getD ks 0 0) (level + 1) t0
-  pub l1 : Lies m next (getD ks 1 0) (level + 1) t1
-  pub l2 : Lies m next (getD ks 2 0) (level + 1) t2
-  pub l3 : Lies m next (getD ks 3 0) (level + 1) t3
+  pub l0 : StandsAt m next (getD ks 0 0) (level + 1) t0
+  pub l1 : StandsAt m next (getD ks 1 0) (level + 1) t1
+  pub l2 : StandsAt m next (getD ks 2 0) (level + 1) t2
+  pub l3 : StandsAt m next (getD ks 3 0) (level + 1) t3
   pub nodes : nodes t ≡ 1 + nodes t0 + nodes t1 + nodes t2 + nodes t3
   pub chains : length (chainsOf t) ≡ length (chainsOf t0) + length (chainsOf t1) + length (chainsOf t2) + length (chainsOf t3)
 
-pub lies-node : (m next ks : List ℕ) (p level w : ℕ) (t : Tree ℕ) → Lies m next p level t → (p ≡ 0 → ⊥) → w ≡ word m (p - 1) 0 → w ≡ 0 → ks ≡ kids m (p - 1)
+pub stands-node : (m next ks : List ℕ) (p level w : ℕ) (t : Tree ℕ) → StandsAt m next p level t → (p ≡ 0 → ⊥) → w ≡ word m (p - 1) 0 → w ≡ 0 → ks ≡ kids m (p - 1)
     → IsNode m next ks level t
-lies-node m next ks p level w none l f e z k = absurd (f (l .leads))
-lies-node m next ks p level w (leaf s is) l f e z k =
+stands-node m next ks p level w none l f e z k = absurd (f (l .leads))
+stands-node m next ks p level w (leaf s is) l f e z k =
     let h : p - 1 ≡ s = omega (arith, l .leads .0) in
-    absurd (omega (arith, e ∙ ap (λ (i : ℕ). word m i 0) h ∙ l .leads .1))
-lies-node m next ks p level w (node s t0 t1 t2 t3) l f e z k =
+    absurd (omega (arith, e ∙ ap (λ (i : ℕ). word m i 0) h ∙ l .leads .1 .tag))
+stands-node m next ks p level w (node s t0 t1 t2 t3) l f e z k =
     let h : p - 1 ≡ s = omega (arith, l .leads .0) in
     let b = below-append (length next) (chainsOf t0 ++ chainsOf t1 ++ chainsOf t2) (chainsOf t3) (l .below) in
     let d = below-append (length next) (chainsOf t0 ++ chainsOf t1) (chainsOf t2) (b .0) in
@@ -127,12 +127,12 @@ particlesOf (t ∷ ts) = length (chainsOf t) + particlesOf ts
 -- These rows and particles stand behind what was listed; trees are left to list, and there is room for them.
 pub record Listing (rows chains : List ℕ) (at : Cursor) (rs : List Row) (is : List ℕ) (left : List (Tree ℕ)) (rows′ chains′ : List ℕ) (r : Cursor) : Type 0 where
   pub wrote : Wrote rows chains at rs is rows′ chains′ r
-  pub room : (at .nodes + length rs + nodesOf left) * 4 ≤ length rows
+  pub room : (at .nodes + length rs + nodesOf left) * rowNumbers ≤ length rows
   pub space : at .chained + length is + particlesOf left ≤ length chains
 
 -- an internal node's row is written, its children are left
 pub node-listed : {m next ks rows chains rows′ : List ℕ} {p level quadrant : ℕ} {at : Cursor} {t : Tree ℕ} → Listable m next p level (length rows) (length chains) at t
-    → (n : IsNode m next ks level t) → rows′ ≡ overwritten rows (at .nodes * 4) (flat (row level quadrant 1 0 ∷ []))
+    → (n : IsNode m next ks level t) → rows′ ≡ overwritten rows (at .nodes * rowNumbers) (flat (row level quadrant 1 0 ∷ []))
     → Listing rows chains at (row level quadrant 1 0 ∷ []) [] (n .t0 ∷ n .t1 ∷ n .t2 ∷ n .t3 ∷ []) rows′ chains (record { nodes = at .nodes + 1; chained = at .chained })
 node-listed w n e =
     record { wrote = wrote-internal e; room = omega (arith, w .room, n .nodes); space = omega (arith, w .space, n .chains) }
@@ -146,13 +146,13 @@ module _ {rows chains : List ℕ} {at : Cursor} {rs : List Row} {is : List ℕ} 
   listing-chains s = wrote-chains (s .wrote) (omega (arith, s .space))
 
   -- the next tree can be listed
-  pub next-child : {m next : List ℕ} {p level : ℕ} {t : Tree ℕ} {left : List (Tree ℕ)} → Listing rows chains at rs is (t ∷ left) rows′ chains′ r → Lies m next p level t
+  pub next-child : {m next : List ℕ} {p level : ℕ} {t : Tree ℕ} {left : List (Tree ℕ)} → Listing rows chains at rs is (t ∷ left) rows′ chains′ r → StandsAt m next p level t
       → (length next ≤ mostParticles) × (length chains ≤ mostParticles) → Listable m next p level (length rows′) (length chains′) r t
   next-child s l f =
       let a = listing-rows s in
       let b = listing-chains s in
       record {
-        lies = l;
+        stands = l;
         room = rw a (omega (arith, s .room, s .wrote .nodes));
         space = rw b (omega (arith, s .space, s .wrote .reach));
         few = (f .0, rw b (f .1));

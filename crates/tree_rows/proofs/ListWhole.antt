@@ -1,6 +1,6 @@
 -- The listing of a whole tree.
 use mathlib.Core.Path.{_≡_, refl, sym, ap, _∙_}
-use mathlib.Core.List.{List, [], _++_, append-nil}
+use mathlib.Core.List.{List, _++_, append-nil}
 use Prim.Native.Nat.{ℕ, suc, _+_, _-_, _*_, _≤_, _<_}
 use native.Mathlib.Nat.{zero-add}
 use native.Mathlib.Omega.{arith}
@@ -10,12 +10,12 @@ use Rattle.rules.specs.declared.Extent.{Extent}
 use Rattle.rules.specs.Plain.{upTo, overwritten, padded}
 use Rattle.rules.specs.Cell.{quarter}
 use Rattle.rules.specs.Cover.{coverFirst, extentOf}
-use Rattle.rules.specs.Tree.{Tree, none, leaf, node, depth, Row, rowsFrom, rowsOf, flat, chainsOf, treeOf}
+use Rattle.rules.specs.Tree.{Tree, none, leaf, node, depth, Row, rowsFrom, rowsOf, flat, chainsOf, treeOf, rowNumbers}
 use Rattle.rules.proofs.CellIs.{Is}
 use Rattle.rules.proofs.CellCount.{length-upTo, in-count}
 use Rattle.rules.proofs.CellRule as Rule
 use Rattle.sheet.proofs.Lists.{overwritten-none, overwritten-next, overwritten-length, store-first}
-use Rattle.tree_slots.specs.Trees.{inCells, Lays, Below}
+use Rattle.tree_slots.specs.Trees.{inCells, Lays, Below, InSlots}
 use Rattle.tree_slots.proofs.Trees.{each-map}
 use Rattle.tree_slots.proofs.Links.{in-below}
 use Rattle.tree_rows.specs.List.{Listable, Wrote, Whole}
@@ -77,7 +77,7 @@ zeros-behind l part h =
     ∙ overwritten-next l 0 part z (omega arith)
     ∙ taken l (part ++ z) (length-append part z ∙ omega arith)
 
--- ---- what a tree that lies in slots gives
+-- ---- what a tree that stands in slots gives
 
 module _ {t : Tree Extent} {m next : List ℕ} {q : Quadtree} {rows chains : ℕ} (w : Whole t m next q rows chains) where
   abbrev s : Lays t m next q
@@ -94,10 +94,10 @@ module _ {t : Tree Extent} {m next : List ℕ} {q : Quadtree} {rows chains : ℕ
   whole-listable =
       let e = chains-same in
       record {
-        lies = record {
+        stands = record {
           leads = s .leads;
           levels = omega (arith, s .levels);
-          slots = each-map (λ i. i < q .nodes) (λ i. i * 8 + 8 ≤ length m) (λ i h. omega (arith, s .room)) (s .tree) (s .below);
+          slots = each-map (λ i. i < q .nodes) (λ i. InSlots i m) (λ i h. omega (arith, s .room)) (s .tree) (s .below);
           below = rw e (w .below);
         };
         room = omega (arith, w .room, s .count);
@@ -108,11 +108,11 @@ module _ {t : Tree Extent} {m next : List ℕ} {q : Quadtree} {rows chains : ℕ
   -- and is, with zeros behind its rows and its chains
   module _ {rows₀ chains₀ rows′ chains′ : List ℕ} {r : Cursor}
       (v : Wrote rows₀ chains₀ (record { nodes = 0; chained = 0 }) (rowsOf (s .tree)) (chainsOf (s .tree)) rows′ chains′ r) where
-    pub rows-listed : length rows₀ ≡ rows → {rows″ : List ℕ} → rows″ ≡ overwritten rows′ (q .nodes * 4) (replicate (length rows′ - q .nodes * 4) 0)
+    pub rows-listed : length rows₀ ≡ rows → {rows″ : List ℕ} → rows″ ≡ overwritten rows′ (q .nodes * rowNumbers) (replicate (length rows′ - q .nodes * rowNumbers) 0)
         → rows″ ≡ padded (length rows₀) 0 (flat (rowsOf t))
     rows-listed a e =
         let f = flat (rowsOf (s .tree)) in
-        let k : length f ≡ q .nodes * 4 = omega (arith, flat-length (rowsOf (s .tree)), rows-count 0 0 (s .tree), s .count) in
+        let k : length f ≡ q .nodes * rowNumbers = omega (arith, flat-length (rowsOf (s .tree)), rows-count 0 0 (s .tree), s .count) in
         e ∙ rw (← k, v .listed) (zeros-behind rows₀ f (omega (arith, w .room))) ∙ ap (λ (rs : List Row). padded (length rows₀) 0 (flat rs)) rows-same
 
     module _ (b : length chains₀ ≡ chains) where

@@ -1,4 +1,5 @@
 // The listing of a tree, parent first: four numbers a node, and the particle numbers of the chains in that order.
+use rules::ROW_NUMBERS;
 use tree_slots::Quadtree;
 use tree_slots::store::children;
 use tree_slots::store::tag;
@@ -8,8 +9,8 @@ ghost use Prim.Native.Nat.{ℕ, _+_, _-_, _*_, _≤_};
 ghost use lib.ListN.{length, replicate};
 ghost use Rattle.rules.specs.declared.Extent.{Extent};
 ghost use Rattle.rules.specs.Plain.{overwritten, padded};
-ghost use Rattle.rules.specs.Tree.{Tree, row, rowsFrom, rowsOf, flat, chainsOf};
-ghost use Rattle.tree_rows.specs.List.{Chain, Leaf, Listable, Wrote, Whole};
+ghost use Rattle.rules.specs.Tree.{Tree, row, rowsFrom, rowsOf, flat, chainsOf, rowNumbers};
+ghost use Rattle.tree_rows.specs.List.{ListableChain, ListableLeaf, Listable, Wrote, Whole};
 
 const INTERNAL: u32 = 1;
 
@@ -23,10 +24,10 @@ struct Cursor {
 
 // Row n.
 fn put_row(rows: &mut [u32], n: usize, level: u32, quadrant: u32, kind: u32, chain: u32)
-    requires { ⌜ (n + 1) * 4 ≤ length (now rows) ⌝ }
-    ensures { λ _. ⌜ now (rows .exit) ≡ overwritten (now (rows .entry)) (n * 4) (flat (row level quadrant kind chain ∷ [])) ⌝ }
+    requires { ⌜ (n + 1) * rowNumbers ≤ length (now rows) ⌝ }
+    ensures { λ _. ⌜ now (rows .exit) ≡ overwritten (now (rows .entry)) (n * rowNumbers) (flat (row level quadrant kind chain ∷ [])) ⌝ }
 {
-    let i = n * 4;
+    let i = n * ROW_NUMBERS;
     rows[i] = level;
     rows[i + 1] = quadrant;
     rows[i + 2] = kind;
@@ -35,8 +36,8 @@ fn put_row(rows: &mut [u32], n: usize, level: u32, quadrant: u32, kind: u32, cha
 
 // The particles from the number p on: 0 for the end, i + 1 for the particle i. Answers where the next chain begins.
 fn put_chain(next: &[u32], p: u32, chains: &mut [u32], at: usize) -> usize
-    requires { ⌜ ((is : List ℕ) × Chain (now next) p (length (now chains)) at is) ⌝ }
-    ensures { λ r. ⌜ ((is : List ℕ) → Chain (now (next .entry)) p (length (now (chains .entry))) at is
+    requires { ⌜ ((is : List ℕ) × ListableChain (now next) p (length (now chains)) at is) ⌝ }
+    ensures { λ r. ⌜ ((is : List ℕ) → ListableChain (now (next .entry)) p (length (now (chains .entry))) at is
         → (now (chains .exit) ≡ overwritten (now (chains .entry)) at is) × (r ≡ at + length is)) ⌝ }
 {
     let mut link = p;
@@ -60,8 +61,8 @@ fn list_leaf(
     chains: &mut [u32],
     at: Cursor,
 ) -> Cursor
-    requires { ⌜ ((is : List ℕ) × Leaf (now next) p (length (now rows)) (length (now chains)) at is) ⌝ }
-    ensures { λ r. ⌜ ((is : List ℕ) → Leaf (now (next .entry)) p (length (now (rows .entry))) (length (now (chains .entry))) at is
+    requires { ⌜ ((is : List ℕ) × ListableLeaf (now next) p (length (now rows)) (length (now chains)) at is) ⌝ }
+    ensures { λ r. ⌜ ((is : List ℕ) → ListableLeaf (now (next .entry)) p (length (now (rows .entry))) (length (now (chains .entry))) at is
         → Wrote (now (rows .entry)) (now (chains .entry)) at (row level quadrant 2 (length is) ∷ []) is
         (now (rows .exit)) (now (chains .exit)) r) ⌝ }
 {
@@ -139,6 +140,6 @@ pub fn list(q: Quadtree, m: &[u64], next: &[u32], rows: &mut [u32], chains: &mut
         chained: 0,
     };
     let end = list_node(m, next, q.root, 0, 0, rows, chains, from);
-    clear_from(rows, nodes * 4);
+    clear_from(rows, nodes * ROW_NUMBERS);
     clear_from(chains, end.chained);
 }

@@ -7,12 +7,13 @@ use lib.Ieee.{Float}
 use Rattle.rules.specs.declared.Extent.{Extent}
 use Rattle.rules.specs.Cell.{quarter}
 use Rattle.rules.specs.Tree.{Tree, none, leaf, node, nodes, depth, treeOf, greatestLevel}
+use Rattle.rules.specs.Calls.{slotWords}
 use Rattle.tree_slots.specs.declared.Quadtree.{Quadtree}
 -- the words of a slot, for those who read a tree
 unfoldable pub use Rattle.tree_slots.specs.Slots.{word, putValue}
-pub use Rattle.tree_slots.specs.Slots.{kid, kids, value}
+pub use Rattle.tree_slots.specs.Slots.{kid, kids, value, InSlots}
 
--- ---- trees whose nodes bear the numbers of their slots
+-- ---- chains
 
 -- following the links from the first of a chain gives it whole: 0 for the end, j + 1 for the particle j
 abbrev pub Follows : List ℕ → List ℕ → Type 0
@@ -51,19 +52,48 @@ abbrev pub Below : ℕ → List ℕ → Type 0
 Below n [] = Unit {0}
 Below n (i ∷ is) = (i < n) × Below n is
 
+-- ---- what a slot holds
+
+-- the number that leads to a tree
+abbrev pub lead : Tree ℕ → ℕ
+lead none = 0
+lead (leaf s is) = s + 1
+lead (node s t0 t1 t2 t3) = s + 1
+
+-- slot s holds a leaf of these particles
+pub record LeafIn (m : List ℕ) (s : ℕ) (is : List ℕ) : Type 0 where
+  pub tag : word m s 0 ≡ first is + 1
+
+-- slot s holds an internal node
+abbrev pub InternalIn : List ℕ → ℕ → Type 0
+InternalIn m s = word m s 0 ≡ 0
+
+-- whose children are these trees
+pub record NodeIn (m : List ℕ) (s : ℕ) (t0 t1 t2 t3 : Tree ℕ) : Type 0 where
+  pub tag : InternalIn m s
+  pub kids : kids m s ≡ lead t0 ∷ lead t1 ∷ lead t2 ∷ lead t3 ∷ []
+
+-- ---- what the slots hold
+
 -- the number p leads to the tree t
 abbrev pub Leads : List ℕ → List ℕ → ℕ → Tree ℕ → Type 0
 Leads m next p none = p ≡ 0
-Leads m next p (leaf s is) = (p ≡ s + 1) × (word m s 0 ≡ first is + 1) × Follows next is
+Leads m next p (leaf s is) = (p ≡ s + 1) × LeafIn m s is × Follows next is
 Leads m next p (node s t0 t1 t2 t3) =
-    (p ≡ s + 1) × (word m s 0 ≡ 0)
+    (p ≡ s + 1) × NodeIn m s t0 t1 t2 t3
     × Leads m next (kid m s 0) t0 × Leads m next (kid m s 1) t1 × Leads m next (kid m s 2) t2 × Leads m next (kid m s 3) t3
+
+-- ---- trees whose nodes bear the numbers of their slots
 
 -- each slot of the tree satisfies P
 abbrev pub EachSlot : (ℕ → Type 0) → Tree ℕ → Type 0
 EachSlot P none = Unit {0}
 EachSlot P (leaf s is) = P s
 EachSlot P (node s t0 t1 t2 t3) = P s × EachSlot P t0 × EachSlot P t1 × EachSlot P t2 × EachSlot P t3
+
+-- each slot is lent
+abbrev pub SlotsLent : List ℕ → Tree ℕ → Type 0
+SlotsLent m t = EachSlot (λ s. InSlots s m) t
 
 -- no slot of t is one of u
 abbrev pub Apart : Tree ℕ → Tree ℕ → Type 0
@@ -94,7 +124,7 @@ pub record Lays (t : Tree Extent) (m next : List ℕ) (q : Quadtree) : Type 0 wh
   pub count : nodes tree ≡ q .nodes
   pub below : EachSlot (λ s. s < q .nodes) tree
   pub once : Once tree
-  pub room : q .nodes * 8 ≤ length m
+  pub room : q .nodes * slotWords ≤ length m
 
 -- the slots hold the tree of the first n points
 abbrev pub Stands : List Float → ℕ → List ℕ → List ℕ → Quadtree → Type 0

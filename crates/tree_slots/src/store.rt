@@ -1,34 +1,34 @@
-// The lent slots, eight words each. Word 0 is 0 for an internal node and f + 1 for a leaf whose first particle is f; words 1 and 2 hold the four children side by side, 0 for none and
+// The lent slots, of `SLOT_WORDS` words each. Word 0 is 0 for an internal node and f + 1 for a leaf whose first particle is f; words 1 and 2 hold the four children side by side, 0 for none and
 // s + 1 for slot s; words 3 to 5 the values that a force keeps in a node, as bits.
 ghost use mathlib.Core.Path.{_≡_};
-ghost use Prim.Native.Nat.{_+_, _*_, _/_, _%_, _^_, _≤_, _<_};
+ghost use Prim.Native.Nat.{_+_, _*_, _/_, _%_, _^_, _<_};
 ghost use lib.ListN.{length, set, replicate};
 ghost use Rattle.rules.specs.Refusal.{mostParticles};
-ghost use Rattle.tree_slots.specs.Slots.{word, put, childless, kids, value, putInternal, putLeaf, putValue, copied};
-
-const WORDS: usize = 8;
+ghost use Rattle.rules.specs.Calls.{slotWords, slotsOf};
+ghost use Rattle.tree_slots.specs.Slots.{word, put, childless, kids, value, putInternal, putLeaf, putValue, copied, InSlots};
+use rules::SLOT_WORDS;
 
 const HALF: u64 = 4294967296;
 
 // How many slots are lent.
 pub fn slots(m: &[u64]) -> usize
-    ensures { λ r. ⌜ r ≡ length (now (m .entry)) / 8 ⌝ }
+    ensures { λ r. ⌜ r ≡ slotsOf (now (m .entry)) ⌝ }
 {
-    m.len() / WORDS
+    m.len() / SLOT_WORDS
 }
 
 fn word_at(m: &[u64], s: usize, j: usize) -> u64
-    requires { ⌜ (s * 8 + 8 ≤ length (now m)) × (j < 8) ⌝ }
+    requires { ⌜ InSlots s (now m) × (j < slotWords) ⌝ }
     ensures { λ r. ⌜ r ≡ word (now (m .entry)) s j ⌝ }
 {
-    m[s * WORDS + j]
+    m[s * SLOT_WORDS + j]
 }
 
 fn put_word(m: &mut [u64], s: usize, j: usize, w: u64)
-    requires { ⌜ (s * 8 + 8 ≤ length (now m)) × (j < 8) ⌝ }
+    requires { ⌜ InSlots s (now m) × (j < slotWords) ⌝ }
     ensures { λ _. ⌜ now (m .exit) ≡ put (now (m .entry)) s j w ⌝ }
 {
-    m[s * WORDS + j] = w;
+    m[s * SLOT_WORDS + j] = w;
 }
 
 // Two children in one word.
@@ -53,14 +53,14 @@ fn high_half(w: u64) -> u32
 }
 
 pub fn tag(m: &[u64], s: usize) -> u64
-    requires { ⌜ s * 8 + 8 ≤ length (now m) ⌝ }
+    requires { ⌜ InSlots s (now m) ⌝ }
     ensures { λ r. ⌜ r ≡ word (now (m .entry)) s 0 ⌝ }
 {
     word_at(m, s, 0)
 }
 
 pub fn children(m: &[u64], s: usize) -> [u32; 4]
-    requires { ⌜ s * 8 + 8 ≤ length (now m) ⌝ }
+    requires { ⌜ InSlots s (now m) ⌝ }
     ensures { λ r. ⌜ r ≡ kids (now (m .entry)) s ⌝ }
 {
     let left = word_at(m, s, 1);
@@ -84,7 +84,7 @@ pub fn only(k: usize, child: usize) -> [u32; 4]
 
 // An internal node with these children.
 pub fn put_internal(m: &mut [u64], s: usize, children: [u32; 4])
-    requires { ⌜ s * 8 + 8 ≤ length (now m) ⌝ }
+    requires { ⌜ InSlots s (now m) ⌝ }
     ensures { λ _. ⌜ now (m .exit) ≡ putInternal (now (m .entry)) s children ⌝ }
 {
     let left = pair(children[0], children[1]);
@@ -96,7 +96,7 @@ pub fn put_internal(m: &mut [u64], s: usize, children: [u32; 4])
 
 // A leaf whose first particle is `first`.
 pub fn put_leaf(m: &mut [u64], s: usize, first: usize)
-    requires { ⌜ (s * 8 + 8 ≤ length (now m)) × (first < mostParticles) ⌝ }
+    requires { ⌜ InSlots s (now m) × (first < mostParticles) ⌝ }
     ensures { λ _. ⌜ now (m .exit) ≡ putLeaf (now (m .entry)) s first ⌝ }
 {
     put_word(m, s, 0, (first + 1) as u64);
@@ -104,7 +104,7 @@ pub fn put_leaf(m: &mut [u64], s: usize, first: usize)
 
 // What a tree sees of slot x, in slot h too.
 pub fn copy(m: &mut [u64], x: usize, h: usize)
-    requires { ⌜ (x * 8 + 8 ≤ length (now m)) × (h * 8 + 8 ≤ length (now m)) ⌝ }
+    requires { ⌜ InSlots x (now m) × InSlots h (now m) ⌝ }
     ensures { λ _. ⌜ now (m .exit) ≡ copied (now (m .entry)) x h ⌝ }
 {
     let tag = word_at(m, x, 0);
@@ -117,14 +117,14 @@ pub fn copy(m: &mut [u64], x: usize, h: usize)
 
 // Value j of a node: 0, 1 or 2.
 pub fn node_value(m: &[u64], s: usize, j: usize) -> f64
-    requires { ⌜ (s * 8 + 8 ≤ length (now m)) × (j < 3) ⌝ }
+    requires { ⌜ InSlots s (now m) × (j < 3) ⌝ }
     ensures { λ r. ⌜ r ≡ value (now (m .entry)) s j ⌝ }
 {
     number::float_of(word_at(m, s, 3 + j))
 }
 
 pub fn put_value(m: &mut [u64], s: usize, j: usize, x: f64)
-    requires { ⌜ (s * 8 + 8 ≤ length (now m)) × (j < 3) ⌝ }
+    requires { ⌜ InSlots s (now m) × (j < 3) ⌝ }
     ensures { λ _. ⌜ now (m .exit) ≡ putValue (now (m .entry)) s j x ⌝ }
 {
     put_word(m, s, 3 + j, number::bits_of(x));

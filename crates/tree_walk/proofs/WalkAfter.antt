@@ -1,7 +1,7 @@
 -- What holds of a function that lays a value at each node, children first, at each turn of its loop. Assumes nothing.
 use mathlib.Core.Path.{_≡_, refl, sym, ap, _∙_, subst, subst⁻¹}
 use mathlib.Core.List.{List, [], _∷_, _++_}
-use Prim.Native.Nat.{ℕ, zero, suc, _+_, _*_, _-_, _≤_, _<_}
+use Prim.Native.Nat.{ℕ, zero, suc, _+_, _-_, _<_}
 use native.Mathlib.Omega.{arith}
 use lib.ListN.{length, getD, length-append}
 use lib.Ieee.{Float}
@@ -13,9 +13,9 @@ use Rattle.rules.proofs.CellList.{foldl-append}
 use Rattle.tree_slots.specs.declared.Quadtree.{Quadtree}
 use Rattle.tree_walk.specs.declared.visit_after.Path.{Path}
 use Rattle.tree_walk.specs.declared.visit_after.Handed.{Handed}
-use Rattle.tree_slots.specs.Trees.{word, kid, kids, Follows, first, Lays, Stands, ChainFrom}
+use Rattle.tree_slots.specs.Trees.{word, kid, kids, LeafIn, InternalIn, Follows, Lays, Stands, ChainFrom, InSlots}
 use Rattle.tree_walk.specs.Walk.{EachChain}
-use Rattle.tree_walk.specs.WalkAfter.{Step, stepsAt, stepsOf, rooted, Steps, Climbs, Climbing, EntryAt, First, Descends, Lent, KidsLent, EachTip, valuesAt, kidValues, Valued}
+use Rattle.tree_walk.specs.WalkAfter.{Step, stepsAt, stepsOf, rooted, Steps, Climbs, Climbing, EntryAt, First, HandsOut, KidIn, KidsIn, EachTip, valuesAt, kidValues, Valued, pathNumbers}
 use Rattle.tree_walk.proofs.WalkClimb.{climb-start, climb-end}
 use Rattle.tree_walk.proofs.WalkValues.{Alike, alike-refl, alike-trans, leads-alike, Writes}
 use Rattle.tree_walk.proofs.WalkFill.{act, fill, act-alike, act-long, kept-fill, kept-valued}
@@ -55,7 +55,7 @@ tips-last P (node s t0 t1 t2 t3) h =
 
 -- ---- the children of a node
 
-pub lent-some : (m : List ℕ) (p : ℕ) → Lent m p → (p ≡ 0 → ⊥) → (p - 1) * 8 + 8 ≤ length m
+pub lent-some : (m : List ℕ) (p : ℕ) → KidIn m p → (p ≡ 0 → ⊥) → InSlots (p - 1) m
 lent-some m zero h n = absurd (n refl)
 lent-some m (suc s) h n = let e : suc s - 1 ≡ s = omega arith in rw e h
 
@@ -102,20 +102,20 @@ pub record Filling {B : Type 0} (read : List ℕ → ℕ → B) (write : List �
   pub good : EachTip P rest
   pub alike : Alike m₀ m
   pub long : length m ≡ length m₀
-  pub sized : length (p .steps) ≡ 130
+  pub sized : length (p .steps) ≡ pathNumbers
 
 -- a turn of it, in which r was handed out and l is the path's array since
 pub record Taken {B : Type 0} (read : List ℕ → ℕ → B) (write : List ℕ → ℕ → B → List ℕ) (ofLeaf : List ℕ → B) (ofNode : List B → B) (P : List ℕ → Type 0) (next : List ℕ) (tree : Tree ℕ) (m₀ m : List ℕ) (p : Path) (left : ℕ) (l : List ℕ) (r : Handed) : Type 0 where
   pub filling : Filling read write ofLeaf ofNode P next tree m₀ m p left
   pub more : 0 < left
-  pub went : Descends m (p .steps) (p .height) l r
+  pub went : HandsOut m (p .steps) (p .height) l r
 
 -- the path without what was handed out
 abbrev pub shorter : List ℕ → Handed → Path
 shorter l r = record { steps = l; height = r .height }
 
 module _ {B : Type 0} (read : List ℕ → ℕ → B) (write : List ℕ → ℕ → B → List ℕ) (ofLeaf : List ℕ → B) (ofNode : List B → B) (P : List ℕ → Type 0) where
-  pub start : {t : Tree Extent} {m next : List ℕ} {q : Quadtree} (s : Lays t m next q) → EachChain P (s .tree) → (p : Path) → stepsOf p ≡ rooted (q .root) → length (p .steps) ≡ 130
+  pub start : {t : Tree Extent} {m next : List ℕ} {q : Quadtree} (s : Lays t m next q) → EachChain P (s .tree) → (p : Path) → stepsOf p ≡ rooted (q .root) → length (p .steps) ≡ pathNumbers
       → Filling read write ofLeaf ofNode P next (s .tree) m m p (q .nodes)
   start {m = m} {next = next} {q = q} s h p e z =
       let f = found s P h in
@@ -146,7 +146,7 @@ module _ {B : Type 0} {read : List ℕ → ℕ → B} {write : List ℕ → ℕ 
   at = t .went .first next (t .filling .rest) (t .filling .climbs)
 
   -- what was handed out is lent
-  pub reach : r .slot * 8 + 8 ≤ length m
+  pub reach : InSlots (r .slot) m
   reach = at .lent
 
   -- the entry is written for
@@ -169,37 +169,37 @@ module _ {B : Type 0} {read : List ℕ → ℕ → B} {write : List ℕ → ℕ 
       tail (internal s) es h = h
       tail (tip s is) es h = h .1
 
-  module _ (z : word m (r .slot) 0 ≡ 0) where
-    entry-node : (at .entry ≡ internal (r .slot)) × KidsLent m (r .slot)
+  module _ (z : InternalIn m (r .slot)) where
+    entry-node : (at .entry ≡ internal (r .slot)) × KidsIn m (r .slot)
     entry-node = go (at .entry) (at .stands)
       where
-        go : (e : Entry ℕ) → EntryAt m next (r .slot) e → (e ≡ internal (r .slot)) × KidsLent m (r .slot)
+        go : (e : Entry ℕ) → EntryAt m next (r .slot) e → (e ≡ internal (r .slot)) × KidsIn m (r .slot)
         go (internal i) h = (ap internal (h .0), h .2)
-        go (tip i is) h = absurd (omega (arith, z, h .1))
+        go (tip i is) h = absurd (omega (arith, z, h .1 .tag))
 
     -- an internal node: its children are lent
-    pub kids-lent : KidsLent m (r .slot)
+    pub kids-lent : KidsIn m (r .slot)
     kids-lent = entry-node .1
 
     -- the value of an internal node is laid
     pub turn-node : {Fit : B → Type 0} → Writes Fit read write → (w : List ℕ) → w ≡ write m (r .slot) (ofNode (kidValues read m (r .slot))) → Filling read write ofLeaf ofNode P next tree m₀ w (shorter l r) (left - 1)
     turn-node W w e = step W w (e ∙ ap (λ (x : Entry ℕ). act read write ofLeaf ofNode x m) (sym (entry-node .0)))
 
-  module _ (z : word m (r .slot) 0 ≡ 0 → ⊥) where
-    entry-leaf : (is : List ℕ) × (at .entry ≡ tip (r .slot) is) × (word m (r .slot) 0 ≡ first is + 1) × Follows next is × P is
+  module _ (z : InternalIn m (r .slot) → ⊥) where
+    entry-leaf : (is : List ℕ) × (at .entry ≡ tip (r .slot) is) × LeafIn m (r .slot) is × Follows next is × P is
     entry-leaf = go (at .entry) (at .stands) (subst (EachTip P) (at .split) (t .filling .good))
       where
-        go : (e : Entry ℕ) → EntryAt m next (r .slot) e → EachTip P (e ∷ at .others) → (is : List ℕ) × (e ≡ tip (r .slot) is) × (word m (r .slot) 0 ≡ first is + 1) × Follows next is × P is
+        go : (e : Entry ℕ) → EntryAt m next (r .slot) e → EachTip P (e ∷ at .others) → (is : List ℕ) × (e ≡ tip (r .slot) is) × LeafIn m (r .slot) is × Follows next is × P is
         go (internal i) h k = absurd (z (h .1))
         go (tip i is) h k = (is, ap (λ (s : ℕ). tip s is) (h .0), h .1, h .2, k .0)
 
     -- a leaf's chain, from its first particle
     pub chain : ChainFrom next P (word m (r .slot) 0 - 1)
-    chain = let e = entry-leaf in record { members = e .0; follows = e .3; starts = omega (arith, e .2); good = e .4 }
+    chain = let e = entry-leaf in record { members = e .0; follows = e .3; starts = omega (arith, e .2 .tag); good = e .4 }
 
     -- the value of a leaf is laid
     pub turn-leaf : {Fit : B → Type 0} → Writes Fit read write → (w : List ℕ)
-        → ((is : List ℕ) → Follows next is → word m (r .slot) 0 ≡ first is + 1 → P is → w ≡ write m (r .slot) (ofLeaf is)) → Filling read write ofLeaf ofNode P next tree m₀ w (shorter l r) (left - 1)
+        → ((is : List ℕ) → Follows next is → LeafIn m (r .slot) is → P is → w ≡ write m (r .slot) (ofLeaf is)) → Filling read write ofLeaf ofNode P next tree m₀ w (shorter l r) (left - 1)
     turn-leaf W w h =
         let e = entry-leaf in
         step W w (h (e .0) (e .3) (e .2) (e .4) ∙ ap (λ (x : Entry ℕ). act read write ofLeaf ofNode x m) (sym (e .1)))

@@ -1,14 +1,14 @@
 -- A walk parent last along its path: what each kind of turn does to what is still to be handed out. Assumes nothing.
 use mathlib.Core.Path.{_≡_, refl, sym, ap, _∙_, subst}
 use mathlib.Core.List.{List, [], _∷_, _++_, append-assoc, append-nil}
-use Prim.Native.Nat.{ℕ, zero, suc, _+_, _*_, _-_, _≤_, _<_}
+use Prim.Native.Nat.{ℕ, zero, suc, _+_, _-_, _≤_, _<_}
 use native.Mathlib.Numerals.{add-one}
 use native.Mathlib.Omega.{arith}
 use lib.ListN.{length}
 use Rattle.rules.specs.Tree.{Tree, none, leaf, node, depth}
 use Rattle.rules.specs.Walk.{Entry, internal, tip, parentLast}
-use Rattle.tree_slots.specs.Trees.{word, kid, Follows, first, Leads, EachSlot}
-use Rattle.tree_walk.specs.WalkAfter.{Step, rooted, remaining, remainingAll, Steps, Climbs, Lent, KidsLent}
+use Rattle.tree_slots.specs.Trees.{kid, LeafIn, InternalIn, Follows, Leads, EachSlot, InSlots, SlotsLent}
+use Rattle.tree_walk.specs.WalkAfter.{Step, rooted, remaining, remainingAll, Steps, Climbs, KidIn, KidsIn}
 
 -- ---- what remains of a tree
 
@@ -60,15 +60,15 @@ module _ (s : ℕ) (t0 t1 t2 t3 : Tree ℕ) where
   leads-pick m next (suc (suc (suc q))) h = h .5
 
 module _ (m next : List ℕ) where
-  lent-kid : (p : ℕ) (t : Tree ℕ) → Leads m next p t → EachSlot (λ s. s * 8 + 8 ≤ length m) t → Lent m p
+  lent-kid : (p : ℕ) (t : Tree ℕ) → Leads m next p t → SlotsLent m t → KidIn m p
   lent-kid zero t l b = tt
   lent-kid (suc p) none l b = absurd (omega (arith, l))
   lent-kid (suc p) (leaf i is) l b = omega (arith, l .0, b)
   lent-kid (suc p) (node i t0 t1 t2 t3) l b = omega (arith, l .0, b .0)
 
-  -- ---- the ends
+  -- ---- how it begins and ends
 
-  pub climb-start : (p : ℕ) (t : Tree ℕ) → Leads m next p t → EachSlot (λ s. s * 8 + 8 ≤ length m) t → depth t ≤ 65 → Climbs m next (rooted p) (parentLast t)
+  pub climb-start : (p : ℕ) (t : Tree ℕ) → Leads m next p t → SlotsLent m t → depth t ≤ 65 → Climbs m next (rooted p) (parentLast t)
   climb-start zero none l b d = record { trees = []; steps = tt; same = refl }
   climb-start zero (leaf i is) l b d = absurd (omega (arith, l .0))
   climb-start zero (node i t0 t1 t2 t3) l b d = absurd (omega (arith, l .0))
@@ -83,17 +83,17 @@ module _ (m next : List ℕ) where
   -- ---- a turn, at the end of the path
 
   module _ (s q : ℕ) (es : List Step) (rest : List (Entry ℕ)) (c : Climbs m next ((s, q) ∷ es) rest) where
-    pub climb-lent : (s * 8 + 8 ≤ length m) × (length es ≤ 64) × (q ≤ 4)
+    pub climb-lent : InSlots s m × (length es ≤ 64) × (q ≤ 4)
     climb-lent = go (c .trees) (c .steps)
       where
-        go : (ts : List (Tree ℕ)) → Steps m next ((s, q) ∷ es) ts → (s * 8 + 8 ≤ length m) × (length es ≤ 64) × (q ≤ 4)
+        go : (ts : List (Tree ℕ)) → Steps m next ((s, q) ∷ es) ts → InSlots s m × (length es ≤ 64) × (q ≤ 4)
         go [] w = absurd w
         go (none ∷ ts) w = absurd (omega (arith, w .0))
         go (leaf i is ∷ ts) w = (omega (arith, w .0 .0, w .1), omega (arith, w .2), w .3)
         go (node i t0 t1 t2 t3 ∷ ts) w = (omega (arith, w .0 .0, w .1 .0), omega (arith, w .2), w .3)
 
     -- ---- an internal node
-    module _ (z : word m s 0 ≡ 0) where
+    module _ (z : InternalIn m s) where
       record Open : Type 0 where
         t0 : Tree ℕ
         t1 : Tree ℕ
@@ -101,7 +101,7 @@ module _ (m next : List ℕ) where
         t3 : Tree ℕ
         trees : List (Tree ℕ)
         leads : Leads m next (s + 1) (node s t0 t1 t2 t3)
-        lent : EachSlot (λ s. s * 8 + 8 ≤ length m) (node s t0 t1 t2 t3)
+        lent : SlotsLent m (node s t0 t1 t2 t3)
         low : length es + depth (node s t0 t1 t2 t3) ≤ 65
         below : Steps m next es trees
         same : remaining q (node s t0 t1 t2 t3) ++ remainingAll es trees ≡ rest
@@ -116,7 +116,7 @@ module _ (m next : List ℕ) where
             t3 = t3;
             trees = ts;
             leads = subst (λ (x : ℕ). Leads m next (s + 1) (node x t0 t1 t2 t3)) e (w .0);
-            lent = subst (λ (x : ℕ). EachSlot (λ s. s * 8 + 8 ≤ length m) (node x t0 t1 t2 t3)) e (w .1);
+            lent = subst (λ (x : ℕ). SlotsLent m (node x t0 t1 t2 t3)) e (w .1);
             low = w .2;
             below = w .4;
             same = subst (λ (x : ℕ). remaining q (node x t0 t1 t2 t3) ++ remainingAll es ts ≡ rest) e r;
@@ -130,7 +130,7 @@ module _ (m next : List ℕ) where
           go (none ∷ ts) w r = absurd (omega (arith, w .0))
           go (leaf i is ∷ ts) w r =
               let e : i ≡ s = omega (arith, w .0 .0) in
-              absurd (omega (arith, z, rw e at (w .0 .1)))
+              absurd (omega (arith, z, rw e at (w .0 .1 .tag)))
           go (node i t0 t1 t2 t3 ∷ ts) w r = open-node i t0 t1 t2 t3 ts (omega (arith, w .0 .0)) w r
 
       -- what remains begins with child q
@@ -168,7 +168,7 @@ module _ (m next : List ℕ) where
             trees = t ∷ node s (o .t0) (o .t1) (o .t2) (o .t3) ∷ o .trees;
             steps = (
               subst (λ (p : ℕ). Leads m next p t) e (leads-pick s (o .t0) (o .t1) (o .t2) (o .t3) m next q (o .leads)),
-              slots-pick s (o .t0) (o .t1) (o .t2) (o .t3) (λ s. s * 8 + 8 ≤ length m) q (o .lent),
+              slots-pick s (o .t0) (o .t1) (o .t2) (o .t3) (λ s. InSlots s m) q (o .lent),
               omega (arith, depth-pick s (o .t0) (o .t1) (o .t2) (o .t3) q, o .low),
               omega arith,
               (o .leads, o .lent, o .low, omega arith, o .below),
@@ -177,7 +177,7 @@ module _ (m next : List ℕ) where
           }
 
       -- no child is left: it is handed out
-      pub climb-node : 3 < q → (others : List (Entry ℕ)) × (rest ≡ internal s ∷ others) × KidsLent m s × Climbs m next es others
+      pub climb-node : 3 < q → (others : List (Entry ℕ)) × (rest ≡ internal s ∷ others) × KidsIn m s × Climbs m next es others
       climb-node h =
           let o = open′ in (
             remainingAll es (o .trees),
@@ -192,17 +192,17 @@ module _ (m next : List ℕ) where
           )
 
     -- ---- a leaf is handed out
-    pub climb-leaf : (word m s 0 ≡ 0 → ⊥)
-        → (is : List ℕ) × (others : List (Entry ℕ)) × (rest ≡ tip s is ∷ others) × (word m s 0 ≡ first is + 1) × Follows next is × Climbs m next es others
+    pub climb-leaf : (InternalIn m s → ⊥)
+        → (is : List ℕ) × (others : List (Entry ℕ)) × (rest ≡ tip s is ∷ others) × LeafIn m s is × Follows next is × Climbs m next es others
     climb-leaf z = go (c .trees) (c .steps) (c .same)
       where
         go : (ts : List (Tree ℕ)) → Steps m next ((s, q) ∷ es) ts → remainingAll ((s, q) ∷ es) ts ≡ rest
-            → (is : List ℕ) × (others : List (Entry ℕ)) × (rest ≡ tip s is ∷ others) × (word m s 0 ≡ first is + 1) × Follows next is × Climbs m next es others
+            → (is : List ℕ) × (others : List (Entry ℕ)) × (rest ≡ tip s is ∷ others) × LeafIn m s is × Follows next is × Climbs m next es others
         go [] w r = absurd w
         go (none ∷ ts) w r = absurd (omega (arith, w .0))
         go (node i t0 t1 t2 t3 ∷ ts) w r =
             let e : i ≡ s = omega (arith, w .0 .0) in
-            absurd (z (rw e at (w .0 .1)))
+            absurd (z (rw e at (w .0 .1 .tag)))
         go (leaf i is ∷ ts) w r =
             let e : i ≡ s = omega (arith, w .0 .0) in
             (is, remainingAll es ts, sym r ∙ rw e, rw e at (w .0 .1), w .0 .2, record { trees = ts; steps = w .4; same = refl })

@@ -8,7 +8,8 @@ use Rattle.rules.specs.declared.Extent.{Extent}
 use Rattle.rules.specs.Cell.{quarter}
 use Rattle.rules.specs.Tree.{Tree, none, leaf, node}
 use Rattle.rules.specs.Walk.{Entry, internal, tip, valued, present, parentLast}
-use Rattle.tree_slots.specs.Trees.{word, kid, Leads, EachSlot, Apart, Once, inCells}
+use Rattle.rules.specs.Calls.{slotWords}
+use Rattle.tree_slots.specs.Trees.{kid, Leads, EachSlot, Apart, Once, inCells, InSlots, SlotsLent}
 use Rattle.tree_walk.specs.Walk.{seen, EachChain}
 use Rattle.tree_walk.specs.WalkAfter.{valuesAt, kidValues}
 use Rattle.tree_slots.proofs.Trees.{each-map}
@@ -139,16 +140,16 @@ module _ {B : Type 0} {Fit : B → Type 0} {read : List ℕ → ℕ → B} {writ
       (each-map (λ i. EachSlot (λ j. j ≡ i → ⊥) u) (λ i. read (fill read write ofLeaf ofNode (parentLast u) m) i ≡ read m i) (λ i h. fill-other u m i h) t a) k
 
   module _ (P : List ℕ → Type 0) (fitLeaf : (is : List ℕ) → P is → Fit (ofLeaf is)) (fitNode : (m : List ℕ) (s : ℕ) → Fit (ofNode (kidValues read m s))) (next : List ℕ) where
-    lent-long : (m w : List ℕ) (t : Tree ℕ) → length w ≡ length m → EachSlot (λ s. s * 8 + 8 ≤ length m) t → EachSlot (λ s. s * 8 + 8 ≤ length w) t
+    lent-long : (m w : List ℕ) (t : Tree ℕ) → length w ≡ length m → SlotsLent m t → SlotsLent w t
     lent-long m w t e h = rw e h
 
     -- the last write of a node, above its children
-    over : (s : ℕ) (t0 t1 t2 t3 : Tree ℕ) (m : List ℕ) → word m s 0 ≡ 0 → s * 8 + 8 ≤ length m
+    over : (s : ℕ) (t0 t1 t2 t3 : Tree ℕ) (m : List ℕ) → InSlots s m
         → Leads m next (kid m s 0) t0 → Leads m next (kid m s 1) t1 → Leads m next (kid m s 2) t2 → Leads m next (kid m s 3) t3
         → EachSlot (λ j. j ≡ s → ⊥) t0 → EachSlot (λ j. j ≡ s → ⊥) t1 → EachSlot (λ j. j ≡ s → ⊥) t2 → EachSlot (λ j. j ≡ s → ⊥) t3
         → Kept read write ofLeaf ofNode m t0 → Kept read write ofLeaf ofNode m t1 → Kept read write ofLeaf ofNode m t2 → Kept read write ofLeaf ofNode m t3
         → Kept read write ofLeaf ofNode (write m s (ofNode (kidValues read m s))) (node s t0 t1 t2 t3)
-    over s t0 t1 t2 t3 m z b l0 l1 l2 l3 n0 n1 n2 n3 k0 k1 k2 k3 =
+    over s t0 t1 t2 t3 m b l0 l1 l2 l3 n0 n1 n2 n3 k0 k1 k2 k3 =
         let w = write m s (ofNode (kidValues read m s)) in (
           W .same m s (ofNode (kidValues read m s)) b (fitNode m s)
               ∙ ap ofNode (kid-reads read m next s t0 t1 t2 t3 l0 l1 l2 l3
@@ -162,7 +163,7 @@ module _ {B : Type 0} {Fit : B → Type 0} {read : List ℕ → ℕ → B} {writ
         still : (t : Tree ℕ) → EachSlot (λ j. j ≡ s → ⊥) t → EachSlot (λ i. read (write m s (ofNode (kidValues read m s))) i ≡ read m i) t
         still t h = each-map (λ j. j ≡ s → ⊥) (λ i. read (write m s (ofNode (kidValues read m s))) i ≡ read m i) (λ i n. W .other m s (ofNode (kidValues read m s)) i n) t h
 
-    pub kept-fill : (t : Tree ℕ) (p : ℕ) (m : List ℕ) → Leads m next p t → Once t → EachSlot (λ s. s * 8 + 8 ≤ length m) t → EachChain P t → Kept read write ofLeaf ofNode (fill read write ofLeaf ofNode (parentLast t) m) t
+    pub kept-fill : (t : Tree ℕ) (p : ℕ) (m : List ℕ) → Leads m next p t → Once t → SlotsLent m t → EachChain P t → Kept read write ofLeaf ofNode (fill read write ofLeaf ofNode (parentLast t) m) t
     kept-fill none p m l o b c = tt
     kept-fill (leaf s is) p m l o b c = W .same m s (ofLeaf is) b (fitLeaf is c)
     kept-fill (node s t0 t1 t2 t3) p m l o b c =
@@ -185,5 +186,5 @@ module _ {B : Type 0} {Fit : B → Type 0} {read : List ℕ → ℕ → B} {writ
         let k3 = kept-fill t3 (kid m s 3) m3 (leads-alike m m3 next a3 (kid m s 3) t3 (l .5)) (o .13) (lent-long m m3 t3 e3 (b .4)) (c .3) in
         let d = leads-alike m m4 next a4 (s + 1) (node s t0 t1 t2 t3) (refl, l .1, l .2, l .3, l .4, l .5) in
         subst⁻¹ (λ (w : List ℕ). Kept read write ofLeaf ofNode w (node s t0 t1 t2 t3)) (fill-node read write ofLeaf ofNode s t0 t1 t2 t3 m)
-        (over s t0 t1 t2 t3 m4 (d .1) (subst⁻¹ (λ (n : ℕ). s * 8 + 8 ≤ n) e4 (b .0)) (d .2) (d .3) (d .4) (d .5) (o .0) (o .1) (o .2) (o .3)
+        (over s t0 t1 t2 t3 m4 (subst⁻¹ (λ (n : ℕ). s * slotWords + slotWords ≤ n) e4 (b .0)) (d .2) (d .3) (d .4) (d .5) (o .0) (o .1) (o .2) (o .3)
         (through t0 t3 m3 (o .6) (through t0 t2 m2 (o .5) (through t0 t1 m1 (o .4) k0))) (through t1 t3 m3 (o .8) (through t1 t2 m2 (o .7) k1)) (through t2 t3 m3 (o .9) k2) k3)

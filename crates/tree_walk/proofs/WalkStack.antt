@@ -50,7 +50,7 @@ pub cell-some : (es : List Float) (h p : ℕ) (c : Extent) → (p ≡ 0 → ⊥)
 unfolding putCell
 cell-some es h p c n = sym (ap (λ (x : ℕ). putCell es h x c) (one-more p n))
 
--- ---- four ends stored in a row
+-- ---- a cell stored, four numbers in a row
 
 abbrev four : List Float → ℕ → Extent → List Float
 four es n c = set (set (set (set es n (c .x0)) (n + 1) (c .y0)) (n + 2) (c .x1)) (n + 3) (c .y1)
@@ -122,11 +122,11 @@ pub root-fits : (p : ℕ) → above 0 p ≤ mostWaiting
 root-fits p = omega (arith, above-one 0 p)
 
 -- and is then all that waits
-pub root-laid : (w v : Walk) (p : ℕ) (c : Extent) → Sized w → v .slots ≡ putSlot (w .slots) 0 p → v .ends ≡ putCell (w .ends) 0 p c → v .height ≡ above 0 p → Sized v × (stackOf v ≡ lay p c [])
+pub root-laid : (w v : Walk) (p : ℕ) (c : Extent) → Sized w → v .slots ≡ putSlot (w .slots) 0 p → v .cells ≡ putCell (w .cells) 0 p c → v .height ≡ above 0 p → Sized v × (stackOf v ≡ lay p c [])
 root-laid w v p c z e0 e1 e2 =
-    let y = room (w .slots) (w .ends) 0 p c (z .slots, z .ends) in (
-      record { slots = ap length e0 ∙ y .0; ends = ap length e1 ∙ y .1 },
-      rw (e0, e1, e2) (laid (w .slots) (w .ends) 0 p c (z .slots, z .ends) (root-fits p)),
+    let y = room (w .slots) (w .cells) 0 p c (z .slots, z .cells) in (
+      record { slots = ap length e0 ∙ y .0; cells = ap length e1 ∙ y .1 },
+      rw (e0, e1, e2) (laid (w .slots) (w .cells) 0 p c (z .slots, z .cells) (root-fits p)),
     )
 
 -- ---- the four children of a node
@@ -202,20 +202,20 @@ room-four ss es h ks c z =
 -- ---- a walk
 
 -- what waits on top
-pub top-of : (w : Walk) → 0 < w .height → stackOf w ≡ waitingAt (w .slots) (w .ends) (w .height - 1) ∷ stackAt (w .slots) (w .ends) (w .height - 1)
-top-of w h = let e : w .height ≡ suc (w .height - 1) = omega arith in ap (stackAt (w .slots) (w .ends)) e
+pub top-of : (w : Walk) → 0 < w .height → stackOf w ≡ waitingAt (w .slots) (w .cells) (w .height - 1) ∷ stackAt (w .slots) (w .cells) (w .height - 1)
+top-of w h = let e : w .height ≡ suc (w .height - 1) = omega arith in ap (stackAt (w .slots) (w .cells)) e
 
 module _ (w : Walk) (h : ℕ) (m : List ℕ) (s : ℕ) (c : Extent) where
   -- the height that its children would reach
-  pub height-kids : heightAfter h (kids m s) ≡ length (layKids m s c (stackAt (w .slots) (w .ends) h))
-  height-kids = sym (length-layFour (kids m s) c (stackAt (w .slots) (w .ends) h) ∙ ap (λ (n : ℕ). heightAfter n (kids m s)) (length-stack (w .slots) (w .ends) h))
+  pub height-kids : heightAfter h (kids m s) ≡ length (layKids m s c (stackAt (w .slots) (w .cells) h))
+  height-kids = sym (length-layFour (kids m s) c (stackAt (w .slots) (w .cells) h) ∙ ap (λ (n : ℕ). heightAfter n (kids m s)) (length-stack (w .slots) (w .cells) h))
 
   -- the arrays with its children laid are the children laid on what waits
-  pub pushed-kids : Sized w → heightAfter h (kids m s) ≤ mostWaiting → (v : Walk) → v .slots ≡ putSlots (w .slots) h (kids m s) → v .ends ≡ putCells (w .ends) h (kids m s) c
-      → v .height ≡ heightAfter h (kids m s) → stackOf v ≡ layKids m s c (stackAt (w .slots) (w .ends) h)
-  pushed-kids z r v e0 e1 e2 = rw (e0, e1, e2) (laid-four (w .slots) (w .ends) h (kids m s) c (z .slots, z .ends) r)
+  pub pushed-kids : Sized w → heightAfter h (kids m s) ≤ mostWaiting → (v : Walk) → v .slots ≡ putSlots (w .slots) h (kids m s) → v .cells ≡ putCells (w .cells) h (kids m s) c
+      → v .height ≡ heightAfter h (kids m s) → stackOf v ≡ layKids m s c (stackAt (w .slots) (w .cells) h)
+  pushed-kids z r v e0 e1 e2 = rw (e0, e1, e2) (laid-four (w .slots) (w .cells) h (kids m s) c (z .slots, z .cells) r)
 
-  pub pushed-sized : Sized w → (v : Walk) → v .slots ≡ putSlots (w .slots) h (kids m s) → v .ends ≡ putCells (w .ends) h (kids m s) c → Sized v
+  pub pushed-sized : Sized w → (v : Walk) → v .slots ≡ putSlots (w .slots) h (kids m s) → v .cells ≡ putCells (w .cells) h (kids m s) c → Sized v
   pushed-sized z v e0 e1 =
-      let y = room-four (w .slots) (w .ends) h (kids m s) c (z .slots, z .ends) in
-      record { slots = ap length e0 ∙ y .0; ends = ap length e1 ∙ y .1 }
+      let y = room-four (w .slots) (w .cells) h (kids m s) c (z .slots, z .cells) in
+      record { slots = ap length e0 ∙ y .0; cells = ap length e1 ∙ y .1 }

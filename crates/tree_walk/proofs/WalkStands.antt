@@ -2,19 +2,18 @@
 use mathlib.Core.Path.{_≡_, refl, sym, _∙_, subst}
 use mathlib.Core.Bool.{Bool, true, false, cond}
 use mathlib.Core.List.{List, [], _∷_}
-use Prim.Native.Nat.{ℕ, zero, suc, _+_, _*_, _≤_, _<_}
+use Prim.Native.Nat.{ℕ, zero, suc, _+_, _≤_, _<_}
 use native.Mathlib.Omega.{arith}
-use lib.ListN.{length}
 use lib.Ieee.{Float}
 use Rattle.rules.specs.declared.Extent.{Extent}
 use Rattle.rules.specs.Plain.{keep, countFrom, upTo, branch}
 use Rattle.rules.specs.Cell.{quarter}
 use Rattle.rules.specs.Tree.{Tree, none, leaf, node, nodes, inQuarter, pointsIn, alike, grow, treeIn, treeOf}
 use Rattle.tree_slots.specs.declared.Quadtree.{Quadtree}
-use Rattle.tree_slots.specs.Trees.{inCells, Lays, Stands, Below}
+use Rattle.tree_slots.specs.Trees.{inCells, Lays, Stands, Below, InSlots}
 use Rattle.tree_slots.proofs.Trees.{each-map}
 use Rattle.tree_walk.specs.Walk.{seen, EachChain}
-use Rattle.tree_walk.proofs.WalkTurns.{Found, nodes-seen}
+use Rattle.tree_walk.proofs.WalkTurns.{Walkable, nodes-seen}
 
 -- ---- cells and chains
 
@@ -75,8 +74,8 @@ module _ (at : List Float) (n : ℕ) {m next : List ℕ} {q : Quadtree} (s : Sta
 
 module _ {t : Tree Extent} {m next : List ℕ} {q : Quadtree} (s : Lays t m next q) where
   -- all its slots are lent
-  pub found : (P : List ℕ → Type 0) → EachChain P (s .tree) → Found P m next (q .root) (s .tree)
-  found P h = (s .leads, each-map (λ i. i < q .nodes) (λ i. i * 8 + 8 ≤ length m) (λ i b. omega (arith, s .room)) (s .tree) (s .below), h)
+  pub found : (P : List ℕ → Type 0) → EachChain P (s .tree) → Walkable P m next (q .root) (s .tree)
+  found P h = (s .leads, each-map (λ i. i < q .nodes) (λ i. InSlots i m) (λ i b. omega (arith, s .room)) (s .tree) (s .below), h)
 
   pub nodes-stands : {A : Type 0} (look : ℕ → Extent → A) → nodes (seen look (q .extent) (s .tree)) ≡ q .nodes
   nodes-stands look = nodes-seen look (q .extent) (s .tree) ∙ s .count

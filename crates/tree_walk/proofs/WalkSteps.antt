@@ -7,8 +7,8 @@ use native.Mathlib.Omega.{arith}
 use lib.ListN.{length, getD, set, length-set}
 use lib.Seq.{getD-set-same, getD-set-other}
 use Rattle.rules.specs.Walk.{Entry, internal, tip}
-use Rattle.tree_slots.specs.Trees.{word, kid, kids}
-use Rattle.tree_walk.specs.WalkAfter.{stepsAt, rooted, Climbs, First}
+use Rattle.tree_slots.specs.Trees.{kid, kids, InSlots, InternalIn}
+use Rattle.tree_walk.specs.WalkAfter.{stepsAt, rooted, Climbs, First, pathNumbers}
 use Rattle.tree_walk.proofs.WalkClimb.{climb-lent, climb-leaf, climb-node, climb-past, climb-down}
 
 pub length-steps : (l : List ℕ) (h : ℕ) → length (stepsAt l h) ≡ h
@@ -61,25 +61,25 @@ module _ (l : List ℕ) (h s : ℕ) (b : h * 2 + 3 < length l) where
 -- ---- a turn on the array
 
 module _ (m next l : List ℕ) (h : ℕ) (rest : List (Entry ℕ)) (c : Climbs m next (stepsAt l (suc h)) rest) where
-  pub lent : (getD l (h * 2) 0 * 8 + 8 ≤ length m) × (h ≤ 64) × (getD l (h * 2 + 1) 0 ≤ 4)
+  pub lent : InSlots (getD l (h * 2) 0) m × (h ≤ 64) × (getD l (h * 2 + 1) 0 ≤ 4)
   lent =
       let r = climb-lent m next (getD l (h * 2) 0) (getD l (h * 2 + 1) 0) (stepsAt l h) rest c in
       (r .0, omega (arith, r .1, length-steps l h), r .2)
 
   -- a leaf is handed out
-  pub first-leaf : (word m (getD l (h * 2) 0) 0 ≡ 0 → ⊥) → First m next l h (getD l (h * 2) 0) rest
+  pub first-leaf : (InternalIn m (getD l (h * 2) 0) → ⊥) → First m next l h (getD l (h * 2) 0) rest
   first-leaf z =
       let r = climb-leaf m next (getD l (h * 2) 0) (getD l (h * 2 + 1) 0) (stepsAt l h) rest c z in
       record { entry = tip (getD l (h * 2) 0) (r .0); others = r .1; split = r .2; stands = (refl, r .3, r .4); lent = lent .0; climbs = r .5 }
 
-  module _ (z : word m (getD l (h * 2) 0) 0 ≡ 0) where
+  module _ (z : InternalIn m (getD l (h * 2) 0)) where
     -- an internal node is handed out
     pub first-node : 3 < getD l (h * 2 + 1) 0 → First m next l h (getD l (h * 2) 0) rest
     first-node q =
         let r = climb-node m next (getD l (h * 2) 0) (getD l (h * 2 + 1) 0) (stepsAt l h) rest c z q in
         record { entry = internal (getD l (h * 2) 0); others = r .0; split = r .1; stands = (refl, z, r .2); lent = lent .0; climbs = r .3 }
 
-    module _ (q : getD l (h * 2 + 1) 0 < 4) (b : length l ≡ 130) where
+    module _ (q : getD l (h * 2 + 1) 0 < 4) (b : length l ≡ pathNumbers) where
       -- the next quadrant, where there is no child
       pub turn-past : kid m (getD l (h * 2) 0) (getD l (h * 2 + 1) 0) ≡ 0 → Climbs m next (stepsAt (set l (h * 2 + 1) (getD l (h * 2 + 1) 0 + 1)) (suc h)) rest
       turn-past k =

@@ -18,7 +18,7 @@ use Rattle.rules.specs.Tree.{Tree, none, leaf, node, nodes, depth}
 use Rattle.rules.specs.Walk.{Entry, internal, tip, Counted, counted, After, after, walk}
 use Rattle.rules.proofs.OutcomeLaws.{bind-cong, bind-assoc}
 use Rattle.tree_walk.specs.declared.visit.Waiting.{Waiting}
-use Rattle.tree_slots.specs.Trees.{word, kid, Follows, first, Leads, EachSlot, ChainFrom}
+use Rattle.tree_slots.specs.Trees.{word, kid, LeafIn, InternalIn, Follows, Leads, ChainFrom, InSlots, SlotsLent}
 use Rattle.tree_walk.specs.Walk.{mostWaiting, lay, layKids, seen, EachChain}
 
 -- ---- what follows what was done
@@ -42,15 +42,15 @@ nodesAll (t ∷ ts) = nodes t + nodesAll ts
 
 module _ (P : List ℕ → Type 0) (m next : List ℕ) where
   -- a number leads to a tree all of whose slots are lent, and whose chains are good
-  abbrev pub Found : ℕ → Tree ℕ → Type 0
-  Found p t = Leads m next p t × EachSlot (λ s. s * 8 + 8 ≤ length m) t × EachChain P t
+  abbrev pub Walkable : ℕ → Tree ℕ → Type 0
+  Walkable p t = Leads m next p t × SlotsLent m t × EachChain P t
 
   -- What waits, top first, stands for these trees. One with n below it is so low that its children find room.
   abbrev pub Stand : List Waiting → List (Tree ℕ) → Type 0
   Stand [] [] = Unit {0}
   Stand [] (t ∷ ts) = ⊥
   Stand (e ∷ es) [] = ⊥
-  Stand (e ∷ es) (t ∷ ts) = Found (e .slot + 1) t × (length es + 3 * depth t ≤ mostWaiting + 2) × Stand es ts
+  Stand (e ∷ es) (t ∷ ts) = Walkable (e .slot + 1) t × (length es + 3 * depth t ≤ mostWaiting + 2) × Stand es ts
 
   -- never more than 193 wait
   stand-low : (es : List Waiting) (ts : List (Tree ℕ)) → Stand es ts → length es ≤ mostWaiting
@@ -79,21 +79,21 @@ module _ (m next : List ℕ) where
   under-zero zero = refl
   under-zero (suc k) = refl
 
-  under-leaf : (k s f : ℕ) → word m s 0 ≡ f + 1 → under m (suc k) (s + 1) ≡ 1
+  under-leaf : (k s : ℕ) (is : List ℕ) → LeafIn m s is → under m (suc k) (s + 1) ≡ 1
   unfolding under
-  under-leaf k s f e = rw (add-one s, ne-eqb (word m s 0) 0 (λ z. omega arith))
+  under-leaf k s is h = rw (add-one s, ne-eqb (word m s 0) 0 (λ z. omega (arith, h .tag)))
 
-  under-node : (k s : ℕ) → word m s 0 ≡ 0 → under m (suc k) (s + 1) ≡ 1 + under m k (kid m s 0) + under m k (kid m s 1) + under m k (kid m s 2) + under m k (kid m s 3)
+  under-node : (k s : ℕ) → InternalIn m s → under m (suc k) (s + 1) ≡ 1 + under m k (kid m s 0) + under m k (kid m s 1) + under m k (kid m s 2) + under m k (kid m s 3)
   unfolding under
-  under-node k s e = rw (add-one s, e)
+  under-node k s z = rw (add-one s, z)
 
   under-nodes : (k p : ℕ) (t : Tree ℕ) → Leads m next p t → depth t ≤ k → under m k p ≡ nodes t
   under-nodes k p none l d = ap (under m k) l ∙ under-zero k
   under-nodes zero p (leaf s is) l d = absurd (omega arith)
-  under-nodes (suc k) p (leaf s is) l d = ap (under m (suc k)) (l .0) ∙ under-leaf k s (first is) (l .1)
+  under-nodes (suc k) p (leaf s is) l d = ap (under m (suc k)) (l .0) ∙ under-leaf k s is (l .1)
   under-nodes zero p (node s t0 t1 t2 t3) l d = absurd (omega arith)
   under-nodes (suc k) p (node s t0 t1 t2 t3) l d =
-      ap (under m (suc k)) (l .0) ∙ under-node k s (l .1)
+      ap (under m (suc k)) (l .0) ∙ under-node k s (l .1 .tag)
       ∙ rw (under-nodes k (kid m s 0) t0 (l .2) (omega arith), under-nodes k (kid m s 1) t1 (l .3) (omega arith), under-nodes k (kid m s 2) t2 (l .4) (omega arith), under-nodes k (kid m s 3) t3 (l .5) (omega arith))
 
   left-nodes : (P : List ℕ → Type 0) (es : List Waiting) (ts : List (Tree ℕ)) → Stand P m next es ts → left m es ≡ nodesAll ts
@@ -126,7 +126,7 @@ module _ {A S : Type 0} (step : Entry A → S → Outcome (After S)) (look : ℕ
     sum : nodesAll trees ≡ nodes t + nodesAll ts
     short : length (lay p c es) ≤ length es + 1
 
-  laid : (p : ℕ) (c : Extent) (t : Tree ℕ) (es : List Waiting) (ts : List (Tree ℕ)) → Found P m next p t → length es + 3 * depth t ≤ mostWaiting + 2 → Stand P m next es ts → Laid p c t es ts
+  laid : (p : ℕ) (c : Extent) (t : Tree ℕ) (es : List Waiting) (ts : List (Tree ℕ)) → Walkable P m next p t → length es + 3 * depth t ≤ mostWaiting + 2 → Stand P m next es ts → Laid p c t es ts
   laid zero c none es ts f d s = record { trees = ts; stands = s; same = λ n. refl; sum = omega arith; short = omega arith }
   laid zero c (leaf i is) es ts f d s = absurd (omega (arith, f .0 .0))
   laid zero c (node i t0 t1 t2 t3) es ts f d s = absurd (omega (arith, f .0 .0))
@@ -164,7 +164,7 @@ module _ {A S : Type 0} (step : Entry A → S → Outcome (After S)) (look : ℕ
       total n0 n1 n2 n3 a0 a1 a2 a3 a h0 h1 h2 h3 = omega arith
 
   opened : (s : ℕ) (c : Extent) (t0 t1 t2 t3 : Tree ℕ) (es : List Waiting) (ts : List (Tree ℕ))
-      → Found P m next (kid m s 0) t0 → Found P m next (kid m s 1) t1 → Found P m next (kid m s 2) t2 → Found P m next (kid m s 3) t3
+      → Walkable P m next (kid m s 0) t0 → Walkable P m next (kid m s 1) t1 → Walkable P m next (kid m s 2) t2 → Walkable P m next (kid m s 3) t3
       → length es + 3 * suc (max (max (depth t0) (depth t1)) (max (depth t2) (depth t3))) ≤ mostWaiting + 2 → Stand P m next es ts → Opened s c t0 t1 t2 t3 es ts
   opened s c t0 t1 t2 t3 es ts f0 f1 f2 f3 d w =
       let e3 = lay (kid m s 3) (quarter 3 c) es in
@@ -176,9 +176,9 @@ module _ {A S : Type 0} (step : Entry A → S → Outcome (After S)) (look : ℕ
       let l0 = laid (kid m s 0) (quarter 0 c) t0 e1 (l1 .trees) f0 (omega (arith, l3 .short, l2 .short, l1 .short)) (l1 .stands) in
       opened-by s c t0 t1 t2 t3 es ts l3 l2 l1 l0
 
-  -- ---- the ends of a walk
+  -- ---- how a walk begins and ends
 
-  pub start : (p : ℕ) (c : Extent) (t : Tree ℕ) (begun : Counted S) → Found P m next p t → depth t ≤ 65 → Going (seen look c t) begun (lay p c []) begun
+  pub start : (p : ℕ) (c : Extent) (t : Tree ℕ) (begun : Counted S) → Walkable P m next p t → depth t ≤ 65 → Going (seen look c t) begun (lay p c []) begun
   start p c t begun f d =
       let l = laid p c t [] [] f (omega arith) tt in
       record {
@@ -206,10 +206,10 @@ module _ {A S : Type 0} (step : Entry A → S → Outcome (After S)) (look : ℕ
 
   module _ (T : Tree A) (begun : Counted S) (e : Waiting) (es : List Waiting) (now : Counted S) (g : Going T begun (e ∷ es) now) where
     -- what waits on top is lent, and is handed out for the first time
-    pub reach : (e .slot * 8 + 8 ≤ length m) × (now .visits < begun .visits + nodes T)
+    pub reach : InSlots (e .slot) m × (now .visits < begun .visits + nodes T)
     reach = go (g .trees) (g .stands) (g .few)
       where
-        go : (ts : List (Tree ℕ)) → Stand P m next (e ∷ es) ts → now .visits + nodesAll ts ≤ begun .visits + nodes T → (e .slot * 8 + 8 ≤ length m) × (now .visits < begun .visits + nodes T)
+        go : (ts : List (Tree ℕ)) → Stand P m next (e ∷ es) ts → now .visits + nodesAll ts ≤ begun .visits + nodes T → InSlots (e .slot) m × (now .visits < begun .visits + nodes T)
         go [] s b = absurd s
         go (none ∷ ts) s b = absurd (omega (arith, s .0 .0))
         go (leaf i is ∷ ts) s b = (omega (arith, s .0 .0 .0, s .0 .1), omega arith)
@@ -225,7 +225,7 @@ module _ {A S : Type 0} (step : Entry A → S → Outcome (After S)) (look : ℕ
         go (leaf i is ∷ ts) s = omega (arith, left-nodes m next P es ts (s .2), left-nodes m next P (e ∷ es) (leaf i is ∷ ts) s)
         go (node i t0 t1 t2 t3 ∷ ts) s = omega (arith, left-nodes m next P es ts (s .2), left-nodes m next P (e ∷ es) (node i t0 t1 t2 t3 ∷ ts) s)
 
-    module _ (z : word m (e .slot) 0 ≡ 0) where
+    module _ (z : InternalIn m (e .slot)) where
       -- where it is an internal node, its children stand in its place
       record Inside : Type 0 where
         t0 : Tree ℕ
@@ -266,7 +266,7 @@ module _ {A S : Type 0} (step : Entry A → S → Outcome (After S)) (look : ℕ
           go (none ∷ ts) s q b = absurd (omega (arith, s .0 .0))
           go (leaf i is ∷ ts) s q b =
               let i≡ : i ≡ e .slot = omega (arith, s .0 .0 .0) in
-              absurd (omega (arith, z, rw i≡ at (s .0 .0 .1)))
+              absurd (omega (arith, z, rw i≡ at (s .0 .0 .1 .tag)))
           go (node i t0 t1 t2 t3 ∷ ts) s q b = inside-node i t0 t1 t2 t3 ts (omega (arith, s .0 .0 .0)) s q b
 
       -- its children find room
@@ -306,12 +306,12 @@ module _ {A S : Type 0} (step : Entry A → S → Outcome (After S)) (look : ℕ
       pub refuse : (r : Refusal) → step (internal (look (e .slot) (e .extent))) (now .state) ≡ refused r → walk step T begun ≡ refused r
       refuse r h = sym (rw h at (inside .same))
 
-    module _ (z : word m (e .slot) 0 ≡ 0 → ⊥) where
-      -- where it is a leaf, its chain follows from its tag
+    module _ (z : InternalIn m (e .slot) → ⊥) where
+      -- where it is a leaf, its chain follows from it
       record Tip : Type 0 where
         members : List ℕ
         follows : Follows next members
-        starts : word m (e .slot) 0 ≡ first members + 1
+        held : LeafIn m (e .slot) members
         good : P members
         rest : List (Tree ℕ)
         beneath : Stand P m next es rest
@@ -326,17 +326,17 @@ module _ {A S : Type 0} (step : Entry A → S → Outcome (After S)) (look : ℕ
           go (none ∷ ts) s q b = absurd (omega (arith, s .0 .0))
           go (node i t0 t1 t2 t3 ∷ ts) s q b =
               let i≡ : i ≡ e .slot = omega (arith, s .0 .0 .0) in
-              absurd (z (rw i≡ at (s .0 .0 .1)))
+              absurd (z (rw i≡ at (s .0 .0 .1 .tag)))
           go (leaf i is ∷ ts) s q b =
               let i≡ : i ≡ e .slot = omega (arith, s .0 .0 .0) in
-              record { members = is; follows = s .0 .0 .2; starts = rw i≡ at (s .0 .0 .1); good = s .0 .2; rest = ts; beneath = s .2; same = rw i≡ at q; few = omega arith }
+              record { members = is; follows = s .0 .0 .2; held = rw i≡ at (s .0 .0 .1); good = s .0 .2; rest = ts; beneath = s .2; same = rw i≡ at q; few = omega arith }
 
       pub chain : ChainFrom next P (word m (e .slot) 0 - 1)
-      chain = let t = tip-of in record { members = t .members; follows = t .follows; starts = omega (arith, t .starts); good = t .good }
+      chain = let t = tip-of in record { members = t .members; follows = t .follows; starts = omega (arith, t .held .tag); good = t .good }
 
       -- what the step does with the chain
       abbrev pub AtLeaf : S → Outcome (After S) → Type 0
-      AtLeaf σ o = (is : List ℕ) → Follows next is → word m (e .slot) 0 ≡ first is + 1 → P is → step (tip (look (e .slot) (e .extent)) is) σ ≡ o
+      AtLeaf σ o = (is : List ℕ) → Follows next is → LeafIn m (e .slot) is → P is → step (tip (look (e .slot) (e .extent)) is) σ ≡ o
 
       pub hand : (σ : S) (v : Visit) → AtLeaf (now .state) (done (after σ v)) → Going T begun es (counted σ (now .visits + 1))
       hand σ v h =
@@ -344,7 +344,7 @@ module _ {A S : Type 0} (step : Entry A → S → Outcome (After S)) (look : ℕ
           record {
             trees = t .rest;
             stands = t .beneath;
-            same = at v (rw (h (t .members) (t .follows) (t .starts) (t .good)) at (t .same));
+            same = at v (rw (h (t .members) (t .follows) (t .held) (t .good)) at (t .same));
             few = omega (arith, t .few);
           }
         where
@@ -354,4 +354,4 @@ module _ {A S : Type 0} (step : Entry A → S → Outcome (After S)) (look : ℕ
           at Skip q = q
 
       pub refuse-leaf : (r : Refusal) → AtLeaf (now .state) (refused r) → walk step T begun ≡ refused r
-      refuse-leaf r h = let t = tip-of in sym (rw (h (t .members) (t .follows) (t .starts) (t .good)) at (t .same))
+      refuse-leaf r h = let t = tip-of in sym (rw (h (t .members) (t .follows) (t .held) (t .good)) at (t .same))

@@ -1,7 +1,7 @@
 -- Values that are laid in the slots children first are the rules' values, and change nothing that a tree sees. Assumes nothing.
-use mathlib.Core.Path.{_≡_, refl, sym, ap, _∙_, subst}
+use mathlib.Core.Path.{_≡_, sym, ap, _∙_, subst}
 use mathlib.Core.List.{List}
-use Prim.Native.Nat.{ℕ, _+_, _*_, _≤_, _<_}
+use Prim.Native.Nat.{ℕ, _+_, _*_, _<_}
 use native.Mathlib.Omega.{arith}
 use lib.Dec.{T}
 use lib.ListN.{length, getD}
@@ -10,9 +10,10 @@ use lib.Ieee.{Float, fits, binary64}
 use lib.Ieee.Bits.{ofBits-toBits}
 use Rattle.rules.specs.Number.{floatOf, bitsOf}
 use Rattle.rules.specs.Tree.{Tree, none, leaf, node}
-use Rattle.tree_slots.specs.Slots.{word, put, kid, value, putValue}
+use Rattle.rules.specs.Calls.{slotWords}
+use Rattle.tree_slots.specs.Slots.{word, put, kid, value, putValue, InSlots}
 use Rattle.tree_slots.specs.Trees.{Leads}
-use Rattle.tree_slots.proofs.Slots.{put-same, put-other, put-word, put-length, Same, same-words}
+use Rattle.tree_slots.proofs.Slots.{put-same, put-other, put-word, put-length, Same, shows-words, same-refl, same-trans, leaf-shown, node-shown}
 
 -- ---- what a tree sees
 
@@ -21,22 +22,23 @@ abbrev pub Alike : List ℕ → List ℕ → Type 0
 Alike m w = (s : ℕ) → Same m w s
 
 pub alike-refl : (m : List ℕ) → Alike m m
-alike-refl m s = (refl, refl)
+alike-refl m s = same-refl m s
 
 pub alike-trans : (m w u : List ℕ) → Alike m w → Alike w u → Alike m u
-alike-trans m w u a b s = (b s .0 ∙ a s .0, b s .1 ∙ a s .1)
+alike-trans m w u a b s = same-trans m w u s (a s) (b s)
 
 pub kid-alike : (m w : List ℕ) (s : ℕ) → Same m w s → (kid m s 0 ≡ kid w s 0) × (kid m s 1 ≡ kid w s 1) × (kid m s 2 ≡ kid w s 2) × (kid m s 3 ≡ kid w s 3)
 kid-alike m w s a =
-    (sym (ap (λ (l : List ℕ). getD l 0 0) (a .1)), sym (ap (λ (l : List ℕ). getD l 1 0) (a .1)), sym (ap (λ (l : List ℕ). getD l 2 0) (a .1)), sym (ap (λ (l : List ℕ). getD l 3 0) (a .1)))
+    let e = sym (a .kids) in
+    (ap (λ (l : List ℕ). getD l 0 0) e, ap (λ (l : List ℕ). getD l 1 0) e, ap (λ (l : List ℕ). getD l 2 0) e, ap (λ (l : List ℕ). getD l 3 0) e)
 
 pub leads-alike : (m w next : List ℕ) → Alike m w → (p : ℕ) (t : Tree ℕ) → Leads m next p t → Leads w next p t
 leads-alike m w next a p none l = l
-leads-alike m w next a p (leaf s is) l = (l .0, a s .0 ∙ l .1, l .2)
+leads-alike m w next a p (leaf s is) l = (l .0, leaf-shown (a s) (l .1), l .2)
 leads-alike m w next a p (node s t0 t1 t2 t3) l =
     let k = kid-alike m w s (a s) in (
       l .0,
-      a s .0 ∙ l .1,
+      node-shown (a s) (l .1),
       subst (λ (p : ℕ). Leads w next p t0) (k .0) (leads-alike m w next a (kid m s 0) t0 (l .2)),
       subst (λ (p : ℕ). Leads w next p t1) (k .1) (leads-alike m w next a (kid m s 1) t1 (l .3)),
       subst (λ (p : ℕ). Leads w next p t2) (k .2) (leads-alike m w next a (kid m s 2) t2 (l .4)),
@@ -47,10 +49,10 @@ leads-alike m w next a p (node s t0 t1 t2 t3) l =
 
 kept-word : (m : List ℕ) (s j : ℕ) (x : Float) → j < 3 → (r i : ℕ) → i < 3 → word (putValue m s j x) r i ≡ word m r i
 unfolding word put putValue
-kept-word m s j x h r i k = getD-set-other m (s * 8 + (3 + j)) (r * 8 + i) (bitsOf x) 0 (λ e. omega arith)
+kept-word m s j x h r i k = getD-set-other m (s * slotWords + (3 + j)) (r * slotWords + i) (bitsOf x) 0 (λ e. omega arith)
 
 module _ (m : List ℕ) (s j : ℕ) (x : Float) (h : j < 3) where
-  pub value-same : s * 8 + 8 ≤ length m → T (fits binary64 x) → value (putValue m s j x) s j ≡ x
+  pub value-same : InSlots s m → T (fits binary64 x) → value (putValue m s j x) s j ≡ x
   unfolding putValue
   value-same b f = ap floatOf (put-same m s (3 + j) (bitsOf x) (omega arith)) ∙ ofBits-toBits binary64 x f
 
@@ -63,7 +65,7 @@ module _ (m : List ℕ) (s j : ℕ) (x : Float) (h : j < 3) where
   value-other i n = ap floatOf (put-word m s (3 + j) (bitsOf x) (3 + i) (λ e. n (omega arith)))
 
   pub value-alike : Alike m (putValue m s j x)
-  value-alike r = same-words m (putValue m s j x) r (keep 0 (omega arith)) (keep 1 (omega arith)) (keep 2 (omega arith))
+  value-alike r = shows-words m r (putValue m s j x) r (keep 0 (omega arith)) (keep 1 (omega arith)) (keep 2 (omega arith))
     where
       keep : (i : ℕ) → i < 3 → word (putValue m s j x) r i ≡ word m r i
       keep i k = kept-word m s j x h r i k
@@ -76,7 +78,7 @@ module _ (m : List ℕ) (s j : ℕ) (x : Float) (h : j < 3) where
 
 -- how a value of a node is read and written: a write is read back, and changes no other value and nothing that a tree sees
 pub record Writes {B : Type 0} (Fit : B → Type 0) (read : List ℕ → ℕ → B) (write : List ℕ → ℕ → B → List ℕ) : Type 0 where
-  pub same : (m : List ℕ) (s : ℕ) (b : B) → s * 8 + 8 ≤ length m → Fit b → read (write m s b) s ≡ b
+  pub same : (m : List ℕ) (s : ℕ) (b : B) → InSlots s m → Fit b → read (write m s b) s ≡ b
   pub other : (m : List ℕ) (s : ℕ) (b : B) (r : ℕ) → (r ≡ s → ⊥) → read (write m s b) r ≡ read m r
   pub alike : (m : List ℕ) (s : ℕ) (b : B) → Alike m (write m s b)
   pub long : (m : List ℕ) (s : ℕ) (b : B) → length (write m s b) ≡ length m
@@ -102,7 +104,7 @@ module _ {B : Type 0} (of : Float → Float → Float → B) (x y z : B → Floa
   three : {a b c d e f : Float} → a ≡ d → b ≡ e → c ≡ f → of a b c ≡ of d e f
   three p q r = rw (p, q, r)
 
-  three-back : (m : List ℕ) (s : ℕ) (b : B) → s * 8 + 8 ≤ length m → T (fits binary64 (x b)) × T (fits binary64 (y b)) × T (fits binary64 (z b)) → readThree (putThree m s b) s ≡ b
+  three-back : (m : List ℕ) (s : ℕ) (b : B) → InSlots s m → T (fits binary64 (x b)) × T (fits binary64 (y b)) × T (fits binary64 (z b)) → readThree (putThree m s b) s ≡ b
   three-back m s b h f =
       let m1 = putValue m s 0 (x b) in
       let m2 = putValue m1 s 1 (y b) in

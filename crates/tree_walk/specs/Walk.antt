@@ -16,7 +16,7 @@ use Rattle.tree_slots.specs.Trees.{kid}
 abbrev pub waiting : ℕ → Extent → Waiting
 waiting s c = record { slot = s; extent = c }
 
--- the cell at a place of the ends, four to a cell
+-- the cell at a place of their numbers, four to a cell
 unfoldable pub cellAt : List Float → ℕ → Extent
 cellAt es i = cell (getD es (i * 4) nan) (getD es (i * 4 + 1) nan) (getD es (i * 4 + 2) nan) (getD es (i * 4 + 3) nan)
 
@@ -30,16 +30,16 @@ stackAt ss es (suc h) = waitingAt ss es h ∷ stackAt ss es h
 
 -- all that wait in a walk
 abbrev pub stackOf : Walk → List Waiting
-stackOf w = stackAt (w .slots) (w .ends) (w .height)
+stackOf w = stackAt (w .slots) (w .cells) (w .height)
 
 -- never more than this many wait
 abbrev pub mostWaiting : ℕ
 mostWaiting = 193
 
--- there is room for that many, with four ends to each
+-- there is room for that many, with four numbers to each cell
 pub record Sized (w : Walk) : Type 0 where
   pub slots : length (w .slots) ≡ mostWaiting
-  pub ends : length (w .ends) ≡ 4 * mostWaiting
+  pub cells : length (w .cells) ≡ 4 * mostWaiting
 
 -- ---- children are laid
 
@@ -58,7 +58,7 @@ abbrev pub above : ℕ → ℕ → ℕ
 above h zero = h
 above h (suc s) = h + 1
 
--- one number laid at the height h, in the array of the slots and in that of the ends
+-- one number laid at the height h, in the array of the slots and in that of the cells
 unfoldable pub putSlot : List ℕ → ℕ → ℕ → List ℕ
 putSlot ss h zero = ss
 putSlot ss h (suc s) = set ss h s

@@ -4,15 +4,19 @@ use mathlib.Core.List.{List, [], _∷_, _++_}
 use Prim.Native.Nat.{ℕ, zero, suc, _+_, _*_, _≤_, _<_}
 use lib.ListN.{length, getD}
 use lib.Ieee.{Float}
-use Rattle.rules.specs.Tree.{Tree, none, leaf, node, depth, treeOf}
+use Rattle.rules.specs.Tree.{Tree, none, leaf, node, depth, treeOf, greatestLevel}
 use Rattle.rules.specs.Walk.{Entry, internal, tip, valued, parentLast}
 use Rattle.tree_slots.specs.declared.Quadtree.{Quadtree}
 use Rattle.tree_walk.specs.declared.visit_after.Path.{Path}
 use Rattle.tree_walk.specs.declared.visit_after.Handed.{Handed}
-use Rattle.tree_slots.specs.Trees.{word, kid, Follows, first, Leads, EachSlot, Stands}
+use Rattle.tree_slots.specs.Trees.{kid, LeafIn, InternalIn, Follows, Leads, Stands, InSlots, SlotsLent}
 use Rattle.tree_walk.specs.Walk.{seen}
 
 -- ---- the path
+
+-- how many numbers a path takes: two for each level
+abbrev pub pathNumbers : ℕ
+pathNumbers = 2 * (greatestLevel + 1)
 
 -- a slot of the path, and the quadrant that is next there
 abbrev pub Step : Type 0
@@ -55,7 +59,7 @@ Steps m next [] [] = Unit {0}
 Steps m next [] (t ∷ ts) = ⊥
 Steps m next (e ∷ es) [] = ⊥
 Steps m next (e ∷ es) (t ∷ ts) =
-    Leads m next (e .0 + 1) t × EachSlot (λ s. s * 8 + 8 ≤ length m) t × (length es + depth t ≤ 65) × (e .1 ≤ 4) × Steps m next es ts
+    Leads m next (e .0 + 1) t × SlotsLent m t × (length es + depth t ≤ greatestLevel + 1) × (e .1 ≤ 4) × Steps m next es ts
 
 -- along the path es, these entries are still to be handed out, in this order
 pub record Climbs (m next : List ℕ) (es : List Step) (rest : List (Entry ℕ)) : Type 0 where
@@ -69,20 +73,20 @@ pub record Climbing (m l : List ℕ) (h : ℕ) : Type 0 where
   pub rest : List (Entry ℕ)
   pub climbs : Climbs m next (stepsAt l h) rest
   pub some : 0 < h
-  pub sized : length l ≡ 130
+  pub sized : length l ≡ pathNumbers
 
 -- the slot that a number leads to is lent
-abbrev pub Lent : List ℕ → ℕ → Type 0
-Lent m zero = Unit {0}
-Lent m (suc s) = s * 8 + 8 ≤ length m
+abbrev pub KidIn : List ℕ → ℕ → Type 0
+KidIn m zero = Unit {0}
+KidIn m (suc s) = InSlots s m
 
-abbrev pub KidsLent : List ℕ → ℕ → Type 0
-KidsLent m s = Lent m (kid m s 0) × Lent m (kid m s 1) × Lent m (kid m s 2) × Lent m (kid m s 3)
+abbrev pub KidsIn : List ℕ → ℕ → Type 0
+KidsIn m s = KidIn m (kid m s 0) × KidIn m (kid m s 1) × KidIn m (kid m s 2) × KidIn m (kid m s 3)
 
 -- an entry is what stands at a slot
 abbrev pub EntryAt : List ℕ → List ℕ → ℕ → Entry ℕ → Type 0
-EntryAt m next s (internal i) = (i ≡ s) × (word m s 0 ≡ 0) × KidsLent m s
-EntryAt m next s (tip i is) = (i ≡ s) × (word m s 0 ≡ first is + 1) × Follows next is
+EntryAt m next s (internal i) = (i ≡ s) × InternalIn m s × KidsIn m s
+EntryAt m next s (tip i is) = (i ≡ s) × LeafIn m s is × Follows next is
 
 -- the first of the entries that are to be handed out stands at this slot, and the others are left along the path
 pub record First (m next l : List ℕ) (h s : ℕ) (rest : List (Entry ℕ)) : Type 0 where
@@ -90,13 +94,13 @@ pub record First (m next l : List ℕ) (h s : ℕ) (rest : List (Entry ℕ)) : T
   pub others : List (Entry ℕ)
   pub split : rest ≡ entry ∷ others
   pub stands : EntryAt m next s entry
-  pub lent : s * 8 + 8 ≤ length m
+  pub lent : InSlots s m
   pub climbs : Climbs m next (stepsAt l h) others
 
 -- from the first h steps of l the walk went on to its next node, whatever was to be handed out
-pub record Descends (m l : List ℕ) (h : ℕ) (l′ : List ℕ) (r : Handed) : Type 0 where
+pub record HandsOut (m l : List ℕ) (h : ℕ) (l′ : List ℕ) (r : Handed) : Type 0 where
   pub first : (next : List ℕ) (rest : List (Entry ℕ)) → Climbs m next (stepsAt l h) rest → First m next l′ (r .height) (r .slot) rest
-  pub sized : length l′ ≡ 130
+  pub sized : length l′ ≡ pathNumbers
 
 -- ---- values are laid, children first
 

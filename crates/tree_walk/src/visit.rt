@@ -2,15 +2,15 @@
 ghost use mathlib.Core.Path.{_≡_};
 ghost use Prim.Native.Nat.{_<_, _≤_};
 ghost use Rattle.tree_walk.specs.Walk.{waitingAt, mostWaiting, Sized, above, putSlot, putCell, heightAfter, putSlots, putCells};
-use tree_cells::extent;
 use number::wide;
 use rules::Extent;
+use tree_cells::extent;
 use tree_slots::Quadtree;
 
-// At most 193 wait, the last of them on top: slot numbers, four ends to each cell, and how many there are.
+// At most 193 wait, the last of them on top: slot numbers, cells of four numbers each, and how many there are.
 pub struct Walk {
     pub slots: [u32; Quadtree::MOST_WAITING],
-    pub ends: [f64; 4 * Quadtree::MOST_WAITING],
+    pub cells: [f64; 4 * Quadtree::MOST_WAITING],
     pub height: usize,
 }
 
@@ -22,19 +22,19 @@ pub struct Waiting {
 // The slot and the cell that wait at a height.
 pub fn waiting_at<'a>(
     slots: &'a [u32; Quadtree::MOST_WAITING],
-    ends: &'a [f64; 4 * Quadtree::MOST_WAITING],
+    cells: &'a [f64; 4 * Quadtree::MOST_WAITING],
     h: usize,
 ) -> Waiting
     requires { ⌜ h < mostWaiting ⌝ }
-    ensures { λ r. ⌜ r ≡ waitingAt (now (slots .entry)) (now (ends .entry)) h ⌝ }
+    ensures { λ r. ⌜ r ≡ waitingAt (now (slots .entry)) (now (cells .entry)) h ⌝ }
 {
     let at = h * 4;
     let slot = wide(slots[h]);
     let extent = Extent {
-        x0: ends[at],
-        y0: ends[at + 1],
-        x1: ends[at + 2],
-        y1: ends[at + 3],
+        x0: cells[at],
+        y0: cells[at + 1],
+        x1: cells[at + 2],
+        y1: cells[at + 3],
     };
     Waiting { slot, extent }
 }
@@ -53,22 +53,22 @@ pub fn push_slot(slots: &mut [u32; Quadtree::MOST_WAITING], h: usize, number: u3
 
 // Its cell is laid there.
 pub fn push_cell(
-    ends: &mut [f64; 4 * Quadtree::MOST_WAITING],
+    cells: &mut [f64; 4 * Quadtree::MOST_WAITING],
     h: usize,
     number: u32,
     c: Extent,
 ) -> usize
     requires { ⌜ above h number ≤ mostWaiting ⌝ }
-    ensures { λ r. ⌜ (now (ends .exit) ≡ putCell (now (ends .entry)) h number c) × (r ≡ above h number) ⌝ }
+    ensures { λ r. ⌜ (now (cells .exit) ≡ putCell (now (cells .entry)) h number c) × (r ≡ above h number) ⌝ }
 {
     if number == 0 {
         return h;
     }
     let at = h * 4;
-    ends[at] = c.x0;
-    ends[at + 1] = c.y0;
-    ends[at + 2] = c.x1;
-    ends[at + 3] = c.y1;
+    cells[at] = c.x0;
+    cells[at + 1] = c.y0;
+    cells[at + 2] = c.x1;
+    cells[at + 3] = c.y1;
     h + 1
 }
 
@@ -85,18 +85,18 @@ pub fn push_slots(slots: &mut [u32; Quadtree::MOST_WAITING], h: usize, children:
 
 // Their cells, quarters of the cell c.
 pub fn push_cells(
-    ends: &mut [f64; 4 * Quadtree::MOST_WAITING],
+    cells: &mut [f64; 4 * Quadtree::MOST_WAITING],
     h: usize,
     children: [u32; 4],
     c: Extent,
 )
     requires { ⌜ heightAfter h children ≤ mostWaiting ⌝ }
-    ensures { λ _. ⌜ now (ends .exit) ≡ putCells (now (ends .entry)) h children c ⌝ }
+    ensures { λ _. ⌜ now (cells .exit) ≡ putCells (now (cells .entry)) h children c ⌝ }
 {
-    let h2 = push_cell(ends, h, children[3], extent::quarter(3, c));
-    let h1 = push_cell(ends, h2, children[2], extent::quarter(2, c));
-    let h0 = push_cell(ends, h1, children[1], extent::quarter(1, c));
-    push_cell(ends, h0, children[0], extent::quarter(0, c));
+    let h2 = push_cell(cells, h, children[3], extent::quarter(3, c));
+    let h1 = push_cell(cells, h2, children[2], extent::quarter(2, c));
+    let h0 = push_cell(cells, h1, children[1], extent::quarter(1, c));
+    push_cell(cells, h0, children[0], extent::quarter(0, c));
 }
 
 impl Walk {
@@ -106,7 +106,7 @@ impl Walk {
     {
         Walk {
             slots: [0; Quadtree::MOST_WAITING],
-            ends: [0.0; 4 * Quadtree::MOST_WAITING],
+            cells: [0.0; 4 * Quadtree::MOST_WAITING],
             height: 0,
         }
     }

@@ -1,13 +1,14 @@
 // Parent last: the path from the root to the next node, kept in one local of the function that walks and changed in place. Leaving an opened parent on a stack would take 257 places.
 ghost use mathlib.Core.Path.{_≡_};
 ghost use lib.ListN.{length};
-ghost use Rattle.tree_walk.specs.WalkAfter.{stepsOf, rooted, Climbing, Descends};
+ghost use Rattle.tree_walk.specs.WalkAfter.{pathNumbers, stepsOf, rooted, Climbing, HandsOut};
 use number::wide;
+use tree_slots::Quadtree;
 use tree_slots::store;
 
-// At most 65 slots from the root down, each beside the quadrant that is next there.
+// The slots from the root down, one for each level at the most, each beside the quadrant that is next there.
 pub struct Path {
-    pub steps: [u32; 130],
+    pub steps: [u32; Path::NUMBERS],
     pub height: usize,
 }
 
@@ -18,11 +19,14 @@ pub struct Handed {
 }
 
 impl Path {
+    // Two for each level.
+    pub const NUMBERS: usize = 2 * (Quadtree::GREATEST_LEVEL + 1);
+
     // The root, where there is one.
     pub fn begin(root: u32) -> Path
-        ensures { λ r. ⌜ (stepsOf r ≡ rooted root) × (length (r .steps) ≡ 130) ⌝ }
+        ensures { λ r. ⌜ (stepsOf r ≡ rooted root) × (length (r .steps) ≡ pathNumbers) ⌝ }
     {
-        let mut steps = [0u32; 130];
+        let mut steps = [0u32; Path::NUMBERS];
         if root == 0 {
             return Path { steps, height: 0 };
         }
@@ -32,9 +36,9 @@ impl Path {
 }
 
 // The next node, all of whose children are handed out: the way goes down to a child as long as there is one that is not.
-pub fn next(steps: &mut [u32; 130], height: usize, m: &[u64]) -> Handed
+pub fn next(steps: &mut [u32; Path::NUMBERS], height: usize, m: &[u64]) -> Handed
     requires { ⌜ Climbing (now m) (now steps) height ⌝ }
-    ensures { λ r. ⌜ Descends (now (m .entry)) (now (steps .entry)) height (now (steps .exit)) r ⌝ }
+    ensures { λ r. ⌜ HandsOut (now (m .entry)) (now (steps .entry)) height (now (steps .exit)) r ⌝ }
 {
     let mut h = height - 1;
     loop {

@@ -1,3 +1,4 @@
+-- `center_all` leaves the places that Center leaves of any particles with these places.
 use mathlib.Core.Path.{sym, _∙_}
 use borrow.Author.Needs.{needs}
 use Rattle.center.proofs.Centring.{centered-places}

@@ -1,3 +1,4 @@
+-- `offset` answers the mean's distance from the point, times the strength.
 use native.Mathlib.Omega.{arith}
 use borrow.Author.Needs.{needs}
 use lib.Dec.{le→leb}

@@ -1,3 +1,4 @@
+-- `shift_all` moves every pair back by the shift.
 use mathlib.Core.Path.{_≡_, refl, sym, _∙_}
 use mathlib.Core.List.{_++_}
 use Prim.Native.Nat.{_≤_, _-_, _*_}

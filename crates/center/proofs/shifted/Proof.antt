@@ -1,3 +1,4 @@
+-- `shifted` moves one particle back and leaves its velocity.
 use mathlib.Core.Path.{refl}
 use Rattle.rules.specs.Particle.{shifted}
 use Rattle.center.proofs.shifted.Statement.{statement}

@@ -1,3 +1,4 @@
+-- `sum_axis` adds the numbers of one axis, from the left.
 use mathlib.Core.Path.{_≡_, refl, sym, _∙_}
 use Prim.Native.Nat.{_≤_, _-_, _*_}
 use native.Mathlib.Omega.{arith}

@@ -1,3 +1,4 @@
+-- `moved_axis` is the closing move on one axis, held or free.
 use borrow.Author.Needs.{needs}
 use Rattle.rules.specs.Particle.{movedAxis}
 use Rattle.closing.proofs.moved_axis.Statement.{statement}

@@ -1,3 +1,4 @@
+-- A cell is away on x, or else on y.
 use borrow.Author.Needs.{needs}
 use Rattle.rules.specs.Collide as Collide
 use Rattle.collide_contact.proofs.away.Statement.{statement}

@@ -1,3 +1,4 @@
+-- A stretch lies beyond reach on the one side or on the other.
 use Rattle.collide_contact.proofs.beyond.Statement.{statement}
 use Rattle.collide_contact.proofs.beyond.Tie as tie
 

@@ -1,7 +1,8 @@
+-- Two particles are too far from each other, or dry, or they are pushed apart.
 use native.Mathlib.Omega.{arith}
 use borrow.Author.Needs.{needs}
 use Rattle.force.specs.Draws.{spentOf}
-use Rattle.collide_contact.proofs.ContactLaws.{lengthened-is, meet-far, meet-dry, meet-parted}
+use Rattle.collide_contact.proofs.ContactLaws.{meet-far, meet-dry, meet-parted}
 use Rattle.collide_contact.proofs.meet.Statement.{statement}
 use Rattle.collide_contact.proofs.meet.Tie as tie
 
@@ -23,14 +24,14 @@ unfolding spentOf
 returns-2 c =
     let p = c .before .before in
     let l = p .before .before in
-    let g = l .before .before .before in
+    let g = l .before .before in
     let y = g .before .before in
     let x = y .before .before in
     let r = x .before .before in
     let a = r .before .before .before .before .before .args in (
       meet-parted (a .at .now) (a .radii .now) (a .strength) (a .i) (a .j) _ (a .rj) _ _ (a .vs .now) (a .draws .now) (a .used) (r .radius-of .ensures) (x .between .ensures) (y .between2 .ensures)
-          (g .before .if1 .taken) (g .shaken .result) (g .shaken .ensures .0) (l .before .before .if2 .left) _ (p .part .last .0)
-          (lengthened-is _ _ _ _ _ _ _ (l .before .longer .ensures) (l .longer2 .ensures)) (p .part .ensures),
+          (g .before .if1 .taken) (g .shaken .result) (g .shaken .ensures .0) (l .before .if2 .left) _ (p .part .last .0)
+          (l .lengthen .ensures) (p .part .ensures),
       g .shaken .ensures .1,
     )
 
@@ -62,7 +63,6 @@ meet-spec =
     (λ c κs. search needs)
     (λ c. search needs)
     returns
-    (λ c κs. search needs)
     (λ c κs. search needs)
     (λ c κs. search needs)
     (λ c. search needs)

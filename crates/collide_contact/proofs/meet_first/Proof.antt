@@ -1,3 +1,4 @@
+-- A leaf's first particle is met if its index is greater.
 use native.Mathlib.Omega.{arith}
 use borrow.Author.Needs.{needs}
 use borrow.Author.Tests.{lt-ltb, le-ltb}

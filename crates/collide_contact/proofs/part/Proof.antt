@@ -1,3 +1,4 @@
+-- Two particles are pushed apart as the rule says.
 use borrow.Author.Needs.{needs}
 use Rattle.rules.specs.Collide as Collide
 use Rattle.collide_contact.proofs.part.Statement.{statement}

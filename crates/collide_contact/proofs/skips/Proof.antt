@@ -1,3 +1,4 @@
+-- An internal node is left out if its cell is further away than the combined radii.
 use borrow.Author.Needs.{needs}
 use Rattle.collide_contact.proofs.skips.Statement.{statement}
 use Rattle.collide_contact.proofs.skips.Tie as tie

@@ -1,3 +1,4 @@
+-- `input_lengths` tells whether the lent lengths agree, as the rules do, and makes no sum that might wrap.
 use Prim.Native.Nat.{_/_}
 use native.Mathlib.Omega.{arith}
 use borrow.Author.Needs.{needs}

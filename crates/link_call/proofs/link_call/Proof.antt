@@ -1,73 +1,96 @@
+-- `link_call` tests 1, 2 and 3 and hands the part of the buffer on, and so ends as the rules say.
 use mathlib.Core.Path.{_≡_, _∙_}
-use mathlib.Core.List.{[], _∷_}
-use Prim.Native.Nat.{_+_, _-_, _*_, _/_, _%_}
+use mathlib.Core.Bool.{Bool}
+use mathlib.Core.List.{[]}
+use Prim.Native.Nat.{ℕ, _+_, _-_, _*_, _/_, _%_}
 use native.Mathlib.Omega.{arith}
 use borrow.Author.Needs.{needs}
 use lib.Dec.{eqb}
 use lib.ListN.{length}
-use Rattle.rules.specs.Outcome.{fine}
+use Rattle.rules.specs.Outcome.{Check, fine}
+use Rattle.rules.specs.Sheet.{pairSize}
 use Rattle.rules.specs.Force.{Push, link, endsOf}
-use Rattle.rules.specs.Calls.{ForceInput}
-use Rattle.force_call.specs.Calls.{lent, lentCheck}
-use Rattle.force_call.proofs.Called.{Lent, lent-all, lent-early, result-lent, answered-refused, part-size, lent-part, result-part, answered-part}
+use Rattle.rules.specs.Calls.{ForceInput, lentCheck}
+use Rattle.rules.proofs.RefusalLaws.{Refuses}
+use Rattle.rules.proofs.RefusalNumbers.{Early, lent-early}
+use Rattle.force_call.specs.Calls.{lent}
+use Rattle.force_call.proofs.Called.{Lent, lent-all, result-lent, answered-refused, part-size, lent-part, result-part, answered-part}
 use Rattle.list_checks.proofs.Checks.{stopped, passed}
 use Rattle.link_call.proofs.link_call.Statement.{statement}
 use Rattle.link_call.proofs.link_call.Tie as tie
 
--- the input, the force, and whether its ends are pairs
-abbrev input : tie.Start → ForceInput
-input s = lent (s .args .places .now) (s .args .buffer .now) (s .args .start) (s .args .draws .now) (s .args .work .now)
+-- the points of the code, each from a later one
+abbrev entry : tie.After-lent-check → tie.Start
+entry c = c .before .before .before .before .before .before .before .before .before
 
-abbrev force : tie.Start → Push
-force s = link (endsOf (s .args .links .now)) (s .args .strengths .now) (s .args .distances .now) (s .args .iterations)
+abbrev tested : tie.After-with-speeds-arg → tie.Else1
+tested c = c .before .before
 
--- 1, 2 and 3 are past
-past : (c : tie.Else1) → lentCheck (input (c .before .before .before .before .before .before .before .before .before .before)) (force (c .before .before .before .before .before .before .before .before .before .before)) (eqb (length (c .before .before .before .before .before .before .before .before .before .before .args .links .now) % 2) 0) ≡ fine
-past c =
-    let s = c .before .before .before .before .before .before .before .before .before .before in
-    let w = eqb (length (s .args .links .now) % 2) 0 in
-    passed (lentCheck (input s) (force s) w) (c .before .lent-check .result) (lent-early (input s) (force s) w) (c .before .lent-check .ensures) (c .if1 .left)
+abbrev answered : tie.After-slice-known4 → tie.After-with-speeds
+answered c = c .before .before .before .before
 
-passed-lent : (c : tie.Else1) → Lent (input (c .before .before .before .before .before .before .before .before .before .before)) (force (c .before .before .before .before .before .before .before .before .before .before)) (eqb (length (c .before .before .before .before .before .before .before .before .before .before .args .links .now) % 2) 0)
-passed-lent c = lent-all (input (c .before .before .before .before .before .before .before .before .before .before)) (force (c .before .before .before .before .before .before .before .before .before .before)) (eqb (length (c .before .before .before .before .before .before .before .before .before .before .args .links .now) % 2) 0) (past c)
+-- the input, the force, whether its ends are pairs, and what 1, 2 and 3 say
+module _ (s : tie.Start) where
+  abbrev input : ForceInput
+  input = lent (s .args .places .now) (s .args .buffer .now) (s .args .start) (s .args .draws .now) (s .args .work .now)
+
+  abbrev force : Push
+  force = link (endsOf (s .args .links .now)) (s .args .strengths .now) (s .args .distances .now) (s .args .iterations)
+
+  abbrev paired : Bool
+  paired = eqb (length (s .args .links .now) % 2) 0
+
+  abbrev checks : Check
+  checks = lentCheck input force paired
+
+  early : Refuses Early checks
+  early = lent-early input force paired
 
 returns : tie.Need-returns
 returns c =
     let n = c .before .before in
-    let s = n .before .before .before .before .before .before .before .before .before in
-    let a = s .args in
-    let w = eqb (length (a .links .now) % 2) 0 in
-    let st = stopped (lentCheck (input s) (force s) w) (n .lent-check .result) (lent-early (input s) (force s) w) (n .lent-check .ensures) (c .before .if1 .taken) in
-    answered-refused (input s) _ (n .lent-check .result) (c .refused .result)
-    (result-lent (input s) (force s) w (a .alpha) (a .alpha ∷ []) (n .lent-check .result) (st .0)) (st .1) (c .refused .ensures)
+    let s = entry n in
+    let q = n .lent-check .result in
+    let st = stopped (checks s) q (early s) (n .lent-check .ensures) (c .before .if1 .taken) in
+    answered-refused (input s) _ q (c .refused .result) (result-lent (input s) (force s) (paired s) (s .args .alpha) q (st .0)) (st .1) (c .refused .ensures)
 
--- how many bytes the part has
-size : (c : tie.Else1) → let a = c .before .before .before .before .before .before .before .before .before .before .args in a .start + length (a .places .now) / 2 * 16 - a .start ≡ length (a .places .now) / 2 * 16
-size c = omega arith
+-- 1, 2 and 3 are past
+module _ (d : tie.Else1) where
+  abbrev start : tie.Start
+  start = entry (d .before)
+
+  past : checks start ≡ fine
+  past = passed (checks start) (d .before .lent-check .result) (early start) (d .before .lent-check .ensures) (d .if1 .left)
+
+  passed-lent : Lent (input start) (force start) (paired start)
+  passed-lent = lent-all (input start) (force start) (paired start) past
+
+  -- how many bytes the part has
+  abbrev bytes : ℕ
+  bytes = start .args .start + length (start .args .places .now) / 2 * pairSize - start .args .start
+
+  size : bytes ≡ length (start .args .places .now) / 2 * pairSize
+  size = omega arith
 
 with-speeds-requires : tie.Need-with-speeds-requires
 with-speeds-requires c κs =
-    let d = c .before .before in
-    let s = d .before .before .before .before .before .before .before .before .before .before in
-    let a = s .args in
-    let w = eqb (length (a .links .now) % 2) 0 in
-    let k = a .start + length (a .places .now) / 2 * 16 - a .start in (
-      lent-part (a .places .now) (a .buffer .now) (a .start) [] [] (force s) w k (size d) (past d),
-      part-size (a .places .now) (a .buffer .now) (a .start) [] [] (force s) w k (size d) (past d) ∙ size d,
+    let d = tested c in
+    let s = start d in
+    let a = s .args in (
+      lent-part (a .places .now) (a .buffer .now) (a .start) [] [] (force s) (paired s) (bytes d) (size d) (past d),
+      part-size (a .places .now) (a .buffer .now) (a .start) [] [] (force s) (paired s) (bytes d) (size d) (past d) ∙ size d,
     )
 
 returns-2 : tie.Need-returns-2
 returns-2 c =
-    let p = c .before .before .before .before in
-    let d = p .before .before .before in
-    let s = d .before .before .before .before .before .before .before .before .before .before in
+    let p = answered c in
+    let d = tested (p .before) in
+    let s = start d in
     let a = s .args in
-    let w = eqb (length (a .links .now) % 2) 0 in
-    let k = a .start + length (a .places .now) / 2 * 16 - a .start in
-    answered-part (a .places .now) (a .buffer .now) (a .start) (a .draws .now) (a .work .now) (force s) w k (size d) (past d)
+    answered-part (a .places .now) (a .buffer .now) (a .start) (a .draws .now) (a .work .now) (force s) (paired s) (bytes d) (size d) (past d)
     _ _ (p .with-speeds .result) (p .with-speeds .last .1 .0) (p .with-speeds .last .1 .1 .1 .1 .1 .1 .1 .1 .0)
-    (result-part (a .places .now) (a .buffer .now) (a .start) (a .draws .now) (a .work .now) (force s) w k (size d) (past d) (a .alpha) (a .alpha ∷ []))
-    (p .with-speeds .kept .1 .0 ∙ part-size (a .places .now) (a .buffer .now) (a .start) [] [] (force s) w k (size d) (past d))
+    (result-part (a .places .now) (a .buffer .now) (a .start) (a .draws .now) (a .work .now) (force s) (paired s) (bytes d) (size d) (past d) (a .alpha))
+    (p .with-speeds .kept .1 .0 ∙ part-size (a .places .now) (a .buffer .now) (a .start) [] [] (force s) (paired s) (bytes d) (size d) (past d))
     (p .with-speeds .ensures)
 
 pub link-call-spec : {M : Type 1} → statement M

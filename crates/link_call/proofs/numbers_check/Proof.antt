@@ -1,22 +1,30 @@
-use mathlib.Core.Path.{_∙_, ap}
+-- `numbers_check` refuses by 4 and 5 as the rules do.
 use borrow.Author.Needs.{needs}
-use Rattle.rules.specs.declared.Refusal.{Refusal}
-use Rattle.list_checks.specs.Checks.{firstOf}
 use Rattle.link_call.proofs.LinkCalled.{numbers-answer}
 use Rattle.link_call.proofs.numbers_check.Statement.{statement}
 use Rattle.link_call.proofs.numbers_check.Tie as tie
 
+-- the points of the code, each from a later one
+abbrev entry : tie.After-points-check → tie.Start
+entry c = c .before .before .before .before .before .before
+
 returns : tie.Need-returns
 returns c =
-    let s = c .before .before .before .before .before .before .before .before .before .before .before .before .before .before in
+    let setting = c .before in
+    let all = setting .before in
+    let more = all .before in
+    let both = more .before in
+    let lists = both .before in
+    let lengths = lists .before in
+    let some = lengths .before in
+    let points = some .before in
+    let s = entry points in
     let a = s .args in
     numbers-answer (a .places .now) (a .speeds .now) (a .strengths .now) (a .distances .now) (a .draws .now) (a .alpha)
-    (c .before .before .before .before .before .before .before .before .points-check .result) (c .before .before .before .before .before .before .before .strengths-check .result) (c .before .before .before .before .before .before .distances-check .result) (c .before .before .before .before .before .first .result)
-    (c .before .before .before .before .first2 .result) (c .before .before .before .draws-check .result) (c .before .before .first3 .result) (c .first4 .result)
-    (s .pre)
-    (c .before .before .before .before .before .before .before .before .points-check .ensures) (c .before .before .before .before .before .before .before .strengths-check .ensures) (c .before .before .before .before .before .before .distances-check .ensures) (c .before .before .before .before .before .first .ensures)
-    (c .before .before .before .before .first2 .ensures) (c .before .before .before .draws-check .ensures) (c .before .before .first3 .ensures)
-    (c .first4 .ensures ∙ ap (λ (q : Refusal). firstOf (c .before .before .first3 .result) q) (c .before .setting-check .ensures))
+    (points .points-check .result) (some .strengths-check .result) (lengths .distances-check .result) (lists .first .result) (both .first2 .result) (more .draws-check .result) (all .first3 .result)
+    (setting .setting-check .result) (c .first4 .result) (s .pre)
+    (points .points-check .ensures) (some .strengths-check .ensures) (lengths .distances-check .ensures) (lists .first .ensures) (both .first2 .ensures) (more .draws-check .ensures) (all .first3 .ensures)
+    (setting .setting-check .ensures) (c .first4 .ensures)
 
 pub numbers-check-spec : {M : Type 1} → statement M
 numbers-check-spec =

@@ -1,3 +1,4 @@
+-- The default strength is one over the lesser count.
 use native.Mathlib.Nat.{min-eq-left, min-eq-right, le-of-lt}
 use borrow.Author.Needs.{needs}
 use Rattle.link_tally.proofs.default_strength.Statement.{statement}

@@ -1,3 +1,4 @@
+-- A link's strength is the one lent, or the default where none is lent.
 use mathlib.Core.Path.{_∙_}
 use native.Mathlib.Omega.{arith}
 use borrow.Author.Needs.{needs}

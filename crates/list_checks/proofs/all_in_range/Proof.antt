@@ -1,3 +1,4 @@
+-- `all_in_range` tells whether every number of a list is in range.
 use borrow.Author.Needs.{needs}
 use Rattle.list_checks.specs.Checks.{inRange}
 use Rattle.list_checks.proofs.Scans.{all-unrefused}

@@ -1,12 +1,10 @@
-use borrow.Author.Tests.{le-leb, lt-leb}
+-- `count_check` refuses more than there may be.
+use borrow.Author.Needs.{needs}
 use Rattle.list_checks.proofs.count_check.Statement.{statement}
 use Rattle.list_checks.proofs.count_check.Tie as tie
 
 returns : tie.Need-returns
-returns c = rw (le-leb _ _ (c .if1 .taken))
-
-returns-2 : tie.Need-returns-2
-returns-2 c = rw (lt-leb _ _ (c .if1 .left))
+returns c = c .unless .ensures
 
 pub count-check-spec : {M : Type 1} → statement M
-count-check-spec = tie.close (tie.spec returns returns-2)
+count-check-spec = tie.close (tie.spec (λ c κs. search needs) returns)

@@ -1,3 +1,4 @@
+-- `ends_check` refuses the first link with an end that is not a particle.
 use mathlib.Core.Path.{_≡_, ap, _∙_}
 use mathlib.Core.List.{List}
 use Prim.Native.Nat.{_≤_, _-_}
@@ -26,12 +27,12 @@ loop-holds c =
 
 returns : tie.Need-returns Inv-loop μ-loop
 returns c =
-    let w = c .before in
+    let w = c .before .before in
     let o = w .before .before .before .before .loop in
     let a = w .before .before .before .before .before .before .args in
-    rw (o .inv .1)
+    c .at .ensures ∙ rw (o .inv .1)
     (test-stop (endsRange (a .n)) 3 (endsLeft (a .links .now)) (o .k) (endsAt (a .links .now) (o .k)) (ends-left (a .links .now) (o .k) (omega arith))
-    (w .ends-range .result) (w .ends-range .ensures) (c .if1 .taken))
+    (w .ends-range .result) (w .ends-range .ensures) (c .before .if1 .taken))
 
 loop-again : tie.Need-loop-again Inv-loop μ-loop
 loop-again c =
@@ -46,9 +47,9 @@ loop-again c =
 
 returns-2 : tie.Need-returns-2 Inv-loop μ-loop
 returns-2 c =
-    let o = c .before .loop in
-    let a = c .before .before .before .args in
-    rw (o .inv .1, ends-none (a .links .now) (o .k) (omega arith))
+    let o = c .before .before .loop in
+    let a = c .before .before .before .before .args in
+    c .none .ensures ∙ rw (o .inv .1, ends-none (a .links .now) (o .k) (omega arith))
 
 pub ends-check-spec : {M : Type 1} → statement M
 ends-check-spec =
@@ -64,8 +65,10 @@ ends-check-spec =
     (λ c. omega arith)
     (λ c. omega arith)
     (λ c κs. search needs)
+    (λ c κs. search needs)
     returns
     (λ c. omega arith)
     (λ c. omega arith)
     loop-again
+    (λ c κs. search needs)
     returns-2)

@@ -1,3 +1,4 @@
+-- `ends_range` tells whether both ends of a link are among the particles.
 use borrow.Author.Needs.{needs}
 use borrow.Author.Tests.{lt-ltb, le-ltb}
 use Rattle.list_checks.proofs.ends_range.Statement.{statement}

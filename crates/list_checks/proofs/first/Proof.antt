@@ -1,3 +1,4 @@
+-- `first` answers as two checks do, one after the other.
 use borrow.Author.Tests.{eq-eqb, ne-eqb}
 use Rattle.list_checks.specs.Checks.{firstOf}
 use Rattle.list_checks.proofs.first.Statement.{statement}

@@ -1,3 +1,4 @@
+-- `in_range` tells whether a number is in a range.
 use borrow.Author.Needs.{needs}
 use Rattle.list_checks.proofs.in_range.Statement.{statement}
 use Rattle.list_checks.proofs.in_range.Tie as tie

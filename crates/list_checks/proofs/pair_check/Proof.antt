@@ -1,3 +1,4 @@
+-- `pair_check` answers the check of a place or of a velocity.
 use borrow.Author.Needs.{needs}
 use Rattle.list_checks.proofs.pair_check.Statement.{statement}
 use Rattle.list_checks.proofs.pair_check.Tie as tie
@@ -10,5 +11,5 @@ pair-check-spec =
     (λ c κs. search needs)
     (λ c. search needs)
     (λ c κs. search needs)
-    (λ c. rw (c .before .enum-told .given .1) (c .coordinate-check .ensures))
+    (λ c. rw (c .before .enum-told .given .1) (c .place-check .ensures))
     (λ c. rw (c .before .enum-told2 .given .1) (c .velocity-check .ensures)))

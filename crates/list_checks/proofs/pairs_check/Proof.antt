@@ -1,13 +1,15 @@
+-- `pairs_check` answers the first trouble of a list of pairs.
 use mathlib.Core.Path.{_≡_, _∙_}
 use Prim.Native.Nat.{_≤_, _-_, _/_}
 use native.Mathlib.Nat.{sub-zero}
 use native.Mathlib.Omega.{arith}
 use borrow.Author.Needs.{needs}
 use lib.ListN.{length}
+use Rattle.rules.specs.Refusal.{pairsCheck}
 use Rattle.rules.specs.Plain.{countFrom}
 use Rattle.rules.specs.Number.{xAt, yAt}
 use Rattle.rules.specs.Outcome.{checkFrom}
-use Rattle.list_checks.specs.Checks.{pairCheck, pairsCheck}
+use Rattle.list_checks.specs.Checks.{pairCheck}
 use Rattle.list_checks.proofs.Scans.{pair-early, count-left, count-none, answer-stop, answer-on}
 use Rattle.list_checks.proofs.pairs_check.Statement.{statement}
 use Rattle.list_checks.proofs.pairs_check.Tie as tie
@@ -45,9 +47,9 @@ loop-again c =
 
 returns-2 : tie.Need-returns-2 Inv-loop μ-loop
 returns-2 c =
-    let o = c .before .loop in
-    let l = c .before .before .before .args .l .now in
-    rw (o .inv .1, count-none (length l / 2) (o .i) (omega arith))
+    let o = c .before .before .loop in
+    let l = c .before .before .before .before .args .l .now in
+    c .none .ensures ∙ rw (o .inv .1, count-none (length l / 2) (o .i) (omega arith))
 
 pub pairs-check-spec : {M : Type 1} → statement M
 pairs-check-spec =
@@ -67,4 +69,5 @@ pairs-check-spec =
     (λ c. omega arith)
     (λ c. omega arith)
     loop-again
+    (λ c κs. search needs)
     returns-2)

@@ -1,9 +1,10 @@
+-- `points_check` answers the first trouble of the places, then that of the velocities.
 use mathlib.Core.Path.{_∙_}
 use Prim.Native.Nat.{_/_}
 use borrow.Author.Needs.{needs}
 use lib.ListN.{length}
+use Rattle.rules.specs.Refusal.{coordinatesCheck, velocitiesCheck}
 use Rattle.list_checks.specs.declared.Pair.the-variants.{Place}
-use Rattle.list_checks.specs.Checks.{coordinatesCheck, velocitiesCheck}
 use Rattle.list_checks.proofs.Scans.{first-then, pairs-early}
 use Rattle.list_checks.proofs.points_check.Statement.{statement}
 use Rattle.list_checks.proofs.points_check.Tie as tie

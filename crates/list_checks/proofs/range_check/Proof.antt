@@ -1,3 +1,4 @@
+-- `range_check` refuses the first number of a list that is out of range.
 use mathlib.Core.Path.{_≡_, refl, _∙_}
 use Prim.Native.Nat.{_≤_, _-_}
 use native.Mathlib.Omega.{arith}
@@ -18,12 +19,12 @@ abbrev μ-loop : tie.MeasureT-loop
 
 returns : tie.Need-returns Inv-loop μ-loop
 returns c =
-    let w = c .before in
+    let w = c .before .before in
     let o = w .before .before .before .loop in
     let a = w .before .before .before .before .before .args in
     let l = a .l .now in
-    rw (o .inv .1)
-    (test-stop (inRange (a .range)) 5 (λ i. drop i l) (o .i) (getD l (o .i) nan) (list-left l (o .i) nan (omega arith)) (w .in-range .result) (w .in-range .ensures) (c .if1 .taken))
+    c .at .ensures ∙ rw (o .inv .1)
+    (test-stop (inRange (a .range)) 5 (λ i. drop i l) (o .i) (getD l (o .i) nan) (list-left l (o .i) nan (omega arith)) (w .in-range .result) (w .in-range .ensures) (c .before .if1 .taken))
 
 loop-again : tie.Need-loop-again Inv-loop μ-loop
 loop-again c =
@@ -38,9 +39,9 @@ loop-again c =
 
 returns-2 : tie.Need-returns-2 Inv-loop μ-loop
 returns-2 c =
-    let o = c .before .loop in
-    let l = c .before .before .before .args .l .now in
-    rw (o .inv .1, drop-of-length-le l {i = o .i} (omega arith))
+    let o = c .before .before .loop in
+    let l = c .before .before .before .before .args .l .now in
+    c .none .ensures ∙ rw (o .inv .1, drop-of-length-le l {i = o .i} (omega arith))
 
 pub range-check-spec : {M : Type 1} → statement M
 range-check-spec =
@@ -52,8 +53,10 @@ range-check-spec =
     (λ c. omega arith)
     (λ c. omega arith)
     (λ c κs. search needs)
+    (λ c κs. search needs)
     returns
     (λ c. omega arith)
     (λ c. omega arith)
     loop-again
+    (λ c κs. search needs)
     returns-2)

@@ -1,4 +1,4 @@
--- Each turn adds at most a chunk. Assumes nothing.
+-- `count_rest` adds at most a chunk each turn.
 use borrow.Author.Needs.{needs}
 use Prim.Native.Nat.{_+_, _*_, _^_, _≤_}
 use native.Mathlib.Omega.{arith}

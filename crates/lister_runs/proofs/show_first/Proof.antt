@@ -1,3 +1,4 @@
+-- `show_first` lends the sheet's first bytes.
 use borrow.Author.Needs.{needs}
 use mathlib.Core.Path.{sym, _∙_}
 use native.Mathlib.Nat.{min-eq-left}

@@ -1,3 +1,4 @@
+-- `lengths_agree` says what 2 asks of the lengths.
 use borrow.Author.Needs.{needs}
 use borrow.Author.Tests.{not-true, not-false}
 use Rattle.many_body_call.proofs.lengths_agree.Statement.{statement}

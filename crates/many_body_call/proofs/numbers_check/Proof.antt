@@ -1,7 +1,12 @@
+-- `numbers_check` refuses by 4 and 5 as the rules do.
 use borrow.Author.Needs.{needs}
 use Rattle.many_body_call.proofs.ManyBodyCalled.{numbers-answer}
 use Rattle.many_body_call.proofs.numbers_check.Statement.{statement}
 use Rattle.many_body_call.proofs.numbers_check.Tie as tie
+
+-- the points of the code, each from a later one
+abbrev entry : tie.After-points-check → tie.Start
+entry c = c .before .before .before .before .before
 
 returns : tie.Need-returns
 returns c =
@@ -11,7 +16,7 @@ returns c =
     let both = more .before in
     let some = both .before in
     let points = some .before in
-    let s = points .before .before .before .before .before in
+    let s = entry points in
     let a = s .args in
     numbers-answer (a .places .now) (a .speeds .now) (a .strengths .now) (a .draws .now) (a .alpha)
     (points .points-check .result) (some .strengths-check .result) (both .first .result) (more .draws-check .result) (all .first2 .result)

@@ -1,3 +1,4 @@
+-- At each turn the strengths of the chain so far are added.
 use mathlib.Core.List.{List}
 use Prim.Native.Nat.{ℕ, _<_}
 use native.Mathlib.Omega.{arith}

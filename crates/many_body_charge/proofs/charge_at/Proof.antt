@@ -1,3 +1,4 @@
+-- A charge is read from three value words of a slot.
 use borrow.Author.Needs.{needs}
 use Rattle.many_body_charge.proofs.charge_at.Statement.{statement}
 use Rattle.many_body_charge.proofs.charge_at.Tie as tie

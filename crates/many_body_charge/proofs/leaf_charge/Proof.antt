@@ -1,3 +1,4 @@
+-- A leaf's charge is its first particle's place with the strength of its chain.
 use native.Mathlib.Omega.{arith}
 use borrow.Author.Needs.{needs}
 use Rattle.many_body_chains.proofs.Chains.{chain-first}

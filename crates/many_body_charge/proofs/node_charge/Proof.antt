@@ -1,3 +1,4 @@
+-- A node's charge follows from the sums over its four children.
 use Rattle.rules.specs.ManyBody.{withChild}
 use borrow.Author.Needs.{needs}
 use Rattle.tree_walk.proofs.WalkAfter.{fold-children}

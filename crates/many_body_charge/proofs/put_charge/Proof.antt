@@ -1,3 +1,4 @@
+-- A charge is laid in three value words of a slot.
 use borrow.Author.Needs.{needs}
 use Rattle.many_body_charge.proofs.put_charge.Statement.{statement}
 use Rattle.many_body_charge.proofs.put_charge.Tie as tie

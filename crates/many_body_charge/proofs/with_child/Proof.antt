@@ -1,3 +1,4 @@
+-- A charge is added to the sums, by its weight.
 use borrow.Author.Needs.{needs}
 use Rattle.rules.specs.ManyBody.{withChild}
 use Rattle.many_body_charge.proofs.with_child.Statement.{statement}

@@ -1,3 +1,4 @@
+-- A far cell does nothing beyond the greatest distance; otherwise it is dry or pulls whole.
 use native.Mathlib.Omega.{arith}
 use borrow.Author.Needs.{needs}
 use Rattle.rules.specs.Flow.{gap}

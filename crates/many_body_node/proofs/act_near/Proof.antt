@@ -1,3 +1,4 @@
+-- A near leaf does nothing to a particle that is alone or too far away; otherwise it is dry or its members pull.
 use mathlib.Core.Path.{sym, _∙_}
 use native.Mathlib.Omega.{arith}
 use borrow.Author.Needs.{needs}
@@ -39,7 +40,7 @@ returns-4 c =
     let b = k .before .before .before .before in
     let s = b .before .before .before .before .before in
     let a = s .args in
-    (λ h. near-on (a .t) (a .strengths .now) (a .alpha) (a .i) (gap (a .x) (a .y)) (a .l) (h .members) (a .vs .now) _ (a .draws .now) (k .take-aim .result) (sym (b .is-alone .ensures _ h) ∙ k .before .before .before .if1 .left) (k .before .if2 .left) (k .take-aim .ensures .0) (p .before .before .if3 .left) (p .pull-members .ensures (a .t) h), k .take-aim .ensures .1)
+    (λ h. near-on (a .t) (a .strengths .now) (a .alpha) (a .i) (gap (a .x) (a .y)) (a .l) (h .members) (a .vs .now) _ (a .draws .now) (k .take-aim .result) (sym (b .is-alone .ensures _ h) ∙ k .before .before .before .if1 .left) (k .before .if2 .left) (k .take-aim .ensures .0) (p .before .before .if3 .left) (p .pull-members .ensures h), k .take-aim .ensures .1)
 
 pub act-near-spec : {M : Type 1} → statement M
 act-near-spec =

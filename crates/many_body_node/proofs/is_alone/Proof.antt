@@ -1,3 +1,4 @@
+-- A particle is alone in a leaf if it comes first there and no other follows.
 use borrow.Author.Needs.{needs}
 use Rattle.many_body_node.proofs.NodePullLaws.{alone-own, alone-other}
 use Rattle.many_body_node.proofs.is_alone.Statement.{statement}

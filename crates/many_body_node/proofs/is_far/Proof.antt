@@ -1,3 +1,4 @@
+-- A cell is far by its width and the tuning.
 use mathlib.Core.Path.{refl}
 use Rattle.rules.specs.ManyBody.{far}
 use Rattle.many_body_node.proofs.is_far.Statement.{statement}

@@ -1,3 +1,4 @@
+-- `replay` reads each case within its space, and ends when its turns run out.
 use borrow.Author.Needs.{needs}
 use mathlib.Core.Path.{_≡_, sym}
 use lib.ListN.{length}

@@ -1,4 +1,4 @@
--- At most one is right in each turn. Assumes nothing.
+-- `right_floors` counts at most one in each turn.
 use borrow.Author.Needs.{needs}
 use mathlib.Core.Logic.{⊎-elim}
 use Prim.Native.Nat.{_≤_, _-_}

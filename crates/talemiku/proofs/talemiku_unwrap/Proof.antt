@@ -1,3 +1,4 @@
+-- `talemiku_unwrap` is the call of an outline, whose centre is the word that is lent.
 use borrow.Author.Needs.{needs}
 use mir.Syntax.{w64}
 use mir.ValLaws.{toZ-ofZ}

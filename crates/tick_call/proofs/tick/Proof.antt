@@ -1,8 +1,9 @@
+-- A tick that is refused before it begins changes nothing; any other is run on columns.
 use mathlib.Core.Path.{_≡_, ap, _∙_}
 use mathlib.Core.List.{[], _∷_}
 use borrow.Author.Needs.{needs}
 use lib.Ieee.{Float}
-use Rattle.rules.specs.Outcome.{refusalOf}
+use Rattle.rules.specs.Outcome.{fine, refusalOf}
 use Rattle.rules.specs.Tick.{SheetInput, sheetCheck, tickSettings}
 use Rattle.tick_checks.specs.Input.{lentSheet}
 use Rattle.tick_columns.proofs.Begun.{answered, stopped, past}
@@ -12,18 +13,18 @@ use Rattle.tick_call.proofs.tick.Tie as tie
 
 -- what is lent
 abbrev input : tie.Start → SheetInput
-input s = let a = s .args in lentSheet (a .sheet .now) (a .alpha .now) (a .forces .now) (a .numbers .now) (a .links .now) (a .draws .now) (a .work .now)
+input s = let a = s .args in lentSheet (a .sheet .now) (a .alpha .now) (a .words .now) (a .numbers .now) (a .links .now) (a .draws .now) (a .work .now)
 
 abbrev start : tie.After-tick-check → tie.Start
 start d = d .before .before .before .before .before .before .before .before .before
 
 -- what the check answered
-answer : (d : tie.After-tick-check) → let s = start d in d .tick-check .result ≡ refusalOf (sheetCheck (input s) 0 (tickSettings (input s) (s .args .s)))
+answer : (d : tie.After-tick-check) → let s = start d in d .tick-check .result ≡ refusalOf (sheetCheck (input s) fine (tickSettings (input s) (s .args .s)))
 answer d =
     let s = start d in
     answered (input s) 0 (tickSettings (input s) (s .args .s)) (d .tick-check .result)
     (d .tick-check .ensures
-    ∙ ap (λ (a : Float). refusalOf (sheetCheck (lentSheet (s .args .sheet .now) 0 (s .args .forces .now) (s .args .numbers .now) (s .args .links .now) (s .args .draws .now) []) 0 (a ∷ s .args .s .target ∷ s .args .s .«alpha_decay» ∷ s .args .s .«velocity_decay» ∷ [])))
+    ∙ ap (λ (a : Float). refusalOf (sheetCheck (lentSheet (s .args .sheet .now) 0 (s .args .words .now) (s .args .numbers .now) (s .args .links .now) (s .args .draws .now) []) fine (a ∷ s .args .s .target ∷ s .args .s .«alpha_decay» ∷ s .args .s .«velocity_decay» ∷ [])))
     (d .before .float-of .ensures))
 
 returns : tie.Need-returns

@@ -1,3 +1,4 @@
+-- `next_alpha` is alpha's step.
 use mathlib.Core.Path.{refl}
 use Rattle.rules.specs.Tick.{nextAlpha}
 use Rattle.tick_close.proofs.next_alpha.Statement.{statement}

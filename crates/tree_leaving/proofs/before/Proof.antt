@@ -1,3 +1,4 @@
+-- `before` finds the member of a chain that links to i.
 use mathlib.Core.Path.{_≡_, refl, sym, _∙_}
 use mathlib.Core.List.{List}
 use Prim.Native.Nat.{ℕ, _+_, _-_, _<_}

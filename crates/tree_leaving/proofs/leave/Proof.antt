@@ -1,3 +1,4 @@
+-- `leave` takes i out of its chain, in each of four cases: alone, the first, within, the last.
 use native.Mathlib.Omega.{arith}
 use borrow.Author.Needs.{needs}
 use Rattle.tree_leaving.proofs.Chains.{left-alone, left-second, left-within, left-last}

@@ -1,15 +1,17 @@
+-- `find` follows a point's way down the tree to the leaf or the missing child where it ends.
 use mathlib.Core.Path.{_≡_, sym, ap, _∙_, subst}
 use mathlib.Core.List.{List}
-use Prim.Native.Nat.{ℕ, _+_, _-_, _*_, _≤_, _<_}
+use Prim.Native.Nat.{ℕ, _+_, _-_, _≤_, _<_}
 use native.Mathlib.Omega.{arith}
-use lib.ListN.{length, getD}
+use lib.ListN.{getD}
 use borrow.Author.Needs.{needs}
 use Rattle.rules.specs.declared.Extent.{Extent}
 use Rattle.rules.specs.Tree.{Tree}
 use Rattle.tree_cells.specs.Indexer.{indexer, cellOf}
-use Rattle.tree_slots.specs.Slots.{word, kids}
+use Rattle.tree_slots.specs.Slots.{word, kids, InSlots}
 use Rattle.tree_leaves.specs.Leaf.{side}
-use Rattle.tree_placing.specs.Add.{lead, Holds, Reaches, FoundLeaf}
+use Rattle.tree_slots.specs.Trees.{lead}
+use Rattle.tree_placing.specs.Add.{Holds, Reaches, FoundLeaf}
 use Rattle.tree_leaves.proofs.Turns.{indexed, step-side, step-less, step-own, step-cell}
 use Rattle.tree_placing.proofs.AddTurns.{Way, Inner, way-start, way-slot, way-leaf, way-inner, way-hole, way-down}
 use Rattle.tree_placing.proofs.find.Statement.{statement}
@@ -31,7 +33,7 @@ here c is h =
     let s = entry c in
     c .loop .inv .1 is (s .args .q) h (omega (arith, s .pre .2)) (sym (ap cellOf (c .before .with-extent .ensures)))
 
-slot : (c : tie.At-loop Inv-loop μ-loop) → c .loop .s * 8 + 8 ≤ length (entry c .args .m .now)
+slot : (c : tie.At-loop Inv-loop μ-loop) → InSlots (c .loop .s) (entry c .args .m .now)
 slot c =
     let s = entry c in
     let (u, r, e) = here c (s .pre .0) (s .pre .1 .holds) in

@@ -1,3 +1,4 @@
+-- `more` counts new nodes and keeps the bound of the levels.
 use mathlib.Core.Path.{ap}
 use Prim.Native.Nat.{ℕ, _+_}
 use borrow.Author.Needs.{needs}

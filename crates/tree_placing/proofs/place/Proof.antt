@@ -1,3 +1,4 @@
+-- `place` puts a particle where its way ends, and the slots then hold the tree with it, or it is refused as the rules do.
 use mathlib.Core.Path.{sym, subst, _∙_}
 use mathlib.Core.List.{List}
 use Prim.Native.Nat.{ℕ}

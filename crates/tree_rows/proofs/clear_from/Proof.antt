@@ -1,3 +1,4 @@
+-- `clear_from` makes zeros of a list from a place on.
 use mathlib.Core.Path.{refl}
 use Prim.Native.Nat.{_-_}
 use native.Mathlib.Omega.{arith}

@@ -1,3 +1,4 @@
+-- `list` writes the listing of a whole tree, and zeros behind it.
 use borrow.Author.Needs.{needs}
 use mathlib.Core.Path.{refl}
 use native.Mathlib.Omega.{arith}

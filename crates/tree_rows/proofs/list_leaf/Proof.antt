@@ -1,3 +1,4 @@
+-- `list_leaf` writes the chain of a leaf and its row.
 use borrow.Author.Needs.{needs}
 use native.Mathlib.Omega.{arith}
 use Rattle.tree_rows.proofs.ListRows.{wrote-leaf}

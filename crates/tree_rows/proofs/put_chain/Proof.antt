@@ -1,3 +1,4 @@
+-- `put_chain` writes the particles of a chain, by their links.
 use Prim.Native.Nat.{_-_}
 use native.Mathlib.Omega.{arith}
 use lib.ListN.{length}

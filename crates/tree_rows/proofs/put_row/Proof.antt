@@ -1,3 +1,4 @@
+-- `put_row` writes one row.
 use borrow.Author.Needs.{needs}
 use native.Mathlib.Omega.{arith}
 use lib.ListN.{length-set}

@@ -1,3 +1,4 @@
+-- `put_word` writes a word's eight bytes, the lowest first, and changes nothing else.
 use borrow.Author.Needs.{needs}
 use native.Mathlib.Omega.{arith}
 use lib.ListN.{length-set}

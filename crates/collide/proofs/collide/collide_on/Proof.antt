@@ -1,3 +1,4 @@
+-- The radii are laid in the slots, then the iterations run; they hand out few nodes.
 use native.Mathlib.Omega.{arith}
 use borrow.Author.Needs.{needs}
 use Rattle.collide.specs.Radius.{Rounded}

@@ -1,3 +1,4 @@
+-- A child's radius is taken where there is a child and its radius is greater.
 use borrow.Author.Needs.{needs}
 use Rattle.tree_walk.proofs.WalkAfter.{lent-some}
 use Rattle.collide.proofs.RadiusLaws.{child-greater, child-less}

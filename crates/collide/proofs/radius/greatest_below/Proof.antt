@@ -1,3 +1,4 @@
+-- The greatest of four children, one after the other.
 use borrow.Author.Needs.{needs}
 use Rattle.rules.specs.Number.{0·}
 use Rattle.rules.specs.Collide as Collide

@@ -1,7 +1,8 @@
+-- `edits` answers the refusal of the checks, and otherwise what the edits came to.
 use borrow.Author.Needs.{needs}
 use Rattle.edits_call.specs.Call.{lent}
 use Rattle.edits_call.proofs.Checks.{input-passed, input-refused}
-use Rattle.edits_call.proofs.Ends.{ends-refused}
+use Rattle.edits_call.proofs.EditsCalled.{ends-refused}
 use Rattle.edits_call.proofs.call.edits.Statement.{statement}
 use Rattle.edits_call.proofs.call.edits.Tie as tie
 
@@ -30,7 +31,7 @@ edits-spec =
     tie.close
     (tie.spec
     (λ c κs. search needs)
-    (λ c κs. c .before .if1 .taken)
+    (λ c κs. search needs)
     (λ c. search needs)
     (λ c. search needs)
     (λ c. search needs)

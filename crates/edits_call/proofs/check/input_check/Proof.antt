@@ -1,3 +1,4 @@
+-- `input_check` answers the first refusal of what is lent.
 use borrow.Author.Needs.{needs}
 use Rattle.edits_call.specs.Call.{lent}
 use Rattle.edits_call.proofs.Checks.{stopped, went-on}

@@ -1,10 +1,11 @@
+-- `edit_one` makes one edit, by its kind.
 use mathlib.Core.Path.{_≡_, sym, subst}
-use Prim.Native.Nat.{ℕ, _/_}
+use Prim.Native.Nat.{ℕ}
 use native.Mathlib.Omega.{arith}
-use lib.ListN.{length}
 use borrow.Author.Needs.{needs}
 use Rattle.rules.specs.Number.{floatOf}
 use Rattle.rules.specs.Edits.{present, editOf}
+use Rattle.rules.specs.Calls.{slotsOf}
 use Rattle.edits_made.specs.Editing.{Changed}
 use Rattle.edits_made.proofs.edit.edit_one.Statement.{statement}
 use Rattle.edits_made.proofs.edit.edit_one.Tie as tie
@@ -18,7 +19,7 @@ returns c is w h =
     let i = c .before .before .before .before .before .before .before .before in
     let t = i .before .before .before .before .before in
     let a = start (t .before) .args in
-    subst (λ (n : ℕ). Changed (a .at .now) (length (a .m .now) / 8) (a .k) (present (a .made) is) (editOf n (a .number) w) (i .insert-next .last .1 .0) (i .insert-next .last .1 .1 .1 .1 .0) (i .insert-next .last .1 .1 .0) (i .insert-next .last .1 .1 .1 .0) (i .insert-next .result))
+    subst (λ (n : ℕ). Changed (a .at .now) (slotsOf (a .m .now)) (a .k) (present (a .made) is) (editOf n (a .number) w) (i .insert-next .last .1 .0) (i .insert-next .last .1 .1 .1 .1 .0) (i .insert-next .last .1 .1 .0) (i .insert-next .last .1 .1 .1 .0) (i .insert-next .result))
     (sym (t .if1 .taken)) (i .insert-next .ensures is (floatOf (a .number)) (floatOf w) h)
 
 -- a known kind that isn't 0
@@ -30,7 +31,7 @@ returns-2 c is w h =
     let i = c .before .before .before .before .before .before .before .before in
     let t = i .before .before .before .before .before in
     let a = start (t .before) .args in
-    subst (λ (n : ℕ). Changed (a .at .now) (length (a .m .now) / 8) (a .k) (present (a .made) is) (editOf n (a .number) w) (i .remove-one .last .1 .0) (i .remove-one .last .1 .1 .1 .1 .0) (i .remove-one .last .1 .1 .0) (i .remove-one .last .1 .1 .1 .0) (i .remove-one .result))
+    subst (λ (n : ℕ). Changed (a .at .now) (slotsOf (a .m .now)) (a .k) (present (a .made) is) (editOf n (a .number) w) (i .remove-one .last .1 .0) (i .remove-one .last .1 .1 .1 .1 .0) (i .remove-one .last .1 .1 .0) (i .remove-one .last .1 .1 .1 .0) (i .remove-one .result))
     (sym (removes t)) (i .remove-one .ensures is h)
 
 pub edit-one-spec : {M : Type 1} → statement M

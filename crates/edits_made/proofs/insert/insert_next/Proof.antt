@@ -1,3 +1,4 @@
+-- `insert_next` makes an insertion, or refuses it by 6 or 7.
 use mathlib.Core.Path.{_≡_, refl, subst}
 use mathlib.Core.List.{List}
 use Prim.Native.Nat.{ℕ, _+_}

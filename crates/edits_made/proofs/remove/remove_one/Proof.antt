@@ -1,3 +1,4 @@
+-- `remove_one` makes a removal, or refuses by 15 what isn't there.
 use mathlib.Core.Path.{_≡_, refl}
 use mathlib.Core.Bool.{true}
 use mathlib.Core.List.{List}

@@ -1,3 +1,4 @@
+-- `words_check` answers all of 4 before any of 5.
 use mathlib.Core.Path.{_∙_}
 use borrow.Author.Needs.{needs}
 use Rattle.rules.specs.Outcome.{require, checkEach}

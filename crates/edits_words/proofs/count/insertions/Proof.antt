@@ -1,16 +1,17 @@
+-- `insertions` counts the edits that insert.
 use mathlib.Core.Path.{_≡_, ap}
 use mathlib.Core.Logic.{⊎-elim}
 use Prim.Native.Nat.{_≤_, _+_, _-_, _*_}
 use native.Mathlib.Omega.{arith}
 use lib.ListN.{drop}
-use Rattle.rules.specs.Edits.{editsOf, insertions}
+use Rattle.rules.specs.Edits.{editsOf, insertions, editWords}
 use Rattle.edits_words.proofs.Words.{edits-end}
 use Rattle.edits_words.proofs.Turns.{count-here, count-past}
 use Rattle.edits_words.proofs.count.insertions.Statement.{statement}
 use Rattle.edits_words.proofs.count.insertions.Tie as tie
 
 abbrev Inv-loop : tie.InvT-loop
-Inv-loop edits n made₀ k₀ made k = (k ≤ n) × (made ≤ k) × (made + insertions (editsOf (drop (k * 3) edits)) ≡ insertions (editsOf edits))
+Inv-loop edits n made₀ k₀ made k = (k ≤ n) × (made ≤ k) × (made + insertions (editsOf (drop (k * editWords) edits)) ≡ insertions (editsOf edits))
 
 abbrev μ-loop : tie.MeasureT-loop
 μ-loop edits n made₀ k₀ made k = n - k

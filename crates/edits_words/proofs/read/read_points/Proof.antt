@@ -1,3 +1,4 @@
+-- `read_points` writes the points of the insertions, one after the other.
 use mathlib.Core.Path.{_≡_, refl, sym, ap, _∙_}
 use mathlib.Core.Logic.{⊎-elim}
 use mathlib.Core.List.{_++_}
@@ -5,7 +6,7 @@ use Prim.Native.Nat.{_≤_, _+_, _-_, _*_}
 use native.Mathlib.Omega.{arith}
 use borrow.Author.Needs.{needs}
 use lib.ListN.{length, take, drop, length-set}
-use Rattle.rules.specs.Edits.{editsOf, pointsOf, insertions}
+use Rattle.rules.specs.Edits.{editsOf, pointsOf, insertions, editWords}
 use Rattle.edits_words.proofs.Words.{edits-end}
 use Rattle.edits_words.proofs.Turns.{count-here, count-past, read-here, read-past, read-end}
 use Rattle.edits_words.proofs.read.read_points.Statement.{statement}
@@ -15,8 +16,8 @@ abbrev Inv-loop : tie.InvT-loop
 Inv-loop edits places₀ n i₀ k₀ places i k =
     (k ≤ n)
     × (length places ≡ length places₀)
-    × (i + insertions (editsOf (drop (k * 3) edits)) * 2 ≡ length places₀)
-    × (take i places ++ pointsOf (editsOf (drop (k * 3) edits)) ≡ pointsOf (editsOf edits))
+    × (i + insertions (editsOf (drop (k * editWords) edits)) * 2 ≡ length places₀)
+    × (take i places ++ pointsOf (editsOf (drop (k * editWords) edits)) ≡ pointsOf (editsOf edits))
 
 abbrev μ-loop : tie.MeasureT-loop
 μ-loop edits places₀ n i₀ k₀ places i k = n - k

@@ -1,3 +1,4 @@
+-- A difference that is zero takes the next draw, or is dry; any other stays.
 use native.Mathlib.Omega.{arith}
 use borrow.Author.Needs.{needs}
 use Rattle.force.specs.Draws.{drawnOf}

@@ -1,3 +1,4 @@
+-- A draw for x where it is zero, then one for y; dry where either is.
 use native.Mathlib.Omega.{arith}
 use borrow.Author.Needs.{needs}
 use Rattle.force.specs.Draws.{shakenOf}

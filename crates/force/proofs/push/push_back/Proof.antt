@@ -1,3 +1,4 @@
+-- The push is taken off one particle's velocity.
 use mathlib.Core.Path.{refl}
 use borrow.Author.Needs.{needs}
 use Rattle.force.proofs.push.push_back.Statement.{statement}

@@ -1,3 +1,4 @@
+-- The push is added to one particle's velocity.
 use mathlib.Core.Path.{refl}
 use borrow.Author.Needs.{needs}
 use Rattle.force.proofs.push.push_on.Statement.{statement}

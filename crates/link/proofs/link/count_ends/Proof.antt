@@ -1,3 +1,4 @@
+-- At each turn the ends of the links so far are counted.
 use mathlib.Core.Path.{_≡_, refl, ap, _∙_}
 use Prim.Native.Nat.{_≤_, _-_, _/_}
 use native.Mathlib.Omega.{arith}

@@ -1,3 +1,4 @@
+-- All links in order: what is left of them at each turn, up to the end or to the first that is dry.
 use mathlib.Core.Path.{_≡_, refl, sym, _∙_}
 use Prim.Native.Nat.{_≤_, _-_}
 use native.Mathlib.Omega.{arith}
@@ -18,9 +19,13 @@ Inv-loop at vs₀ links counts strengths distances alpha draws used n spent₀ k
 abbrev μ-loop : tie.MeasureT-loop
 μ-loop at vs₀ links counts strengths distances alpha draws used n spent₀ k₀ vs spent k = n - k
 
+-- the points of the code, each from a later one
+abbrev entry : tie.At-loop Inv-loop μ-loop → tie.Start Inv-loop μ-loop
+entry c = c .before .before .before .before .before .before .before .before
+
 pull-requires : tie.Need-pull-requires Inv-loop μ-loop
 pull-requires c κs =
-    let s = c .before .before .before .before .before .before .before .before .before .before in (
+    let s = entry (c .before .before) in (
       record { lent = s .pre .0 .lent; tallied = s .pre .0 .tallied; speeds = omega (arith, s .pre .0 .speeds) },
       s .pre .1,
       omega arith,
@@ -33,7 +38,7 @@ unfolding spentOf
 returns c =
     let p = c .before .before .before in
     let l = p .before .before .before .loop in
-    let s = p .before .before .before .before .before .before .before .before .before .before .before in
+    let s = entry (p .before .before .before) in
     let a = s .args in (
       all-dry (a .at .now) (a .links .now) (a .strengths .now) (a .distances .now) (a .alpha) (l .k) (omega arith) (flow (l .vs) (drop (l .spent) (a .draws .now)))
           (p .pull .last .1 .0) (a .draws .now) (p .pull .result) (p .pull .ensures .0) (c .if1 .taken)
@@ -46,7 +51,7 @@ loop-again : tie.Need-loop-again Inv-loop μ-loop
 loop-again c =
     let p = c .before .before .before in
     let l = p .before .before .before .loop in
-    let s = p .before .before .before .before .before .before .before .before .before .before .before in
+    let s = entry (p .before .before .before) in
     let a = s .args in (
       omega arith,
       p .pull .kept .1 .0 ∙ l .inv .1,
@@ -60,7 +65,7 @@ returns-2 : tie.Need-returns-2 Inv-loop μ-loop
 unfolding spentOf
 returns-2 c =
     let l = c .before .loop in
-    let s = c .before .before .before .before .before .before .before .before .before in
+    let s = entry (c .before) in
     let a = s .args in (
       all-end (a .at .now) (a .links .now) (a .strengths .now) (a .distances .now) (a .alpha) (l .k) (flow (l .vs) (drop (l .spent) (a .draws .now))) (omega arith)
           ∙ sym (l .inv .3)

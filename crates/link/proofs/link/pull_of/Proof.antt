@@ -1,3 +1,4 @@
+-- How hard a link pulls, by the root of the gap's square length.
 use borrow.Author.Needs.{needs}
 use Rattle.link.proofs.link.pull_of.Statement.{statement}
 use Rattle.link.proofs.link.pull_of.Tie as tie

@@ -1,3 +1,4 @@
+-- Both ends are pushed, each by its share.
 use borrow.Author.Needs.{needs}
 use Rattle.link.proofs.link.share.Statement.{statement}
 use Rattle.link.proofs.link.share.Tie as tie

@@ -1,3 +1,4 @@
+-- `list_records` lends lists of the right lengths.
 use borrow.Author.Needs.{needs}
 use mathlib.Core.Path.{refl, sym}
 use Rattle.lister_text.proofs.Inputs.{first-chains}

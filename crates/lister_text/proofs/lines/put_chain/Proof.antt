@@ -1,3 +1,4 @@
+-- `put_chain` puts the particles of a chain and the line's end.
 use borrow.Author.Needs.{needs}
 use mathlib.Core.Path.{_∙_}
 use mathlib.Core.List.{[], _∷_, map}

@@ -1,3 +1,4 @@
+-- `put_end` puts a space and an end of an extent.
 use borrow.Author.Needs.{needs}
 use mathlib.Core.List.{[], _∷_}
 use native.Mathlib.Omega.{arith}

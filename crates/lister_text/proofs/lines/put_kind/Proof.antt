@@ -1,24 +1,25 @@
+-- `put_kind` puts the letter of a node's kind.
 use borrow.Author.Needs.{needs}
 use mathlib.Core.Path.{_≡_, refl, ap}
 use mathlib.Core.List.{[], _∷_}
 use Prim.Native.Nat.{ℕ, zero, suc}
-use Rattle.rules.specs.Listing.{kindWord}
+use Rattle.rules.specs.Listing.{rowLetter}
 use Rattle.lister_text.proofs.Writing.{Left, left-as, left-none, left-last}
 use Rattle.lister_text.proofs.lines.put_kind.Statement.{statement}
 use Rattle.lister_text.proofs.lines.put_kind.Tie as tie
 
-leaf-word : (k : ℕ) → (k ≡ 0 → ⊥) → (k ≡ 1 → ⊥) → kindWord k ≡ 76 ∷ []
+leaf-word : (k : ℕ) → (k ≡ 0 → ⊥) → (k ≡ 1 → ⊥) → rowLetter k ≡ 76 ∷ []
 leaf-word zero n m = absurd (n refl)
 leaf-word (suc zero) n m = absurd (m refl)
 leaf-word (suc (suc k)) n m = refl
 
 returns : tie.Need-returns
-returns c = left-none (left-as (c .before .before .args .out .now) _ _ _ (ap kindWord (c .if1 .taken)) (c .before .before .pre))
+returns c = left-none (left-as (c .before .before .args .out .now) _ _ _ (ap rowLetter (c .if1 .taken)) (c .before .before .pre))
 
 internal : (c : tie.Then2)
     → let e = c .before .before .before .args in
-    Left (e .out .now) (e .at) (kindWord (e .kind)) (e .out .now) (e .at) (73 ∷ [])
-internal c = left-as (c .before .before .before .args .out .now) _ _ _ (ap kindWord (c .if2 .taken)) (c .before .before .before .pre)
+    Left (e .out .now) (e .at) (rowLetter (e .kind)) (e .out .now) (e .at) (73 ∷ [])
+internal c = left-as (c .before .before .before .args .out .now) _ _ _ (ap rowLetter (c .if2 .taken)) (c .before .before .before .pre)
 
 put-byte-requires : tie.Need-put-byte-requires
 put-byte-requires c κs = internal (c .before) .fits
@@ -28,7 +29,7 @@ returns-2 c = left-last (internal (c .before .before .before .before)) (c .befor
 
 leaf : (c : tie.Else2)
     → let e = c .before .before .before .args in
-    Left (e .out .now) (e .at) (kindWord (e .kind)) (e .out .now) (e .at) (76 ∷ [])
+    Left (e .out .now) (e .at) (rowLetter (e .kind)) (e .out .now) (e .at) (76 ∷ [])
 leaf c = left-as (c .before .before .before .args .out .now) _ _ _ (leaf-word _ (c .before .if1 .left) (c .if2 .left)) (c .before .before .before .pre)
 
 put-byte-requires-2 : tie.Need-put-byte-requires-2

@@ -1,3 +1,4 @@
+-- `put_number` puts a space and a number.
 use borrow.Author.Needs.{needs}
 use mathlib.Core.List.{[], _∷_}
 use native.Mathlib.Omega.{arith}

@@ -1,3 +1,4 @@
+-- `put_refused` puts the line of a refusal.
 use borrow.Author.Needs.{needs}
 use mathlib.Core.List.{[], _∷_}
 use Prim.Native.Nat.{_+_, _≤_}

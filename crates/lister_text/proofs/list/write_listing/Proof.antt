@@ -1,3 +1,4 @@
+-- `write_listing` writes the listing of a tree, from what is told of it.
 use borrow.Author.Needs.{needs}
 use mathlib.Core.List.{List, _++_}
 use Prim.Native.Nat.{ℕ, _+_, _≤_}
@@ -10,7 +11,7 @@ use Rattle.rules.specs.Listing.{extentLine, rowLines}
 use Rattle.lister_text.specs.Told.{Told, squareOf, rowsAt}
 use Rattle.lister_text.proofs.Writing.{Left, Next, left-as, left-next, left-last}
 use Rattle.lister_text.proofs.Sizes.{listing-length}
-use Rattle.lister_text.proofs.Reading.{none-told, some-ends, some-told, rows-room, chains-room}
+use Rattle.lister_text.proofs.Reading.{none-told, some-extent, some-told, rows-room, chains-room}
 use Rattle.lister_text.proofs.list.write_listing.Statement.{statement}
 use Rattle.lister_text.proofs.list.write_listing.Tie as tie
 
@@ -37,7 +38,7 @@ extent-ahead c cov t h = let s = c .before .before .before .before in left-next 
 put-extent-requires : tie.Need-put-extent-requires
 put-extent-requires c κs =
     let given = c .before .before .before .before .before .pre .0 in
-    (some-ends _ _ _ _ _ _ (given .told) (c .before .if1 .left), extent-ahead (c .before) _ _ (given .told) .room)
+    (some-extent _ _ _ _ _ _ (given .told) (c .before .if1 .left), extent-ahead (c .before) _ _ (given .told) .room)
 
 rows-left : (c : tie.After-put-extent)
     → let s = c .before .before .before .before .before .before in

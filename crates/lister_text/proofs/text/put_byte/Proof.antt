@@ -1,3 +1,4 @@
+-- `put_byte` puts one byte.
 use borrow.Author.Needs.{needs}
 use native.Mathlib.Omega.{arith}
 use Rattle.lister_text.proofs.Writing.{wrote-byte}

@@ -1,3 +1,4 @@
+-- `put_text` puts a text, byte after byte.
 use mathlib.Core.List.{[], _∷_}
 use Prim.Native.Nat.{_+_, _-_}
 use native.Mathlib.Omega.{arith}

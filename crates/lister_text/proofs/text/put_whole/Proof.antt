@@ -1,3 +1,4 @@
+-- `put_whole` puts a whole number, with a minus sign before what lies below zero.
 use borrow.Author.Needs.{needs}
 use mathlib.Core.List.{[], _∷_}
 use lib.Ieee.{neg, toUnsigned}

@@ -1,3 +1,4 @@
+-- The standard tuning is the rules'.
 use borrow.Author.Needs.{needs}
 use Rattle.many_body.proofs.many_body.standard.Statement.{statement}
 use Rattle.many_body.proofs.many_body.standard.Tie as tie

@@ -1,3 +1,4 @@
+-- A length below the least is softened, any other stays.
 use borrow.Author.Needs.{needs}
 use Rattle.rules.specs.ManyBody.{softened}
 use Rattle.many_body_pulls.proofs.aim.soften.Statement.{statement}

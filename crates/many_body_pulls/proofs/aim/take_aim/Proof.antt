@@ -1,3 +1,4 @@
+-- A pull is aimed by the gap after its draws, and by the length that follows.
 use mathlib.Core.Path.{ap, _∙_}
 use borrow.Author.Needs.{needs}
 use Rattle.rules.specs.ManyBody.{softened}

@@ -1,3 +1,4 @@
+-- `bits_of` answers a number's bits, and one pattern for every NaN.
 use borrow.Author.Needs.{needs}
 use Rattle.number.proofs.Tests.{nan-bits, no-nan}
 use Rattle.number.proofs.bits.bits_of.Statement.{statement}

@@ -1,3 +1,4 @@
+-- `float_of` answers the number of any bits.
 use borrow.Author.Needs.{needs}
 use Rattle.number.proofs.Tests.{nan-of, no-nan-of}
 use Rattle.number.proofs.bits.float_of.Statement.{statement}

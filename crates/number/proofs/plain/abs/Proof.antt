@@ -1,3 +1,4 @@
+-- `abs` answers the rules' absolute value, with 0.0 for both zeros.
 use borrow.Author.Needs.{needs}
 use mathlib.Core.Path.{_∙_, sym, subst}
 use lib.Dec.{T}

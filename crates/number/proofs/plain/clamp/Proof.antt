@@ -1,3 +1,4 @@
+-- `clamp` answers what the rules do.
 use Rattle.rules.specs.Number.{clamp}
 use Rattle.number.proofs.plain.clamp.Statement.{statement}
 use Rattle.number.proofs.plain.clamp.Tie as tie

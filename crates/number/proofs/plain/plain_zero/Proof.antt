@@ -1,3 +1,4 @@
+-- `plain_zero` answers 0.0 for both zeros, and any other number as it is.
 use Rattle.rules.specs.Number.{plainZero}
 use Rattle.number.proofs.plain.plain_zero.Statement.{statement}
 use Rattle.number.proofs.plain.plain_zero.Tie as tie

@@ -1,3 +1,4 @@
+-- `distance_range` tells whether the rules take a number for a distance.
 use Rattle.rules.specs.Number.{between}
 use Rattle.number.proofs.range.distance_range.Statement.{statement}
 use Rattle.number.proofs.range.distance_range.Tie as tie

@@ -1,3 +1,4 @@
+-- `draw_range` tells whether the rules take a number for a draw.
 use Rattle.rules.specs.Number.{between}
 use Rattle.number.proofs.range.draw_range.Statement.{statement}
 use Rattle.number.proofs.range.draw_range.Tie as tie

@@ -1,3 +1,4 @@
+-- `is_finite` tells whether the rules call a number finite.
 use mathlib.Core.Path.{_∙_}
 use lib.Ieee.{ofBits, div, neg}
 use Rattle.number.proofs.Tests.{finite-yes, finite-no}

@@ -1,3 +1,4 @@
+-- `within` tells whether a number is within 2 ^ 40 of zero.
 use Rattle.rules.specs.Number.{between}
 use Rattle.number.proofs.range.within.Statement.{statement}
 use Rattle.number.proofs.range.within.Tie as tie

@@ -1,3 +1,4 @@
+-- `floor` answers the rules' floor of a number that is in range: its cast, or one less.
 use borrow.Author.Needs.{needs}
 use Rattle.number.proofs.Cut.{asked, sub-fits, floor-less, floor-same}
 use Rattle.number.proofs.whole.floor.Statement.{statement}

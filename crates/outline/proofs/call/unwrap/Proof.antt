@@ -1,3 +1,4 @@
+-- `unwrap` answers and writes what an outline comes to.
 use borrow.Author.Needs.{needs}
 use mathlib.Core.Path.{_≡_}
 use Prim.Native.Nat.{_≤_}
@@ -9,7 +10,7 @@ use Rattle.rules.specs.Outline.{outlineCheck}
 use Rattle.rules.proofs.RefusalNumbers.{outline-early}
 use Rattle.list_checks.proofs.Checks.{passed}
 use Rattle.outline.specs.Unwrap.{lentOutline, Sound}
-use Rattle.outline.proofs.Ends.{sound, ended-early, unclosed, closed}
+use Rattle.outline.proofs.OutlineCalled.{sound, ended-early, unclosed, closed}
 use Rattle.outline.proofs.call.unwrap.Statement.{statement}
 use Rattle.outline.proofs.call.unwrap.Tie as tie
 

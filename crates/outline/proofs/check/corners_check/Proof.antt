@@ -1,3 +1,4 @@
+-- `corners_check` finds the first corner out of range.
 use mathlib.Core.Path.{_≡_, refl, _∙_}
 use Prim.Native.Nat.{_≤_, _-_}
 use native.Mathlib.Omega.{arith}
@@ -26,10 +27,12 @@ tested w =
 
 returns : tie.Need-returns Inv-loop μ-loop
 returns c =
-    let o = c .before .before .before .before .loop in
-    let l = c .before .before .before .before .before .args .corners .now in
-    rw (o .inv .1)
-    (test-stop longitudeRange 5 (λ i. drop i l) (o .i) (getD l (o .i) (pos 0)) (list-left l (o .i) (pos 0) (omega arith)) (c .before .longitude-range .result) (tested (c .before)) (c .if1 .taken))
+    let w = c .before .before in
+    let o = w .before .before .before .loop in
+    let l = w .before .before .before .before .args .corners .now in
+    c .at .ensures
+    ∙ rw (o .inv .1)
+    (test-stop longitudeRange 5 (λ i. drop i l) (o .i) (getD l (o .i) (pos 0)) (list-left l (o .i) (pos 0) (omega arith)) (w .longitude-range .result) (tested w) (c .before .if1 .taken))
 
 loop-again : tie.Need-loop-again Inv-loop μ-loop
 loop-again c =
@@ -39,9 +42,9 @@ loop-again c =
 
 returns-2 : tie.Need-returns-2 Inv-loop μ-loop
 returns-2 c =
-    let o = c .before .loop in
-    let l = c .before .before .args .corners .now in
-    rw (o .inv .1, drop-of-length-le l {i = o .i} (omega arith))
+    let o = c .before .before .loop in
+    let l = c .before .before .before .args .corners .now in
+    c .none .ensures ∙ rw (o .inv .1, drop-of-length-le l {i = o .i} (omega arith))
 
 pub corners-check-spec : {M : Type 1} → statement M
 corners-check-spec =
@@ -53,8 +56,10 @@ corners-check-spec =
     (λ c. search needs)
     (λ c. omega arith)
     (λ c κs. search needs)
+    (λ c κs. search needs)
     returns
     (λ c. omega arith)
     (λ c. omega arith)
     loop-again
+    (λ c κs. search needs)
     returns-2)

@@ -1,7 +1,8 @@
+-- `outline_check` answers the first refusal of what is lent.
 use borrow.Author.Needs.{needs}
 use mir.Syntax.{w64}
 use mir.ValLaws.{toZ-ofZ}
-use Rattle.outline.proofs.Ends.{of-lengths, of-places, stopped, went-on}
+use Rattle.outline.proofs.OutlineCalled.{of-lengths, of-places, stopped, went-on}
 use Rattle.outline.proofs.check.outline_check.Statement.{statement}
 use Rattle.outline.proofs.check.outline_check.Tie as tie
 

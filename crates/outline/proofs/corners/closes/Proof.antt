@@ -1,3 +1,4 @@
+-- `closes` tells whether the closing step leads back to where the outline began.
 use borrow.Author.Needs.{needs, sfits-of}
 use mathlib.Core.Path.{_≡_, _∙_}
 use Prim.Native.Nat.{_<_}
@@ -8,7 +9,7 @@ use mir.Val.{toZ, ofZ}
 use mir.ValLaws.{toZ-ofZ}
 use Rattle.rules.specs.Outline.{outline, lastFrom}
 use Rattle.outline.proofs.Turns.{cornerAt, at-centre, asked}
-use Rattle.outline.proofs.Ends.{closes-none, closes-tested, last-far}
+use Rattle.outline.proofs.OutlineCalled.{closes-none, closes-tested, last-far}
 use Rattle.outline.proofs.corners.closes.Statement.{statement}
 use Rattle.outline.proofs.corners.closes.Tie as tie
 

@@ -1,7 +1,10 @@
+-- `closing_check` refuses an outline that doesn't close.
 use borrow.Author.Needs.{needs}
-use mathlib.Core.Path.{sym, _∙_}
+use mathlib.Core.Path.{ap, _∙_}
+use mathlib.Core.Bool.{Bool}
 use mir.Syntax.{w64}
 use mir.ValLaws.{toZ-ofZ}
+use Rattle.rules.specs.Outcome.{refusalOf, require}
 use Rattle.outline.proofs.corners.closing_check.Statement.{statement}
 use Rattle.outline.proofs.corners.closing_check.Tie as tie
 
@@ -9,13 +12,7 @@ returns : tie.Need-returns
 returns c =
     let s = c .before .before in
     let e = rw (toZ-ofZ w64 (s .args .centre) (s .fits .centre)) at (c .before .closes .ensures) in
-    rw (sym e ∙ c .if1 .taken)
-
-returns-2 : tie.Need-returns-2
-returns-2 c =
-    let s = c .before .before in
-    let e = rw (toZ-ofZ w64 (s .args .centre) (s .fits .centre)) at (c .before .closes .ensures) in
-    rw (sym e ∙ c .if1 .left)
+    c .unless .ensures ∙ ap (λ (so : Bool). refusalOf (require so 16 0)) e
 
 pub closing-check-spec : {M : Type 1} → statement M
-closing-check-spec = tie.close (tie.spec (λ c κs. search needs) returns returns-2)
+closing-check-spec = tie.close (tie.spec (λ c κs. search needs) (λ c κs. search needs) returns)

@@ -1,3 +1,4 @@
+-- `lay` writes the outline's numbers, one after the other.
 use mathlib.Core.Path.{_≡_, refl, sym, _∙_}
 use Prim.Native.Nat.{_≤_, _-_, _+_, _*_}
 use native.Mathlib.Omega.{arith}

@@ -1,3 +1,4 @@
+-- `longitude_range` tells whether a longitude is in range.
 use borrow.Author.Needs.{needs}
 use mir.Syntax.{w64}
 use mir.ValLaws.{toZ-ofZ}

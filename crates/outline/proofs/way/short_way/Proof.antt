@@ -1,3 +1,4 @@
+-- `short_way` takes the short step, and no number on the way is too large for the machine.
 use Rattle.outline.proofs.Steps.{Begun, apart-fits, shifted-fits, quotient-fits, step-under, step-past, step-fits, on-fits, arrived}
 use Rattle.outline.proofs.way.short_way.Statement.{statement}
 use Rattle.outline.proofs.way.short_way.Tie as tie

@@ -1,3 +1,4 @@
+-- `read_case` answers no more than it has room for.
 use borrow.Author.Needs.{needs}
 use mathlib.Core.Path.{sym}
 use lib.Seq.{length-take-le}

@@ -1,3 +1,4 @@
+-- `byte_of` reads one of the bytes.
 use borrow.Author.Needs.{needs}
 use native.Mathlib.Nat.{mod-lt}
 use native.Mathlib.Omega.{arith}

@@ -1,3 +1,4 @@
+-- `start` answers a place within the case.
 use borrow.Author.Needs.{needs}
 use Prim.Native.Nat.{_≤_, _-_}
 use lib.ListN.{length}

@@ -1,3 +1,4 @@
+-- `word_of` reads one of the words.
 use borrow.Author.Needs.{needs}
 use Prim.Native.Nat.{_/_, _%_, _<_}
 use native.Mathlib.Nat.{mod-lt}

@@ -1,3 +1,4 @@
+-- `put_pair` writes two numbers side by side, and changes nothing else.
 use borrow.Author.Needs.{needs}
 use native.Mathlib.Omega.{arith}
 use Rattle.sheet.proofs.Turns.{pair-put}

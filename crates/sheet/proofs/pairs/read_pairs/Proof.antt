@@ -1,3 +1,4 @@
+-- `read_pairs` reads pairs of numbers, each a stride further on.
 use mathlib.Core.Path.{_≡_, refl, sym, _∙_}
 use mathlib.Core.List.{_++_}
 use Prim.Native.Nat.{_≤_, _+_, _-_, _*_, _/_}

@@ -1,3 +1,4 @@
+-- `write_pairs` writes pairs of numbers, each a stride further on, and changes nothing else.
 use mathlib.Core.Path.{_≡_, refl, sym, _∙_}
 use Prim.Native.Nat.{_≤_, _+_, _-_, _*_}
 use native.Mathlib.Nat.{zero-mul, add-zero}

@@ -1,10 +1,11 @@
+-- `read_flags` reads the flags of each record.
 use mathlib.Core.Path.{_≡_, refl, sym, _∙_}
 use mathlib.Core.List.{_++_}
 use Prim.Native.Nat.{_≤_, _-_, _*_}
 use native.Mathlib.Nat.{sub-zero}
 use native.Mathlib.Omega.{arith}
 use lib.ListN.{length, take, length-set}
-use Rattle.rules.specs.Sheet.{particlesOf, recordsFrom}
+use Rattle.rules.specs.Sheet.{recordSize, particlesOf, recordsFrom}
 use Rattle.sheet.specs.Columns.{flagsOf}
 use Rattle.sheet.proofs.Turns.{flags-turn, flags-end}
 use Rattle.sheet.proofs.records.read_flags.Statement.{statement}
@@ -14,7 +15,7 @@ abbrev Inv-loop : tie.InvT-loop
 Inv-loop s out₀ i₀ out i =
     (i ≤ length out₀)
     × (length out ≡ length out₀)
-    × (take i out ++ flagsOf (recordsFrom s (i * 40) (length out₀ - i)) ≡ flagsOf (recordsFrom s 0 (length out₀)))
+    × (take i out ++ flagsOf (recordsFrom s (i * recordSize) (length out₀ - i)) ≡ flagsOf (recordsFrom s 0 (length out₀)))
 
 abbrev μ-loop : tie.MeasureT-loop
 μ-loop s out₀ i₀ out i = length out₀ - i

@@ -1,3 +1,4 @@
+-- `record_at` reads the record at a place.
 use borrow.Author.Needs.{needs}
 use Rattle.rules.specs.Sheet.{recordAt}
 use Rattle.sheet.proofs.records.record_at.Statement.{statement}

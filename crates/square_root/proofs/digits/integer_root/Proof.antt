@@ -1,3 +1,4 @@
+-- `integer_root` has, after each turn, one digit more of the root, and in the end all 53.
 use Prim.Native.Nat.{_-_}
 use native.Mathlib.Omega.{arith}
 use Rattle.square_root.proofs.Powers.{Inv, inv-start, inv-q, inv-step, inv-end}

@@ -1,3 +1,4 @@
+-- `nearest` answers the pattern nearest to the root, which the remainder decides.
 use borrow.Author.Needs.{needs}
 use Rattle.rules.proofs.Nearest as Near
 use Rattle.square_root.proofs.Rounding.{down, up}

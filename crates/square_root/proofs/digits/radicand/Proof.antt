@@ -1,3 +1,4 @@
+-- `radicand` leaves an even power of two.
 use borrow.Author.Needs.{needs}
 use Rattle.square_root.proofs.Powers.{radicand-even, radicand-odd}
 use Rattle.square_root.proofs.digits.radicand.Statement.{statement}

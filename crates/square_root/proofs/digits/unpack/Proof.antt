@@ -1,3 +1,4 @@
+-- `unpack` takes a value above zero apart into 53 digits and a power of two.
 use borrow.Author.Needs.{needs}
 use lib.Count.{leadingZeros}
 use native.Mathlib.Omega.{arith}

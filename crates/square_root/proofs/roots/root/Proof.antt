@@ -1,3 +1,4 @@
+-- `root` answers the rules' root of every number, also of those that are no finite value above zero.
 use borrow.Author.Needs.{needs}
 use mathlib.Core.Path.{sym, _∙_, subst}
 use Prim.Native.Nat.{ℕ, _≤_, _<_}

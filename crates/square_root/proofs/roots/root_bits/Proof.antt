@@ -1,3 +1,4 @@
+-- `root_bits` answers the rules' root, from bits to bits.
 use borrow.Author.Needs.{needs}
 use Rattle.rules.specs.Root.{rootBits}
 use Rattle.square_root.proofs.roots.root_bits.Statement.{statement}

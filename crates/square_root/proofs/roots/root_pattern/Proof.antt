@@ -1,3 +1,4 @@
+-- `root_pattern` answers the rules' pattern, as there is one nearest pattern only.
 use borrow.Author.Needs.{needs}
 use Rattle.rules.proofs.Theorems.{root-pattern-nearest, nearest-unique}
 use Rattle.square_root.proofs.roots.root_pattern.Statement.{statement}

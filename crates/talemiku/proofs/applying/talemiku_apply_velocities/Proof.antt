@@ -45,24 +45,24 @@ use denote.Triple.Walked.{says, Stays, stay-none, stay-slice, walkOf, goes-none,
 use denote.Exit.{yes}
 use Rattle.rules.specs.declared.Particle.{Particle}
 use Rattle.rules.specs.declared.Refusal.{Refusal}
-use Rattle.rules.specs.Outcome.{refusal, Check, fine, refusalOf, checkEach}
+use Rattle.rules.specs.Outcome.{noRefusal, Check, fine, refusalOf, checkEach}
 use Rattle.rules.specs.Refusal.{mostParticles, countCheck, settingsCheck}
-use Rattle.rules.specs.Sheet.{recordCheck}
+use Rattle.rules.specs.Sheet.{recordCheck, placesOf}
 use Rattle.rules.proofs.Particle as T
 use Rattle.rules.proofs.Particle.Laws as T′
 use Rattle.rules.proofs.Refusal as R
 use Rattle.rules.proofs.Refusal.Laws as R′
 use Rattle.sheet.proofs.Checked.{record-fine}
 use Rattle.list_checks.proofs.Checks.{result-fine}
-use Rattle.talemiku.specs.Answered.{Answered}
+use Rattle.talemiku.specs.AfterParticles.{AfterParticles}
 use Rattle.talemiku.proofs.Frame.{Blocks, env, alloc-all, free-all, counted}
 use Rattle.talemiku.proofs.Rules.{copied, part, big, sets, goes-on, leaves, counts, judges, takes, puts, calls}
 use Rattle.talemiku.proofs.Lent.{Lent, lent, slice, At, Closed, opens, whole-again, here-fits, next-fits, place-fits}
 use Rattle.talemiku.proofs.Callees as callee
 use Rattle.talemiku.proofs.Outcomes.{stops-count, stops-records, stops-settings, stops-results, accepts}
-use Rattle.rules.specs.Particle.{moved, closing}
+use Rattle.rules.specs.Particle.{closing}
 use Rattle.rules.specs.Calls.{closingResult}
-use Rattle.talemiku.specs.Pass.{resultOf}
+use Rattle.talemiku.specs.Pass.{resultOf, movedAlone}
 use Rattle.talemiku.proofs.Values.{val, valR, FitsR, typed, typedR}
 use Rattle.talemiku.proofs.Passes.{none, Passed, pass-on, pass-stop, pass-end, count-fine, settings-fine, mapTo, mapTo-length, mapTo-all, closing-each}
 use Rattle.talemiku.proofs.applying.talemiku_apply_velocities.Key.{name as #apply-velocities}
@@ -102,7 +102,7 @@ module _ {M : Type 1} (𝓤 : URA M) (H : Heap 𝓤) (𝓜 : Model 𝓤 H) (𝓖
 
     -- what the move makes of one particle
     abbrev f : Particle → Particle
-    f p = moved decay p p
+    f = movedAlone decay
 
     -- the arguments, their machine values, and what is to hold of the machine value returned
     abbrev Arg : Type 0
@@ -123,7 +123,7 @@ module _ {M : Type 1} (𝓤 : URA M) (H : Heap 𝓤) (𝓜 : Model 𝓤 H) (𝓖
     abbrev Post : Val → SProp 𝓤
     Post = walkOf 𝓤 H A apply.ended stayed clauses .post bound
 
-    exits : (r : Refusal) (ys : List Particle) → length ys ≡ n → Answered (closingResult decay xs) xs r ys → FitsR r → ent 𝓤 (⋆ 𝓤 H A (Closed l ys)) (Post (valR r))
+    exits : (r : Refusal) (ys : List Particle) → length ys ≡ n → AfterParticles (closingResult decay xs) xs r ys → FitsR r → ent 𝓤 (⋆ 𝓤 H A (Closed l ys)) (Post (valR r))
     exits r ys e answered has =
         qed W (Closed l ys) ∵ suffices ! _ (ends-at 𝓤 H A apply.ended stayed clauses W bound (valR r) r (ys, (tt, tt)) (e, (tt, tt))) $ says ! answered $
         nothing ! $ move ! (3 ∷ 0 ∷ []) $ join ! $ frame ! $ whole-again l ! ys e $
@@ -146,7 +146,7 @@ module _ {M : Type 1} (𝓤 : URA M) (H : Heap 𝓤) (𝓜 : Model 𝓤 H) (𝓖
       Returns z = post 𝓤 H z returned ≡ atReturn 𝓤 H En Post returned
 
       -- the refusal r is read and the function returns, with the list ys
-      finish : (z : PostOf 𝓤 H) → Returns z → (r : Refusal) (ys : List Particle) → length ys ≡ n → Answered (closingResult decay xs) xs r ys → FitsR r
+      finish : (z : PostOf 𝓤 H) → Returns z → (r : Refusal) (ys : List Particle) → length ys ≡ n → AfterParticles (closingResult decay xs) xs r ys → FitsR r
           → Sq W (At l En ys (room ∷ room ∷ room ∷ room ∷ value (valR r) ∷ [])) (runs (𝓣 .C) (𝓣 .Λ) En m.t-14 z)
       finish z same r ys e answered has =
           sets ! (of-opd ! (copied ! (look ! 8 refl))) (init ! 4 refl (typedR W r has)) $ closes-slice ! tt T.the-row xs ys e (l .b) (l .o) $
@@ -154,7 +154,7 @@ module _ {M : Type 1} (𝓤 : URA M) (H : Heap 𝓤) (𝓜 : Model 𝓤 H) (𝓖
 
       -- the answer where nothing is refused
       abbrev clear : Refusal
-      clear = refusal 0 0
+      clear = noRefusal
 
       -- the refusal's local, where a check was answered
       abbrev answer : Check → Item 𝓤
@@ -165,11 +165,11 @@ module _ {M : Type 1} (𝓤 : URA M) (H : Heap 𝓤) (𝓜 : Model 𝓤 H) (𝓖
       held-at r i = room ∷ value (slice l) ∷ value (vfloat binary64 decay) ∷ value (vint w64 n) ∷ value (valR r) ∷ value (vint w64 i) ∷ []
 
       -- a refusal: the list is as it was
-      halts : (z : PostOf 𝓤 H) → Returns z → (r : Refusal) (i : ℕ) → Answered (closingResult decay xs) xs r xs → FitsR r → Sq W (At l En xs (held-at r i)) (runs (𝓣 .C) (𝓣 .Λ) En m.t-14 z)
+      halts : (z : PostOf 𝓤 H) → Returns z → (r : Refusal) (i : ℕ) → AfterParticles (closingResult decay xs) xs r xs → FitsR r → Sq W (At l En xs (held-at r i)) (runs (𝓣 .C) (𝓣 .Λ) En m.t-14 z)
       halts z same r i answered has = forget ! 5 refl $ forget ! 6 refl $ forget ! 7 refl $ forget ! 9 refl $ finish z same r xs refl answered has
 
       -- ---- the third loop: every particle is moved
-      module _ (answered : Answered (closingResult decay xs) xs clear (map f xs)) (clear-fits : FitsR clear) where
+      module _ (answered : AfterParticles (closingResult decay xs) xs clear (map f xs)) (clear-fits : FitsR clear) where
         abbrev At₃ : ℕ → List (Item 𝓤)
         At₃ i = At l En (mapTo f i xs) (held-at clear i)
 
@@ -180,8 +180,8 @@ module _ {M : Type 1} (𝓤 : URA M) (H : Heap 𝓤) (𝓜 : Model 𝓤 H) (𝓖
             goes-on ! small (look ! 9 refl) (look ! 7 refl) (init ! 23 refl (tt, tt)) (look ! 23 refl) $ forget ! 23 refl $
             takes ! ps i (l .b) (l .o) within (place-fits l i small) (look ! 9 refl) (init ! 24 refl (tt, record { fits = place-fits l i small })) (part ! refl (look-in ! 5 (sub ! 0 refl (whole !)))) (look ! 24 refl) (init ! 25 refl (tt, tt))
             (look ! 27 refl) (λ has. init ! 28 refl (typed W p has)) (look ! 28 refl) (λ has. init ! 14 refl (typed W p has)) (λ p-has.
-            calls ! fm T.the-type T′.the-laws (f p) (callee.moved-gives 𝓤 H 𝓜 𝓖 𝓡 code.env code.calls-closing·moved decay p p decay-fits p-has p-has)
-            (and-then ! (copied ! (look ! 8 refl)) (and-then ! (copied ! (look ! 14 refl)) (and-then ! (copied ! (look ! 14 refl)) (no-more !)))) (λ has. store ! 28 refl (typed W (f p) has)) (λ q-has.
+            calls ! fm T.the-type T′.the-laws (f p) (callee.moved-gives 𝓤 H 𝓜 𝓖 𝓡 code.env code.calls-talemiku·applying·moved-alone decay p decay-fits p-has)
+            (and-then ! (copied ! (look ! 8 refl)) (and-then ! (copied ! (look ! 14 refl)) (no-more !))) (λ has. store ! 28 refl (typed W (f p) has)) (λ q-has.
             puts ! ps i (l .b) (l .o) within (place-fits l i small) (f p) q-has (look ! 11 refl) (store ! 26 refl (tt, record { fits = place-fits l i small })) (part ! refl (look-in ! 7 (sub ! 0 refl (whole !)))) (look ! 26 refl) (init ! 29 refl (tt, tt))
             (look ! 28 refl) (look ! 29 refl) $ forget ! 12 refl $ forget ! 24 refl $ forget ! 25 refl $ forget ! 26 refl $ forget ! 27 refl $
             counts ! (next-fits l i small) (look ! 9 refl) (store ! 9 refl (tt, record { fits = lt-of-le-of-lt small (l .fits .0) })) $ by ! (k tt)))
@@ -201,7 +201,7 @@ module _ {M : Type 1} (𝓤 : URA M) (H : Heap 𝓤) (𝓜 : Model 𝓤 H) (𝓖
             qed W (At₃ n) ∵ exec ! (𝓣 .C) (𝓣 .Λ) En m.turn-3 (anyQ (afterTurn 𝓤 H X (then m.t-14))) $
             leaves ! (look ! 9 refl) (look ! 7 refl) (init ! 23 refl (tt, tt)) (look ! 23 refl) $ exec ! (𝓣 .C) (𝓣 .Λ) En m.t-14 (atRet En Post) $
             forget ! 5 refl $ forget ! 6 refl $ forget ! 7 refl $ forget ! 9 refl $ forget ! 23 refl $
-            finish (atRet En Post) refl clear (mapTo f n xs) (mapTo-length f n xs) (subst (Answered (closingResult decay xs) xs clear) (sym (mapTo-all f xs)) answered) clear-fits
+            finish (atRet En Post) refl clear (mapTo f n xs) (mapTo-length f n xs) (subst (AfterParticles (closingResult decay xs) xs clear) (sym (mapTo-all f xs)) answered) clear-fits
 
         third : ent 𝓤 (⋆ 𝓤 H A (At₃ 0)) (code-of (loop m.turn-3) (then m.t-14))
         third = counted 𝓤 H (W .laws) 𝓣 En m.turn-3 (then m.t-14) n (λ i. Unit {0}) (λ i. ⋆ 𝓤 H A (At₃ i)) more₃ ends₃ tt
@@ -221,13 +221,13 @@ module _ {M : Type 1} (𝓤 : URA M) (H : Heap 𝓤) (𝓜 : Model 𝓤 H) (𝓖
             goes-on ! small (look ! 9 refl) (look ! 7 refl) (init ! 19 refl (tt, tt)) (look ! 19 refl) $ forget ! 19 refl $
             takes ! xs i (l .b) (l .o) small (place-fits l i small) (look ! 9 refl) (init ! 20 refl (tt, record { fits = place-fits l i small })) (part ! refl (look-in ! 5 (sub ! 0 refl (whole !)))) (look ! 20 refl) (init ! 21 refl (tt, tt))
             (look ! 23 refl) (λ has. init ! 24 refl (typed W p has)) (look ! 24 refl) (λ has. init ! 13 refl (typed W p has)) (λ p-has.
-            calls ! fm T.the-type T′.the-laws (f p) (callee.moved-gives 𝓤 H 𝓜 𝓖 𝓡 code.env code.calls-closing·moved decay p p decay-fits p-has p-has)
-            (and-then ! (copied ! (look ! 8 refl)) (and-then ! (copied ! (look ! 13 refl)) (and-then ! (copied ! (look ! 13 refl)) (no-more !)))) (λ has. store ! 24 refl (typed W (f p) has)) (λ q-has.
+            calls ! fm T.the-type T′.the-laws (f p) (callee.moved-gives 𝓤 H 𝓜 𝓖 𝓡 code.env code.calls-talemiku·applying·moved-alone decay p decay-fits p-has)
+            (and-then ! (copied ! (look ! 8 refl)) (and-then ! (copied ! (look ! 13 refl)) (no-more !))) (λ has. store ! 24 refl (typed W (f p) has)) (λ q-has.
             calls ! fm R.the-type R′.the-laws (refusalOf (resultOf (f p))) (callee.result-check-gives 𝓤 H 𝓜 𝓖 𝓡 code.env code.calls-talemiku·check·result-check (f p) q-has)
             (and-then ! (copied ! (look ! 24 refl)) (no-more !)) (λ has. store ! 10 refl (typedR W (refusalOf (resultOf (f p))) has)) (λ r-has.
             elem-back ! T.the-row fullShare xs i none (val p ∷ []) (l .b) (l .o) small $ forget ! 11 refl $ forget ! 20 refl $ forget ! 21 refl $ forget ! 22 refl $
             judges ! (resultOf (f p)) (result-fine _ _) (part ! refl (look-in ! 8 (sub ! 0 refl (whole !)))) (init ! 19 refl (tt, tt)) (look ! 19 refl)
-            (λ bad. forget ! 19 refl $ halts _ refl (refusalOf (resultOf (f p))) i (stops-results (decay ∷ []) (closing decay xs) xs f (closing-each decay xs) count records set _ (pass-stop (λ _ p. resultOf (f p)) xs i small φ _ bad)) r-has)
+            (λ bad. forget ! 19 refl $ halts _ refl (refusalOf (resultOf (f p))) i (stops-results (decay ∷ []) (closing decay (placesOf xs)) xs f (closing-each decay xs) count records set _ (pass-stop (λ _ p. resultOf (f p)) xs i small φ _ bad)) r-has)
             (λ good. forget ! 19 refl $ rewrite ! 8 answer good refl $
             counts ! (next-fits l i small) (look ! 9 refl) (store ! 9 refl (tt, record { fits = lt-of-le-of-lt small (l .fits .0) })) $ by ! (k (pass-on (λ _ p. resultOf (f p)) xs i small φ good))))))
           where
@@ -239,7 +239,7 @@ module _ {M : Type 1} (𝓤 : URA M) (H : Heap 𝓤) (𝓜 : Model 𝓤 H) (𝓖
         ends₂ φ X =
             qed W (At₂ n) ∵ exec ! (𝓣 .C) (𝓣 .Λ) En m.turn-2 (anyQ (afterTurn 𝓤 H X (then m.t-12))) $
             leaves ! (look ! 9 refl) (look ! 7 refl) (init ! 19 refl (tt, tt)) (look ! 19 refl) $ exec ! (𝓣 .C) (𝓣 .Λ) En m.t-12 (atRet En Post) $ forget ! 19 refl $
-            sets ! (of-opd ! (lit ! tt)) (store ! 9 refl (tt, record { fits = lit< tt })) $ by ! (third (accepts (decay ∷ []) (closing decay xs) xs f (closing-each decay xs) count records set (pass-end (λ _ p. resultOf (f p)) xs φ)) clear-fits)
+            sets ! (of-opd ! (lit ! tt)) (store ! 9 refl (tt, record { fits = lit< tt })) $ by ! (third (accepts (decay ∷ []) (closing decay (placesOf xs)) xs f (closing-each decay xs) count records set (pass-end (λ _ p. resultOf (f p)) xs φ)) clear-fits)
 
         second : ent 𝓤 (⋆ 𝓤 H A (At₂ 0)) (code-of (loop m.turn-2) (then m.t-12))
         second = counted 𝓤 H (W .laws) 𝓣 En m.turn-2 (then m.t-12) n Φ₂ (λ i. ⋆ 𝓤 H A (At₂ i)) more₂ ends₂ refl
@@ -264,7 +264,7 @@ module _ {M : Type 1} (𝓤 : URA M) (H : Heap 𝓤) (𝓜 : Model 𝓤 H) (𝓖
             (and-then ! (copied ! (look ! 20 refl)) (and-then ! (copied ! (look ! 12 refl)) (no-more !))) (λ has. store ! 10 refl (typedR W (refusalOf (recordCheck i p)) has)) (λ r-has.
             elem-back ! T.the-row fullShare xs i none (val p ∷ []) (l .b) (l .o) small $ forget ! 10 refl $ forget ! 15 refl $ forget ! 16 refl $ forget ! 17 refl $ forget ! 18 refl $
             judges ! (recordCheck i p) (record-fine i p) (part ! refl (look-in ! 8 (sub ! 0 refl (whole !)))) (init ! 14 refl (tt, tt)) (look ! 14 refl)
-            (λ bad. forget ! 14 refl $ halts _ refl (refusalOf (recordCheck i p)) i (stops-records (decay ∷ []) (closing decay xs) xs f (closing-each decay xs) count _ (pass-stop recordCheck xs i small φ _ bad)) r-has)
+            (λ bad. forget ! 14 refl $ halts _ refl (refusalOf (recordCheck i p)) i (stops-records (decay ∷ []) (closing decay (placesOf xs)) xs f (closing-each decay xs) count _ (pass-stop recordCheck xs i small φ _ bad)) r-has)
             (λ good. forget ! 14 refl $ rewrite ! 8 answer good refl $
             counts ! (next-fits l i small) (look ! 9 refl) (store ! 9 refl (tt, record { fits = lt-of-le-of-lt small (l .fits .0) })) $ by ! (k (pass-on recordCheck xs i small φ good)))))
           where
@@ -276,10 +276,10 @@ module _ {M : Type 1} (𝓤 : URA M) (H : Heap 𝓤) (𝓜 : Model 𝓤 H) (𝓖
         ends₁ φ X =
             qed W (At₁ n) ∵ exec ! (𝓣 .C) (𝓣 .Λ) En m.turn-1 (anyQ (afterTurn 𝓤 H X (then m.t-7))) $
             leaves ! (look ! 9 refl) (look ! 7 refl) (init ! 14 refl (tt, tt)) (look ! 14 refl) $ exec ! (𝓣 .C) (𝓣 .Λ) En m.t-7 (atRet En Post) $ forget ! 14 refl $
-            calls ! fm R.the-type R′.the-laws (refusalOf (settingsCheck (decay ∷ []))) (callee.setting-check-gives 𝓤 H 𝓜 𝓖 𝓡 code.env code.calls-lists·setting-check decay decay-fits)
+            calls ! fm R.the-type R′.the-laws (refusalOf (settingsCheck (decay ∷ []))) (callee.setting-check-gives 𝓤 H 𝓜 𝓖 𝓡 code.env code.calls-list-checks·setting-check decay decay-fits)
             (and-then ! (copied ! (look ! 6 refl)) (no-more !)) (λ has. store ! 8 refl (typedR W (refusalOf (settingsCheck (decay ∷ []))) has)) (λ r-has.
             judges ! (settingsCheck (decay ∷ [])) (settings-fine (decay ∷ [])) (part ! refl (look-in ! 8 (sub ! 0 refl (whole !)))) (init ! 13 refl (tt, tt)) (look ! 13 refl)
-            (λ bad. forget ! 13 refl $ halts _ refl (refusalOf (settingsCheck (decay ∷ []))) n (stops-settings (decay ∷ []) (closing decay xs) xs f (closing-each decay xs) count (pass-end recordCheck xs φ) _ bad) r-has)
+            (λ bad. forget ! 13 refl $ halts _ refl (refusalOf (settingsCheck (decay ∷ []))) n (stops-settings (decay ∷ []) (closing decay (placesOf xs)) xs f (closing-each decay xs) count (pass-end recordCheck xs φ) _ bad) r-has)
             (λ good. forget ! 13 refl $ rewrite ! 8 answer good refl $ sets ! (of-opd ! (lit ! tt)) (store ! 9 refl (tt, record { fits = lit< tt })) $
             by ! (second count (pass-end recordCheck xs φ) good (subst (λ (c : Check). FitsR (refusalOf c)) good r-has))))
 
@@ -290,10 +290,10 @@ module _ {M : Type 1} (𝓤 : URA M) (H : Heap 𝓤) (𝓜 : Model 𝓤 H) (𝓖
       starts : Sq W (At l En xs (room ∷ value (slice l) ∷ value (vfloat binary64 decay) ∷ [])) (runs (𝓣 .C) (𝓣 .Λ) En m.t-1 (atRet En Post))
       starts =
           sets ! (of-opd ! (part ! refl (look-in ! 5 (sub ! 1 refl (whole !))))) (init ! 7 refl (tt, record { fits = l .fits .0 })) $
-          calls ! fm R.the-type R′.the-laws (refusalOf (countCheck mostParticles n)) (callee.count-check-gives 𝓤 H 𝓜 𝓖 𝓡 code.env code.calls-lists·count-check mostParticles n (lit< tt) (l .fits .0))
+          calls ! fm R.the-type R′.the-laws (refusalOf (countCheck mostParticles n)) (callee.count-check-gives 𝓤 H 𝓜 𝓖 𝓡 code.env code.calls-list-checks·count-check mostParticles n (lit< tt) (l .fits .0))
           (and-then ! (big ! (lit< tt)) (and-then ! (copied ! (look ! 7 refl)) (no-more !))) (λ has. init ! 8 refl (typedR W (refusalOf (countCheck mostParticles n)) has)) (λ r-has.
           judges ! (countCheck mostParticles n) (count-fine mostParticles n) (part ! refl (look-in ! 8 (sub ! 0 refl (whole !)))) (init ! 13 refl (tt, tt)) (look ! 13 refl)
-          (λ bad. forget ! 5 refl $ forget ! 6 refl $ forget ! 7 refl $ forget ! 13 refl $ finish _ refl (refusalOf (countCheck mostParticles n)) xs refl (stops-count (decay ∷ []) (closing decay xs) xs f (closing-each decay xs) _ bad) r-has)
+          (λ bad. forget ! 5 refl $ forget ! 6 refl $ forget ! 7 refl $ forget ! 13 refl $ finish _ refl (refusalOf (countCheck mostParticles n)) xs refl (stops-count (decay ∷ []) (closing decay (placesOf xs)) xs f (closing-each decay xs) _ bad) r-has)
           (λ good. forget ! 13 refl $ rewrite ! 8 answer good refl $ sets ! (of-opd ! (lit ! tt)) (init ! 9 refl (tt, record { fits = lit< tt })) $ by ! (loops good)))
 
     walk : ent 𝓤 (onEntry 𝓤 H A apply.signature (l .κ, tt) (l .q, tt) args words) (runs-as (slice l ∷ vfloat binary64 decay ∷ []) Post)

@@ -1,3 +1,4 @@
+-- `offsets` answers how far the mean lies from the point, times the strength.
 use native.Mathlib.Omega.{arith}
 use borrow.Author.Needs.{needs}
 use lib.Dec.{le→leb}

@@ -44,7 +44,7 @@ use denote.Triple.Walked.{says, Stays, stay-none, stay-slice, walkOf, goes-none,
 use denote.Exit.{yes}
 use Rattle.rules.specs.declared.Particle.{Particle}
 use Rattle.rules.specs.declared.Refusal.{Refusal}
-use Rattle.rules.specs.Outcome.{refusal, Check, fine, refusalOf, checkEach}
+use Rattle.rules.specs.Outcome.{noRefusal, Check, fine, refusalOf, checkEach}
 use Rattle.rules.specs.Refusal.{mostParticles, countCheck, settingsCheck}
 use Rattle.rules.specs.Sheet.{recordCheck}
 use Rattle.rules.proofs.Particle as T
@@ -53,7 +53,7 @@ use Rattle.rules.proofs.Refusal as R
 use Rattle.rules.proofs.Refusal.Laws as R′
 use Rattle.sheet.proofs.Checked.{record-fine}
 use Rattle.list_checks.proofs.Checks.{result-fine}
-use Rattle.talemiku.specs.Answered.{Answered}
+use Rattle.talemiku.specs.AfterParticles.{AfterParticles}
 use Rattle.talemiku.proofs.Frame.{Blocks, env, alloc-all, free-all, counted}
 use Rattle.talemiku.proofs.Rules.{copied, part, big, sets, goes-on, leaves, counts, judges, takes, puts, calls}
 use Rattle.talemiku.proofs.Lent.{Lent, lent, slice, At, Closed, opens, whole-again, here-fits, next-fits, place-fits}
@@ -140,7 +140,7 @@ module _ {M : Type 1} (𝓤 : URA M) (H : Heap 𝓤) (𝓜 : Model 𝓤 H) (𝓖
     abbrev Post : Val → SProp 𝓤
     Post = walkOf 𝓤 H A center.ended stayed clauses .post bound
 
-    exits : (r : Refusal) (ys : List Particle) → length ys ≡ n → Answered (centerResult x y strength xs) xs r ys → FitsR r → ent 𝓤 (⋆ 𝓤 H A (Closed l ys)) (Post (valR r))
+    exits : (r : Refusal) (ys : List Particle) → length ys ≡ n → AfterParticles (centerResult x y strength xs) xs r ys → FitsR r → ent 𝓤 (⋆ 𝓤 H A (Closed l ys)) (Post (valR r))
     exits r ys e answered has =
         qed W (Closed l ys) ∵ suffices ! _ (ends-at 𝓤 H A center.ended stayed clauses W bound (valR r) r (ys, (tt, (tt, (tt, tt)))) (e, (tt, (tt, (tt, tt))))) $ says ! answered $
         nothing ! $ move ! (3 ∷ 0 ∷ []) $ join ! $ frame ! $ whole-again l ! ys e $
@@ -163,7 +163,7 @@ module _ {M : Type 1} (𝓤 : URA M) (H : Heap 𝓤) (𝓜 : Model 𝓤 H) (𝓖
       Returns z = post 𝓤 H z returned ≡ atReturn 𝓤 H En Post returned
 
       -- the refusal r is read and the function returns, with the list ys
-      finish : (z : PostOf 𝓤 H) → Returns z → (r : Refusal) (ys : List Particle) → length ys ≡ n → Answered (centerResult x y strength xs) xs r ys → FitsR r
+      finish : (z : PostOf 𝓤 H) → Returns z → (r : Refusal) (ys : List Particle) → length ys ≡ n → AfterParticles (centerResult x y strength xs) xs r ys → FitsR r
           → Sq W (At l En ys (room ∷ room ∷ room ∷ room ∷ room ∷ room ∷ value (valR r) ∷ [])) (runs (𝓣 .C) (𝓣 .Λ) En m.t-16 z)
       finish z same r ys e answered has =
           sets ! (of-opd ! (copied ! (look ! 10 refl))) (init ! 4 refl (typedR W r has)) $ closes-slice ! tt T.the-row xs ys e (l .b) (l .o) $
@@ -171,7 +171,7 @@ module _ {M : Type 1} (𝓤 : URA M) (H : Heap 𝓤) (𝓜 : Model 𝓤 H) (𝓖
 
       -- the answer where nothing is refused
       abbrev clear : Refusal
-      clear = refusal 0 0
+      clear = noRefusal
 
       -- the refusal's local, where a check was answered
       abbrev answer : Check → Item 𝓤
@@ -186,14 +186,14 @@ module _ {M : Type 1} (𝓤 : URA M) (H : Heap 𝓤) (𝓜 : Model 𝓤 H) (𝓖
       shifting r i = room ∷ value (slice l) ∷ value (vfloat binary64 x) ∷ value (vfloat binary64 y) ∷ value (vfloat binary64 strength) ∷ value (vint w64 n) ∷ value (valR r) ∷ room ∷ value (vint w64 i) ∷ room ∷ value (valP off) ∷ []
 
       -- a refusal: the list is as it was
-      halts₁ : (z : PostOf 𝓤 H) → Returns z → (r : Refusal) (i : ℕ) → Answered (centerResult x y strength xs) xs r xs → FitsR r → Sq W (At l En xs (summing r i)) (runs (𝓣 .C) (𝓣 .Λ) En m.t-16 z)
+      halts₁ : (z : PostOf 𝓤 H) → Returns z → (r : Refusal) (i : ℕ) → AfterParticles (centerResult x y strength xs) xs r xs → FitsR r → Sq W (At l En xs (summing r i)) (runs (𝓣 .C) (𝓣 .Λ) En m.t-16 z)
       halts₁ z same r i answered has = forget ! 5 refl $ forget ! 6 refl $ forget ! 7 refl $ forget ! 8 refl $ forget ! 9 refl $ forget ! 11 refl $ forget ! 12 refl $ finish z same r xs refl answered has
 
-      halts₂ : (z : PostOf 𝓤 H) → Returns z → (r : Refusal) (i : ℕ) → Answered (centerResult x y strength xs) xs r xs → FitsR r → Sq W (At l En xs (shifting r i)) (runs (𝓣 .C) (𝓣 .Λ) En m.t-16 z)
+      halts₂ : (z : PostOf 𝓤 H) → Returns z → (r : Refusal) (i : ℕ) → AfterParticles (centerResult x y strength xs) xs r xs → FitsR r → Sq W (At l En xs (shifting r i)) (runs (𝓣 .C) (𝓣 .Λ) En m.t-16 z)
       halts₂ z same r i answered has = forget ! 5 refl $ forget ! 6 refl $ forget ! 7 refl $ forget ! 8 refl $ forget ! 9 refl $ forget ! 12 refl $ forget ! 14 refl $ finish z same r xs refl answered has
 
       -- ---- the third loop: every particle is moved
-      module _ (off-fits : FitsP off) (answered : Answered (centerResult x y strength xs) xs clear (map f xs)) (clear-fits : FitsR clear) where
+      module _ (off-fits : FitsP off) (answered : AfterParticles (centerResult x y strength xs) xs clear (map f xs)) (clear-fits : FitsR clear) where
         abbrev At₃ : ℕ → List (Item 𝓤)
         At₃ i = At l En (mapTo f i xs) (shifting clear i)
 
@@ -225,7 +225,7 @@ module _ {M : Type 1} (𝓤 : URA M) (H : Heap 𝓤) (𝓜 : Model 𝓤 H) (𝓖
             qed W (At₃ n) ∵ exec ! (𝓣 .C) (𝓣 .Λ) En m.turn-3 (anyQ (afterTurn 𝓤 H X (then m.t-16))) $
             leaves ! (look ! 12 refl) (look ! 9 refl) (init ! 27 refl (tt, tt)) (look ! 27 refl) $ exec ! (𝓣 .C) (𝓣 .Λ) En m.t-16 (atRet En Post) $
             forget ! 5 refl $ forget ! 6 refl $ forget ! 7 refl $ forget ! 8 refl $ forget ! 9 refl $ forget ! 12 refl $ forget ! 14 refl $ forget ! 27 refl $
-            finish (atRet En Post) refl clear (mapTo f n xs) (mapTo-length f n xs) (subst (Answered (centerResult x y strength xs) xs clear) (sym (mapTo-all f xs)) answered) clear-fits
+            finish (atRet En Post) refl clear (mapTo f n xs) (mapTo-length f n xs) (subst (AfterParticles (centerResult x y strength xs) xs clear) (sym (mapTo-all f xs)) answered) clear-fits
 
         third : ent 𝓤 (⋆ 𝓤 H A (At₃ 0)) (code-of (loop m.turn-3) (then m.t-16))
         third = counted 𝓤 H (W .laws) 𝓣 En m.turn-3 (then m.t-16) n (λ i. Unit {0}) (λ i. ⋆ 𝓤 H A (At₃ i)) more₃ ends₃ tt
@@ -302,7 +302,7 @@ module _ {M : Type 1} (𝓤 : URA M) (H : Heap 𝓤) (𝓜 : Model 𝓤 H) (𝓖
         ends₁ φ X =
             qed W (At₁ n) ∵ exec ! (𝓣 .C) (𝓣 .Λ) En m.turn-1 (anyQ (afterTurn 𝓤 H X (then m.t-8))) $
             leaves ! (look ! 12 refl) (look ! 9 refl) (init ! 18 refl (tt, tt)) (look ! 18 refl) $ exec ! (𝓣 .C) (𝓣 .Λ) En m.t-8 (atRet En Post) $ forget ! 18 refl $
-            calls ! fm R.the-type R′.the-laws (refusalOf (settingsCheck (x ∷ y ∷ strength ∷ []))) (callee.settings-check-gives 𝓤 H 𝓜 𝓖 𝓡 code.env code.calls-checks·settings-check x y strength x-fits y-fits strength-fits)
+            calls ! fm R.the-type R′.the-laws (refusalOf (settingsCheck (x ∷ y ∷ strength ∷ []))) (callee.settings-check-gives 𝓤 H 𝓜 𝓖 𝓡 code.env code.calls-tick-checks·settings-check x y strength x-fits y-fits strength-fits)
             (and-then ! (copied ! (look ! 6 refl)) (and-then ! (copied ! (look ! 7 refl)) (and-then ! (copied ! (look ! 8 refl)) (no-more !)))) (λ has. store ! 10 refl (typedR W (refusalOf (settingsCheck (x ∷ y ∷ strength ∷ []))) has)) (λ r-has.
             judges ! (settingsCheck (x ∷ y ∷ strength ∷ [])) (settings-fine (x ∷ y ∷ strength ∷ [])) (part ! refl (look-in ! 10 (sub ! 0 refl (whole !)))) (init ! 17 refl (tt, tt)) (look ! 17 refl)
             (λ bad. forget ! 17 refl $ halts₁ _ refl (refusalOf (settingsCheck (x ∷ y ∷ strength ∷ []))) n (stops-settings (x ∷ y ∷ strength ∷ []) (centered x y strength) xs f (centered-each x y strength xs) count (pass-end recordCheck xs (φ .0)) _ bad) r-has)
@@ -318,7 +318,7 @@ module _ {M : Type 1} (𝓤 : URA M) (H : Heap 𝓤) (𝓜 : Model 𝓤 H) (𝓖
       starts : Sq W (At l En xs (room ∷ value (slice l) ∷ value (vfloat binary64 x) ∷ value (vfloat binary64 y) ∷ value (vfloat binary64 strength) ∷ [])) (runs (𝓣 .C) (𝓣 .Λ) En m.t-1 (atRet En Post))
       starts =
           sets ! (of-opd ! (part ! refl (look-in ! 5 (sub ! 1 refl (whole !))))) (init ! 9 refl (tt, record { fits = l .fits .0 })) $
-          calls ! fm R.the-type R′.the-laws (refusalOf (countCheck mostParticles n)) (callee.count-check-gives 𝓤 H 𝓜 𝓖 𝓡 code.env code.calls-lists·count-check mostParticles n (lit< tt) (l .fits .0))
+          calls ! fm R.the-type R′.the-laws (refusalOf (countCheck mostParticles n)) (callee.count-check-gives 𝓤 H 𝓜 𝓖 𝓡 code.env code.calls-list-checks·count-check mostParticles n (lit< tt) (l .fits .0))
           (and-then ! (big ! (lit< tt)) (and-then ! (copied ! (look ! 9 refl)) (no-more !))) (λ has. init ! 10 refl (typedR W (refusalOf (countCheck mostParticles n)) has)) (λ r-has.
           judges ! (countCheck mostParticles n) (count-fine mostParticles n) (part ! refl (look-in ! 10 (sub ! 0 refl (whole !)))) (init ! 17 refl (tt, tt)) (look ! 17 refl)
           (λ bad. forget ! 5 refl $ forget ! 6 refl $ forget ! 7 refl $ forget ! 8 refl $ forget ! 9 refl $ forget ! 17 refl $ finish _ refl (refusalOf (countCheck mostParticles n)) xs refl (stops-count (x ∷ y ∷ strength ∷ []) (centered x y strength) xs f (centered-each x y strength xs) _ bad) r-has)

@@ -1,3 +1,4 @@
+-- `contents_check` answers the first trouble of the link ends, the records, the ranges and the draws, in that order.
 use Prim.Native.Nat.{_*_}
 use borrow.Author.Needs.{needs}
 use Rattle.rules.specs.Refusal.{drawsCheck}
@@ -19,7 +20,7 @@ returns c =
     let e = r .before in
     let a = e .before .before .before .before .before .args in
     let n = countOf (a .sheet .now) in
-    let es = entriesOf (a .forces .now) in
+    let es = entriesOf (a .words .now) in
     answer-four (endsEach n es (a .links .now)) (recordsCheck (particlesOf (a .sheet .now))) (rangesEach n es (a .numbers .now)) (drawsCheck (a .draws .now))
     (e .all-ends .result) (r .records-check .result) (g .all-ranges .result) (d .draws-check .result) (c .before .before .first .result) (c .before .first2 .result) (c .first3 .result)
     (each-early (λ e. linksNeeded e * 2) (λ _ part. ownEnds n part) (λ _ part. of-all (endsRange n) 3 three (endsOf part)) es (a .links .now))

@@ -1,3 +1,4 @@
+-- `sizes_check` answers the first trouble of the sheet's length and of the counts.
 use borrow.Author.Needs.{needs}
 use Rattle.rules.specs.Outcome.{checkEach}
 use Rattle.rules.specs.Refusal.{mostParticles, mostTicks, countCheck}
@@ -16,7 +17,7 @@ returns c =
     let l = p .before in
     let a = l .before .before .args in
     let n = countOf (a .sheet .now) in
-    answer-four (wholeRecords (a .sheet .now)) (countCheck mostParticles n) (countCheck mostTicks (a .ticks)) (checkEach (λ _ e. entryCounts e) (entriesOf (a .forces .now)))
+    answer-four (wholeRecords (a .sheet .now)) (countCheck mostParticles n) (countCheck mostTicks (a .ticks)) (checkEach (λ _ e. entryCounts e) (entriesOf (a .words .now)))
     (l .whole-records .result) (p .count-check .result) (t .count-check2 .result) (d .counts-check .result) (c .before .before .first .result) (c .before .first2 .result) (c .first3 .result)
     (length-early (a .sheet .now)) (count-early mostParticles n) (count-early mostTicks (a .ticks))
     (l .whole-records .ensures) (p .count-check .ensures) (t .count-check2 .ensures) (d .counts-check .ensures) (c .before .before .first .ensures) (c .before .first2 .ensures) (c .first3 .ensures)

@@ -1,3 +1,4 @@
+-- `step_check` answers the first trouble of a step's input, its settings last.
 use mathlib.Core.List.{[], _∷_, _++_}
 use borrow.Author.Needs.{needs}
 use Rattle.tick_checks.specs.Input.{lentSheet}
@@ -13,10 +14,10 @@ returns c =
     let e = f .before in
     let t = e .before in
     let a = t .before .before .before .before .before .args in
-    let l = lentSheet (a .sheet .now) 0 (a .forces .now) (a .numbers .now) (a .links .now) (a .draws .now) [] in
+    let l = lentSheet (a .sheet .now) 0 (a .words .now) (a .numbers .now) (a .links .now) (a .draws .now) [] in
     let four = a .alpha ∷ a .s .target ∷ a .s .«alpha_decay» ∷ a .s .«velocity_decay» ∷ [] in
-    answered-settings l (a .budget) (four ++ (a .least ∷ [])) (i .input-check .result) (f .first .result) (c .first2 .result) (i .input-check .ensures)
-    (answer-settings four (a .least ∷ []) (t .tick-settings .result) (e .setting-check .result) (f .first .result) (t .tick-settings .ensures) (e .setting-check .ensures) (f .first .ensures))
+    answered-settings l (a .budget) (four ++ (a .alpha-min ∷ [])) (i .input-check .result) (f .first .result) (c .first2 .result) (i .input-check .ensures)
+    (answer-settings four (a .alpha-min ∷ []) (t .tick-settings .result) (e .setting-check .result) (f .first .result) (t .tick-settings .ensures) (e .setting-check .ensures) (f .first .ensures))
     (c .first2 .ensures)
 
 pub step-check-spec : {M : Type 1} → statement M

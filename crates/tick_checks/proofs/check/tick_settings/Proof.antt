@@ -1,3 +1,4 @@
+-- `tick_settings` answers the first trouble of a tick's settings.
 use mathlib.Core.List.{[], _∷_}
 use borrow.Author.Needs.{needs}
 use Rattle.tick_checks.proofs.Early.{answer-settings}

@@ -1,3 +1,4 @@
+-- `entry_at` reads a slot's entry from its seven words.
 use native.Mathlib.Nat.{add-zero}
 use borrow.Author.Needs.{needs}
 use Rattle.rules.specs.Tick.{entryAt}

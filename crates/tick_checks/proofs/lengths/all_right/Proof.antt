@@ -1,24 +1,25 @@
+-- `all_right` tells whether every link's strengths are none or one for each link.
 use mathlib.Core.Path.{_≡_, refl, sym, ap, _∙_}
 use Prim.Native.Nat.{_≤_, _-_}
 use native.Mathlib.Omega.{arith}
 use borrow.Author.Needs.{needs}
 use Rattle.rules.specs.Plain.{all}
-use Rattle.rules.specs.Tick.{strengthsRight, entriesOf}
+use Rattle.rules.specs.Tick.{forceSlots, strengthsRight, entriesOf}
 use Rattle.tick_checks.proofs.Entries.{entriesLeft, entries-none, right-stop, right-on}
 use Rattle.tick_checks.proofs.lengths.all_right.Statement.{statement}
 use Rattle.tick_checks.proofs.lengths.all_right.Tie as tie
 
 abbrev Inv-loop : tie.InvT-loop
-Inv-loop forces i₀ i = (i ≤ 8) × (all strengthsRight (entriesOf forces) ≡ all strengthsRight (entriesLeft forces i))
+Inv-loop words i₀ i = (i ≤ forceSlots) × (all strengthsRight (entriesOf words) ≡ all strengthsRight (entriesLeft words i))
 
 abbrev μ-loop : tie.MeasureT-loop
-μ-loop forces i₀ i = 8 - i
+μ-loop words i₀ i = forceSlots - i
 
 returns : tie.Need-returns Inv-loop μ-loop
 returns c =
     let w = c .before in
     let o = w .before .before .before .loop in
-    right-stop strengthsRight (w .before .before .before .before .args .forces .now) (o .i) (omega arith) (w .strengths-right .result)
+    right-stop strengthsRight (w .before .before .before .before .args .words .now) (o .i) (omega arith) (w .strengths-right .result)
     (w .strengths-right .ensures ∙ ap strengthsRight (w .before .entry-at .ensures)) (c .if1 .taken)
     ∙ sym (o .inv .1)
 
@@ -28,14 +29,14 @@ loop-again c =
     let o = w .before .before .before .loop in (
       omega arith,
       o .inv .1
-          ∙ right-on strengthsRight (w .before .before .before .before .args .forces .now) (o .i) (omega arith) (w .strengths-right .result)
+          ∙ right-on strengthsRight (w .before .before .before .before .args .words .now) (o .i) (omega arith) (w .strengths-right .result)
           (w .strengths-right .ensures ∙ ap strengthsRight (w .before .entry-at .ensures)) (c .if1 .left),
     )
 
 returns-2 : tie.Need-returns-2 Inv-loop μ-loop
 returns-2 c =
     let o = c .before .loop in
-    sym (o .inv .1 ∙ ap (all strengthsRight) (entries-none (c .before .before .args .forces .now) (o .i) (omega arith)))
+    sym (o .inv .1 ∙ ap (all strengthsRight) (entries-none (c .before .before .args .words .now) (o .i) (omega arith)))
 
 pub all-right-spec : {M : Type 1} → statement M
 all-right-spec =

@@ -1,3 +1,4 @@
+-- `lengths_agree` tells whether the lists are as long as the slots need them.
 use mathlib.Core.Path.{sym, _∙_}
 use mathlib.Core.Bool.{Bool}
 use mathlib.Core.List.{map}
@@ -15,19 +16,19 @@ use Rattle.tick_checks.proofs.lengths.lengths_agree.Tie as tie
 
 -- what is tested of all slots
 abbrev right : tie.Start → Bool
-right s = all strengthsRight (entriesOf (s .args .forces .now))
+right s = all strengthsRight (entriesOf (s .args .words .now))
 
 abbrev numbers : tie.Start → ℕ
-numbers s = sum (map (numbersNeeded (s .args .n)) (entriesOf (s .args .forces .now)))
+numbers s = sum (map (numbersNeeded (s .args .n)) (entriesOf (s .args .words .now)))
 
 abbrev links : tie.Start → ℕ
-links s = sum (map linksNeeded (entriesOf (s .args .forces .now)))
+links s = sum (map linksNeeded (entriesOf (s .args .words .now)))
 
 -- once the strengths are right, all is small
 small : (c : tie.Else1) → (numbers (c .before .before) ≤ 131072) × (links (c .before .before) ≤ 65536)
 small c =
     let s = c .before .before in
-    all-small (s .args .n) (s .args .forces .now) (s .pre .0) (s .pre .1) (sym (c .before .all-right .ensures) ∙ not-false (c .before .all-right .result) (c .if1 .left))
+    all-small (s .args .n) (s .args .words .now) (s .pre .0) (s .pre .1) (sym (c .before .all-right .ensures) ∙ not-false (c .before .all-right .result) (c .if1 .left))
 
 returns : tie.Need-returns
 returns c =

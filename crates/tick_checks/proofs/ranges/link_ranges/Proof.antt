@@ -1,3 +1,4 @@
+-- `link_ranges` answers the first trouble of a link's strengths, then of its distances.
 use mathlib.Core.Path.{sym, ap, _∙_}
 use mathlib.Core.List.{List}
 use Prim.Native.Nat.{_-_}

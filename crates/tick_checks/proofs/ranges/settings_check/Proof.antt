@@ -1,3 +1,4 @@
+-- `settings_check` answers the first trouble of three settings.
 use mathlib.Core.List.{[], _∷_}
 use borrow.Author.Needs.{needs}
 use Rattle.tick_checks.proofs.Early.{answer-settings}

@@ -1,3 +1,4 @@
+-- `write_columns` writes places and velocities into a sheet, and leaves the flags.
 use native.Mathlib.Omega.{arith}
 use borrow.Author.Needs.{needs}
 use Rattle.tick_columns.proofs.ByColumns.{columns-written}

@@ -1,3 +1,4 @@
+-- `link_stage` is the rules' stage of Link.
 use mathlib.Core.Path.{_≡_, subst⁻¹}
 use Prim.Native.Nat.{ℕ, _/_}
 use native.Mathlib.Omega.{arith}
@@ -11,9 +12,16 @@ use Rattle.tick_columns.proofs.Staged.{visits-kept, pushed-stages}
 use Rattle.tick_stage.proofs.stage.link_stage.Statement.{statement}
 use Rattle.tick_stage.proofs.stage.link_stage.Tie as tie
 
+-- the points of the code, each from a later one
+abbrev ran : tie.After-ranged → tie.After-link
+ran c = c .before .before .before .before
+
+abbrev entry : tie.After-link-arg → tie.Start
+entry c = c .before .before .before .before .before .before .before
+
 link-requires : tie.Need-link-requires
 link-requires c κs =
-    let s = c .before .before .before .before .before .before .before in
+    let s = entry c in
     let a = s .args in
     let p = s .pre in
     let h : length (a .speeds .now) / 2 ≡ length (a .places .now) / 2 = omega (arith, p .0 .speeds) in (
@@ -27,18 +35,18 @@ link-requires c κs =
 
 returns : tie.Need-returns
 unfolding run
-returns c flags slots l =
-    let m = c .before .before .before .before in
-    let s = m .before .before .before .before .before .before .before .before in
+returns c t flags slots l =
+    let m = ran c in
+    let s = entry (m .before) in
     let a = s .args in
-    pushed-stages (a .places .now) (a .speeds .now) (m .link .last .1 .0) (a .draws .now) flags (link (endsOf (a .links .now)) (a .strengths .now) (a .distances .now) (a .iterations)) (a .alpha) slots _ (a .used) (a .visits) _
-    (m .link .result) (c .settled .result) (s .pre .0) l (m .link .kept .1 .0) (m .link .ensures)
+    pushed-stages (a .places .now) (a .speeds .now) (m .link .last .1 .0) (a .draws .now) flags t (link (endsOf (a .links .now)) (a .strengths .now) (a .distances .now) (a .iterations)) slots _ (a .p) _
+    (m .link .result) (c .ranged .result) (s .pre .0) l (m .link .kept .1 .0) (m .link .ensures)
     (λ z. omega (
       arith,
-      visits-kept (m .link .last .1 .0) (a .draws .now) (m .link .result) (a .visits)
-          (runLink (a .places .now) (endsOf (a .links .now)) (a .strengths .now) (a .distances .now) (a .iterations) (a .alpha) (flow (a .speeds .now) (drop (a .used) (a .draws .now))))
+      visits-kept (m .link .last .1 .0) (a .draws .now) (m .link .result) (a .p .visits)
+          (runLink (a .places .now) (endsOf (a .links .now)) (a .strengths .now) (a .distances .now) (a .iterations) (a .p .alpha) (flow (a .speeds .now) (drop (a .p .used) (a .draws .now))))
           (m .link .ensures .is) z,
-    )) (c .settled .ensures)
+    )) (c .ranged .ensures)
 
 pub link-stage-spec : {M : Type 1} → statement M
 link-stage-spec = tie.close (tie.spec link-requires (λ c κs. search needs) (λ c. search needs) returns)

@@ -1,11 +1,12 @@
-use mathlib.Core.Path.{_≡_, sym, _∙_}
+-- `enlarge` wraps the tree in the extent with p, or refuses where the rules refuse the tree with p.
+use mathlib.Core.Path.{sym, _∙_}
 use mathlib.Core.List.{List}
 use Prim.Native.Nat.{ℕ, _-_, _≤_}
 use native.Mathlib.Omega.{arith}
 use borrow.Author.Needs.{needs}
-use Rattle.tree_slots.specs.Slots.{word}
 use Rattle.tree_placing.specs.Add.{Seeks, Wraps}
 use Rattle.tree_placing.proofs.Roots.{root-slot}
+use Rattle.tree_slots.specs.Trees.{InternalIn}
 use Rattle.tree_build.specs.Depth.{Deepest, withDeepest}
 use Rattle.tree_build.proofs.AddInsert.{leaf-enlarged, bounded, enlarge-deep, enlarge-full, enlarge-asks}
 use Rattle.tree_build.proofs.add.enlarge.Statement.{statement}
@@ -33,7 +34,7 @@ deepest-requires c κs =
 abbrev tagged : tie.After-deepest → tie.After-tag
 tagged c = c .before .before .before
 
-internal : (c : tie.After-deepest) → let a = start (tagged c) .args in word (a .m .now) (a .q .root - 1) 0 ≡ 0
+internal : (c : tie.After-deepest) → let a = start (tagged c) .args in InternalIn (a .m .now) (a .q .root - 1)
 internal c = sym (tagged c .tag .ensures) ∙ c .before .before .if1 .left
 
 -- the bound, for any list

@@ -1,3 +1,4 @@
+-- `insert` puts p into the tree in the extent that it is given, or refuses as the rules do.
 use mathlib.Core.Path.{_≡_, subst}
 use mathlib.Core.List.{List}
 use Prim.Native.Nat.{ℕ, _<_}

@@ -1,3 +1,4 @@
+-- `plant` writes the leaf of p as the whole tree, or refuses by 7 without a slot.
 use native.Mathlib.Omega.{arith}
 use borrow.Author.Needs.{needs}
 use Rattle.tree_cells.proofs.Prefix.{fits-fine, fits-full}

@@ -1,3 +1,4 @@
+-- `wrap` writes a new root for each doubling, and the slots hold the same points in the wider extent.
 use mathlib.Core.Path.{_≡_, refl, sym, ap, _∙_, subst₂}
 use mathlib.Core.Bool.{false}
 use mathlib.Core.List.{List}

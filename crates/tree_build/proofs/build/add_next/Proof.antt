@@ -1,3 +1,4 @@
+-- `add_next` puts p into the tree, in the extent of all particles up to it.
 use mathlib.Core.Path.{subst}
 use mathlib.Core.List.{List}
 use Prim.Native.Nat.{ℕ}

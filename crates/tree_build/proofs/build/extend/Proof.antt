@@ -1,3 +1,4 @@
+-- `extend` answers the extent with p, as the rules cover it.
 use mathlib.Core.Path.{sym, ap₂, _∙_, subst₂}
 use native.Mathlib.Omega.{arith}
 use lib.Dec.{T}

@@ -1,7 +1,7 @@
+-- `levels` counts the levels of a tree in slots, by calling itself for each child.
 use mathlib.Core.Path.{_≡_, sym, _∙_}
-use Prim.Native.Nat.{ℕ, _+_, _-_, _*_, _≤_, _<_}
+use Prim.Native.Nat.{ℕ, _+_, _-_, _≤_, _<_}
 use native.Mathlib.Omega.{arith}
-use lib.ListN.{length}
 use borrow.Author.Needs.{needs}
 use borrow.Fn.Kinds.{In}
 use borrow.Fn.PlainCycle.{Measures, is, falls, and}
@@ -12,6 +12,7 @@ use Rattle.tree_build.proofs.depth.levels.Reads as levels
 use Rattle.tree_build.proofs.depth.levels.Kinds as levels-kinds
 use Rattle.tree_build.proofs.depth.+levels.Lts-levels as lts
 use Rattle.tree_placing.proofs.greater.Reads as greater-reads
+use Rattle.tree_slots.specs.Slots.{InSlots}
 use Rattle.tree_slots.proofs.store.children.Reads as children-reads
 use Rattle.tree_slots.proofs.store.tag.Reads as tag-reads
 use Rattle.tree_build.proofs.depth.+levels.{statement}
@@ -43,7 +44,7 @@ own : (t : ℕ) (c : lts.After-children (rd t) (here t) levels.Post) → let a =
 own t c = opened t c (start t c .pre .1 .0) (start t c .pre .1 .1)
 
 -- the slot of the node, and its level
-slot : (t : ℕ) (c : lts.Else1 (rd t) (here t) levels.Post) → let a = c .before .before .args in ((a .p - 1) * 8 + 8 ≤ length (a .m .now)) × (a .level ≤ 64)
+slot : (t : ℕ) (c : lts.Else1 (rd t) (here t) levels.Post) → let a = c .before .before .args in InSlots (a .p - 1) (a .m .now) × (a .level ≤ 64)
 slot t c = let s = c .before .before in goes-some _ _ _ _ (s .pre .1 .1) (c .if1 .left)
 
 less : (t : ℕ) (c : lts.After-children (rd t) (here t) levels.Post) → 65 - (start t c .args .level + 1) < t

@@ -1,3 +1,4 @@
+-- `deepest` answers the bound that is kept, or counts the levels where that would refuse.
 use Prim.Native.Nat.{_<_}
 use native.Mathlib.Omega.{arith}
 use Rattle.tree_build.proofs.Levels.{goes-positive}

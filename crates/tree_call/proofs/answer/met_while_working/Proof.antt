@@ -1,3 +1,4 @@
+-- `met_while_working` tells by its number whether a refusal was met on the way.
 use mathlib.Core.Path.{_≡_, refl, sym}
 use mathlib.Core.Bool.{Bool, true, false, _||_}
 use native.Mathlib.Omega.{arith}

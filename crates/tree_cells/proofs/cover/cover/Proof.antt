@@ -1,3 +1,4 @@
+-- `cover` doubles an extent until the point is inside, as often as the rules do.
 use mathlib.Core.Path.{sym, _∙_}
 use native.Mathlib.Omega.{arith}
 use borrow.Author.Tests.{not-true, not-false}

@@ -1,10 +1,11 @@
+-- `double_once` answers the rules' next extent towards a point that is outside, and the quadrant that the old one takes in it.
 use borrow.Author.Needs.{needs}
 use mathlib.Core.Path.{sym, subst}
 use Prim.Native.Nat.{ℕ, _<_}
 use Rattle.rules.specs.Floor.{floor}
 use Rattle.rules.proofs.Cover.{old-quadrant-less}
 use Rattle.tree_cells.specs.Cover.{squareOf}
-use Rattle.tree_cells.proofs.CoverEnds.{new-side, doubled-to}
+use Rattle.tree_cells.proofs.CoverNear.{new-side, doubled-to}
 use Rattle.tree_cells.proofs.cover.double_once.Statement.{statement}
 use Rattle.tree_cells.proofs.cover.double_once.Tie as tie
 

@@ -1,5 +1,6 @@
+-- `first` answers the rules' extent of the first point.
 use borrow.Author.Needs.{needs}
-use Rattle.tree_cells.proofs.CoverEnds.{first-is}
+use Rattle.tree_cells.proofs.CoverNear.{first-is}
 use Rattle.tree_cells.proofs.cover.first.Statement.{statement}
 use Rattle.tree_cells.proofs.cover.first.Tie as tie
 

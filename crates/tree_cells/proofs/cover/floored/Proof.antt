@@ -1,3 +1,4 @@
+-- `floored` answers the rules' floor as a number.
 use borrow.Author.Needs.{needs}
 use mathlib.Core.Path.{ap, _∙_}
 use lib.Ieee.{binary64, ofInt}

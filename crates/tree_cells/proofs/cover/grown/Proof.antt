@@ -1,3 +1,4 @@
+-- `grown` moves those ends of an extent that the rules move for a quadrant.
 use mathlib.Core.Path.{_≡_, sym, subst}
 use Prim.Native.Nat.{ℕ, _<_}
 use lib.IntN.{_+ℤ_}
@@ -6,7 +7,7 @@ use Rattle.rules.specs.declared.Extent.{Extent}
 use Rattle.rules.specs.Cover.{grown, holds, whole, extentOf}
 use Rattle.rules.proofs.CoverTerms.{side}
 use Rattle.tree_cells.specs.Cover.{squareOf, Reachable}
-use Rattle.tree_cells.proofs.CoverEnds.{moved, moved-is}
+use Rattle.tree_cells.proofs.CoverNear.{moved, moved-is}
 use Rattle.tree_cells.proofs.cover.grown.Statement.{statement}
 use Rattle.tree_cells.proofs.cover.grown.Tie as tie
 use Rattle.tree_cells.proofs.Quadrant.{last}

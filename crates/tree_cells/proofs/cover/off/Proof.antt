@@ -1,3 +1,4 @@
+-- `off` tells whether a number is before lo or from hi on.
 use Rattle.tree_cells.proofs.cover.off.Statement.{statement}
 use Rattle.tree_cells.proofs.cover.off.Tie as tie
 

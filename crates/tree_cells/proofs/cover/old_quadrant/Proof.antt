@@ -1,4 +1,5 @@
-use Rattle.tree_cells.proofs.CoverEnds.{old-quadrant-is}
+-- `old_quadrant` answers the rules' quadrant, by comparing numbers where they compare floors.
+use Rattle.tree_cells.proofs.CoverNear.{old-quadrant-is}
 use Rattle.tree_cells.proofs.cover.old_quadrant.Statement.{statement}
 use Rattle.tree_cells.proofs.cover.old_quadrant.Tie as tie
 

@@ -1,5 +1,6 @@
+-- `outside` tells what the rules do of the point's floor, by comparing the point itself.
 use borrow.Author.Needs.{needs}
-use Rattle.tree_cells.proofs.CoverEnds.{outside-across, outside-along}
+use Rattle.tree_cells.proofs.CoverNear.{outside-across, outside-along}
 use Rattle.tree_cells.proofs.cover.outside.Statement.{statement}
 use Rattle.tree_cells.proofs.cover.outside.Tie as tie
 

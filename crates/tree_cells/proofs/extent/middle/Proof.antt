@@ -1,3 +1,4 @@
+-- `middle` answers the rules' middle.
 use mathlib.Core.Path.{refl}
 use Rattle.rules.specs.Cell.{middle}
 use Rattle.tree_cells.proofs.extent.middle.Statement.{statement}

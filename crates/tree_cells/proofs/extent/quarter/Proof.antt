@@ -1,3 +1,4 @@
+-- `quarter` answers the rules' quarter, for each of the four numbers.
 use mathlib.Core.Path.{_≡_, refl}
 use Prim.Native.Nat.{ℕ, zero, suc}
 use lib.Ieee.{Float}

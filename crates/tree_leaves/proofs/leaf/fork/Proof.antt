@@ -1,3 +1,4 @@
+-- `fork` writes an internal node over two new leaves.
 use borrow.Author.Needs.{needs}
 use Rattle.tree_leaves.proofs.Writes.{forked-put}
 use Rattle.tree_leaves.proofs.leaf.fork.Statement.{statement}

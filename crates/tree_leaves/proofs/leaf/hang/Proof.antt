@@ -1,3 +1,4 @@
+-- `hang` writes a new leaf and leads to it from its parent.
 use borrow.Author.Needs.{needs}
 use Rattle.tree_leaves.proofs.Writes.{hung-put}
 use Rattle.tree_leaves.proofs.leaf.hang.Statement.{statement}

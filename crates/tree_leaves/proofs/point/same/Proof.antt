@@ -1,3 +1,4 @@
+-- `same` tells whether two particles are at one point, as the rules do.
 use mathlib.Core.Path.{_≡_, refl, sym, ap₂, _∙_}
 use mathlib.Core.Bool.{Bool, true, false, _&&_}
 use mathlib.Core.List.{List}

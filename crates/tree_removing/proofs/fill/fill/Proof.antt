@@ -1,3 +1,4 @@
+-- `fill` moves the node in the last slot to the free one, and the slots then hold the same tree in the first slots.
 use mathlib.Core.Path.{sym, subst}
 use mathlib.Core.List.{List}
 use Prim.Native.Nat.{ℕ, _+_}

@@ -1,3 +1,4 @@
+-- `relink` copies a slot and leads to the copy from its parent.
 use borrow.Author.Needs.{needs}
 use Rattle.tree_removing.proofs.fill.relink.Statement.{statement}
 use Rattle.tree_removing.proofs.fill.relink.Tie as tie

@@ -1,3 +1,4 @@
+-- `remove` takes a particle out of its chain and out of the tree, and the slots then hold the tree of those that are left.
 use mathlib.Core.Path.{_≡_, refl, ap, _∙_}
 use mathlib.Core.List.{List}
 use Prim.Native.Nat.{ℕ, _-_, _<_}
@@ -27,7 +28,7 @@ spotted c is g = c .leaf-of .ensures is (finds _ is _ _ _ _ _ g)
 first-is : (t : tie.After-tag) (is : List ℕ) → Asked (start (t .before .before)) is → let s = start (t .before .before) in (0 < t .tag .result) × (t .tag .result - 1 ≡ first (atPoint (s .args .at .now) is (s .args .i)))
 first-is t is g =
     let c = t .before .before in
-    let w = spot-leaf _ is _ _ _ (finds _ is _ _ _ _ _ g) (c .leaf-of .result) (spotted c is g) .1 in
+    let w = spot-leaf _ is _ _ _ (finds _ is _ _ _ _ _ g) (c .leaf-of .result) (spotted c is g) .1 .tag in
     (omega (arith, w, t .tag .ensures), omega (arith, w, t .tag .ensures))
 
 -- from the chains back to the leaf's word

@@ -1,10 +1,11 @@
+-- `cut` takes the leaf of i out of the tree, and what has one leaf left below it becomes that leaf.
 use mathlib.Core.Path.{sym, refl, subst, _∙_}
-use Prim.Native.Nat.{ℕ, _+_, _-_, _*_, _≤_, _<_}
+use Prim.Native.Nat.{ℕ, _-_, _<_}
 use native.Mathlib.Omega.{arith}
-use lib.ListN.{length}
 use borrow.Author.Needs.{needs}
 use Rattle.rules.specs.Tree.{Tree}
 use Rattle.tree_slots.specs.declared.Quadtree.{Quadtree}
+use Rattle.tree_slots.specs.Slots.{InSlots}
 use Rattle.tree_removing.specs.Remove.{Hollow}
 use Rattle.tree_removing.proofs.Taking.{cut-root, cut-slot, cut-hollow, cut-tidies, cut-done}
 use Rattle.tree_removing.proofs.take.cut.Statement.{statement}
@@ -18,7 +19,7 @@ returns : tie.Need-returns
 returns c is g h gone = (cut-root _ is _ _ _ g _ h gone (c .before .if1 .taken), refl)
 
 -- the slots that are written
-slots : (e : tie.Else1) → let s = start e in ((s .args .spot .above - 1) * 8 + 8 ≤ length (s .args .m .now)) × (s .args .spot .quadrant < 4) × (0 < s .args .q .nodes)
+slots : (e : tie.Else1) → let s = start e in InSlots (s .args .spot .above - 1) (s .args .m .now) × (s .args .spot .quadrant < 4) × (0 < s .args .q .nodes)
 slots e = let p = start e .pre in cut-slot _ (p .0) _ _ _ (p .1) _ (p .2) (p .3) (e .if1 .left)
 
 fill-requires : tie.Need-fill-requires

@@ -1,3 +1,4 @@
+-- `first_of` answers a, or b where a is 0.
 use mathlib.Core.Path.{_≡_, refl}
 use Prim.Native.Nat.{ℕ, zero, suc}
 use Rattle.tree_removing.specs.Ways.{firstOf}

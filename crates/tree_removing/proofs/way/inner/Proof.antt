@@ -1,18 +1,20 @@
+-- `inner` follows the way of i down to its last internal node.
 use mathlib.Core.Path.{_≡_, sym, ap, _∙_, subst}
 use mathlib.Core.List.{List}
-use Prim.Native.Nat.{ℕ, _+_, _-_, _*_, _≤_, _<_}
+use Prim.Native.Nat.{ℕ, _+_, _-_, _<_}
 use native.Mathlib.Omega.{arith}
-use lib.ListN.{length, getD}
+use lib.ListN.{getD}
 use borrow.Author.Needs.{needs}
 use Rattle.rules.specs.declared.Extent.{Extent}
 use Rattle.rules.specs.Cell.{quarter}
 use Rattle.rules.specs.Tree.{Tree, none, leaf, node}
 use Rattle.tree_cells.specs.Indexer.{indexer, cellOf}
 use Rattle.tree_slots.specs.declared.Quadtree.{Quadtree}
-use Rattle.tree_slots.specs.Slots.{word}
+use Rattle.tree_slots.specs.Slots.{word, InSlots}
 use Rattle.tree_leaves.specs.Leaf.{side}
 use Rattle.tree_leaves.proofs.Turns.{indexed, step-side, step-less, step-own, step-cell}
-use Rattle.tree_placing.specs.Add.{lead, pick}
+use Rattle.tree_placing.specs.Add.{pick}
+use Rattle.tree_slots.specs.Trees.{lead}
 use Rattle.tree_removing.specs.Ways.{Tops, Outer}
 use Rattle.tree_removing.proofs.Turns.{less-more, Come, come-slot, come-child, come-below, come-root, come-down, come-outer}
 use Rattle.tree_placing.proofs.SlotsTree.{lead-each}
@@ -129,7 +131,7 @@ turn c q t g n =
     (sym (child-of a q t g n) ∙ less-more (getD (a .children .result) k 0) (e .if1 .left)) (sym (y .tag .ensures) ∙ c .if2 .left)
 
 -- the child's slot is lent
-child-slot : (c : tie.Else1 Inv-loop μ-loop) → let a = c .before in let b = a .before in let d = b .before in (getD (a .children .result) (b .get-and-descend .result .quadrant) 0 - 1) * 8 + 8 ≤ length (entry d .args .m .now)
+child-slot : (c : tie.Else1 Inv-loop μ-loop) → let a = c .before in let b = a .before in let d = b .before in InSlots (getD (a .children .result) (b .get-and-descend .result .quadrant) 0 - 1) (entry d .args .m .now)
 child-slot c =
     let a = c .before in
     let b = a .before in
@@ -140,9 +142,9 @@ child-slot c =
     let n = here d t g in
     let k = b .get-and-descend .result .quadrant in
     let y = child-of a (s .args .q) t g n in
-    lead-each (λ j. j * 8 + 8 ≤ length (s .args .m .now)) (pick (n .t0) (n .t1) (n .t2) (n .t3) k) (getD (a .children .result) k 0 - 1) (sym y ∙ less-more (getD (a .children .result) k 0) (c .if1 .left))
+    lead-each (λ j. InSlots j (s .args .m .now)) (pick (n .t0) (n .t1) (n .t2) (n .t3) k) (getD (a .children .result) k 0 - 1) (sym y ∙ less-more (getD (a .children .result) k 0) (c .if1 .left))
     (reach-each (s .args .at .now) (s .args .i) (d .loop .l + 1) (s .args .q .extent) t (quarter k (cellOf (d .loop .ix))) (pick (n .t0) (n .t1) (n .t2) (n .t3) k)
-    (come-below (s .args .at .now) (s .args .i) (s .args .q .extent) t (s .args .m .now) (g .stored) (g .lent) (g .levels) (d .loop .s) (d .loop .l) (cellOf (d .loop .ix)) n k (quadrant-is b)) (λ j. j * 8 + 8 ≤ length (s .args .m .now)) (g .lent))
+    (come-below (s .args .at .now) (s .args .i) (s .args .q .extent) t (s .args .m .now) (g .stored) (g .lent) (g .levels) (d .loop .s) (d .loop .l) (cellOf (d .loop .ix)) n k (quadrant-is b)) (λ j. InSlots j (s .args .m .now)) (g .lent))
 
 turned : (c : tie.Else2 Inv-loop μ-loop) → c .before .before .before .before .before .loop .l < 64
 turned c = let d = c .before .before .before .before .before in let s = entry d in let p = s .pre in turn c (s .args .q) (p .0) (p .1) (here d (p .0) (p .1)) .0

@@ -1,23 +1,23 @@
+-- `leaf_below` goes down from a slot to a leaf, and answers the leaf's first particle.
 use mathlib.Core.Path.{_≡_, sym, ap, _∙_, subst}
-use Prim.Native.Nat.{ℕ, _+_, _-_, _*_, _≤_, _<_}
-use lib.ListN.{length}
+use Prim.Native.Nat.{ℕ, _+_, _-_, _<_}
 use native.Mathlib.Omega.{arith}
 use borrow.Author.Needs.{needs}
 use Rattle.rules.specs.Tree.{Tree}
-use Rattle.tree_slots.specs.Slots.{kids}
+use Rattle.tree_slots.specs.Slots.{kids, InSlots}
 use Rattle.tree_removing.specs.Remove.{LeafOf}
-use Rattle.tree_removing.specs.Ways.{someKid, Rooted}
+use Rattle.tree_removing.specs.Ways.{someKid, StandsFrom}
 use Rattle.tree_removing.proofs.Turns.{Deeper, deeper-start, deeper-slot, deeper-leaf, deeper-turn}
 use Rattle.tree_removing.proofs.way.leaf_below.Statement.{statement}
 use Rattle.tree_removing.proofs.way.leaf_below.Tie as tie
 
 abbrev Inv-loop : tie.InvT-loop
-Inv-loop m s x₀ l₀ x l = (t : Tree ℕ) → Rooted m s t → Deeper m t x l
+Inv-loop m s x₀ l₀ x l = (t : Tree ℕ) → StandsFrom m s t → Deeper m t x l
 
 abbrev μ-loop : tie.MeasureT-loop
 μ-loop m s x₀ l₀ x l = 64 - l
 
-slot : (c : tie.At-loop Inv-loop μ-loop) → c .loop .x * 8 + 8 ≤ length (c .before .before .args .m .now)
+slot : (c : tie.At-loop Inv-loop μ-loop) → InSlots (c .loop .x) (c .before .before .args .m .now)
 slot c = let p = c .before .before .pre in deeper-slot _ (p .0) _ _ (c .loop .inv (p .0) (p .1))
 
 returns : tie.Need-returns Inv-loop μ-loop
@@ -29,7 +29,7 @@ returns c t g =
 child-is : (c : tie.After-some-child Inv-loop μ-loop) → let d = c .before .before .before .before in c .some-child .result ≡ someKid (kids (d .before .before .args .m .now) (d .loop .x))
 child-is c = c .some-child .ensures ∙ ap someKid (c .before .children .ensures)
 
-turn : (c : tie.After-some-child Inv-loop μ-loop) → let d = c .before .before .before .before in let m = d .before .before .args .m .now in (t : Tree ℕ) → Rooted m (d .before .before .args .s) t
+turn : (c : tie.After-some-child Inv-loop μ-loop) → let d = c .before .before .before .before in let m = d .before .before .args .m .now in (t : Tree ℕ) → StandsFrom m (d .before .before .args .s) t
     → (0 < c .some-child .result) × (d .loop .l < 64) × Deeper m t (c .some-child .result - 1) (d .loop .l + 1)
 turn c t g =
     let d = c .before .before .before .before in

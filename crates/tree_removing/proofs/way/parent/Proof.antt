@@ -1,3 +1,4 @@
+-- `parent` follows the way of f down to the node above slot x.
 use mathlib.Core.Path.{_≡_, sym, ap, _∙_, subst}
 use mathlib.Core.List.{List}
 use lib.Ieee.{Float}
@@ -12,7 +13,8 @@ use Rattle.tree_cells.specs.Indexer.{indexer, cellOf}
 use Rattle.tree_slots.specs.declared.Quadtree.{Quadtree}
 use Rattle.tree_leaves.specs.Leaf.{side}
 use Rattle.tree_leaves.proofs.Turns.{indexed, step-side, step-less, step-own, step-cell}
-use Rattle.tree_placing.specs.Add.{lead, pick, Reaches}
+use Rattle.tree_placing.specs.Add.{pick, Reaches}
+use Rattle.tree_slots.specs.Trees.{lead}
 use Rattle.tree_removing.specs.Ways.{Under}
 use Rattle.tree_removing.proofs.Turns.{less-more, come-slot, come-child, Nears, nears-start, nears-turn}
 use Rattle.tree_removing.proofs.way.parent.Statement.{statement}

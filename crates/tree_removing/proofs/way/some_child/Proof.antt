@@ -1,3 +1,4 @@
+-- `some_child` answers the first number among four that isn't 0.
 use borrow.Author.Needs.{needs}
 use Rattle.tree_removing.proofs.way.some_child.Statement.{statement}
 use Rattle.tree_removing.proofs.way.some_child.Tie as tie

@@ -1,3 +1,4 @@
+-- `children` reads the four numbers that lead to a node's children, out of two words.
 use borrow.Author.Needs.{needs}
 use Rattle.tree_slots.proofs.Slots.{kids-read}
 use Rattle.tree_slots.proofs.store.children.Statement.{statement}

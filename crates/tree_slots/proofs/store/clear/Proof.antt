@@ -1,3 +1,4 @@
+-- `clear` makes every word zero.
 use mathlib.Core.Path.{_≡_, refl}
 use mathlib.Core.List.{_++_}
 use Prim.Native.Nat.{_≤_, _-_}

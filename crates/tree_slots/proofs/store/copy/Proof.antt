@@ -1,3 +1,4 @@
+-- `copy` writes what a tree sees of one slot into another.
 use borrow.Author.Needs.{needs}
 use Rattle.tree_slots.specs.Slots.{copied}
 use Rattle.tree_slots.proofs.store.copy.Statement.{statement}

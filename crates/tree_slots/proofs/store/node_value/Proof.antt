@@ -1,3 +1,4 @@
+-- `node_value` reads a value of a node.
 use borrow.Author.Needs.{needs}
 use mathlib.Core.Path.{ap, _∙_}
 use Rattle.rules.specs.Number.{floatOf}

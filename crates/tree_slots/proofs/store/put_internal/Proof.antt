@@ -1,3 +1,4 @@
+-- `put_internal` writes an internal node: three words.
 use borrow.Author.Needs.{needs}
 use Rattle.tree_slots.proofs.Slots.{internal-put}
 use Rattle.tree_slots.proofs.store.put_internal.Statement.{statement}

@@ -1,3 +1,4 @@
+-- `put_leaf` writes a leaf: one word.
 use Rattle.tree_slots.specs.Slots.{putLeaf}
 use borrow.Author.Needs.{needs}
 use Rattle.tree_slots.proofs.store.put_leaf.Statement.{statement}

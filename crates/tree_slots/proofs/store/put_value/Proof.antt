@@ -1,3 +1,4 @@
+-- `put_value` writes a value of a node.
 use Rattle.tree_slots.specs.Slots.{putValue, put}
 use borrow.Author.Needs.{needs}
 use mathlib.Core.Path.{ap, _∙_}

@@ -1,3 +1,4 @@
+-- `put_word` writes one word of a slot, and finds it lent.
 use Rattle.tree_slots.specs.Slots.{put}
 use borrow.Author.Needs.{needs}
 use Rattle.tree_slots.proofs.store.put_word.Statement.{statement}

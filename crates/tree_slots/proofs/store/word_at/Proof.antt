@@ -1,3 +1,4 @@
+-- `word_at` reads one word of a slot, and finds it lent.
 use Rattle.tree_slots.specs.Slots.{word}
 use borrow.Author.Needs.{needs}
 use Rattle.tree_slots.proofs.store.word_at.Statement.{statement}

@@ -1,3 +1,4 @@
+-- `waiting_at` reads the slot and the cell that wait at a height.
 use borrow.Author.Needs.{needs}
 use Rattle.tree_walk.specs.Walk.{cellAt}
 use Rattle.tree_walk.proofs.visit.waiting_at.Statement.{statement}

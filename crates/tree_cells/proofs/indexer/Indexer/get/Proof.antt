@@ -1,3 +1,4 @@
+-- `Indexer::get` answers the point's quadrant, by the middles that the indexer keeps.
 use mathlib.Core.Path.{_≡_, sym, ap, ap₂, _∙_}
 use mathlib.Core.Bool.{Bool, true, false, cond}
 use Prim.Native.Nat.{_+_}

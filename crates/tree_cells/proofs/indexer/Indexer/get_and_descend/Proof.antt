@@ -1,3 +1,4 @@
+-- `Indexer::get_and_descend` answers the point's quadrant and the indexer of that quarter.
 use mathlib.Core.Path.{sym, ap, _∙_, subst}
 use Prim.Native.Nat.{ℕ, _<_}
 use borrow.Author.Needs.{needs}

@@ -1,3 +1,4 @@
+-- `Indexer::with_extent` answers the indexer of a cell.
 use borrow.Author.Needs.{needs}
 use Rattle.tree_cells.proofs.indexer.Indexer.with_extent.Statement.{statement}
 use Rattle.tree_cells.proofs.indexer.Indexer.with_extent.Tie as tie

@@ -1,3 +1,4 @@
+-- `Path::begin` answers the path of the root alone, or of nothing.
 use mathlib.Core.Path.{refl}
 use borrow.Author.Needs.{needs}
 use Rattle.tree_walk.proofs.WalkSteps.{rooted-some}
