@@ -127,7 +127,7 @@ TREE_AND_WALK = [
     ('parent last, before its last child', 'Walk', 'parentLast t3 ++ (internal a ∷ [])', '(internal a ∷ []) ++ parentLast t3', 'children 0, 1, 2, 3 in both walks, and nothing below a node that is skipped'),
     ('Skip goes on', 'Walk', 'unlessSkip Skip s f = done s', 'unlessSkip Skip s f = f s', 'children 0, 1, 2, 3 in both walks, and nothing below a node that is skipped'),
     ('a skipped node not counted', 'Walk', 'unlessSkip (r .visit) (counted (r .state) (m .visits + 1)) below', 'unlessSkip (r .visit) (counted (r .state) (m .visits)) (λ k. below (counted (k .state) (k .visits + 1)))', 'a cell beyond reach in x alone is skipped'),
-    ('values: 2 before 1', 'Walk', 'present u1 ++ present u2', 'present u2 ++ present u1', "the children's sums run in their order"),
+    ('values: 2 before 1', 'Walk', 'presentValue u1 ++ presentValue u2', 'presentValue u2 ++ presentValue u1', "the children's sums run in their order"),
     ('continue_if turned round', 'Walk', 'continueIf true = Continue\ncontinueIf false = Skip', 'continueIf true = Skip\ncontinueIf false = Continue', 'children 0, 1, 2, 3 in both walks, and nothing below a node that is skipped'),
     ('stop_if turned round', 'Walk', 'stopIf true = Skip\nstopIf false = Continue', 'stopIf true = Continue\nstopIf false = Skip', 'a cell beyond reach in x alone is skipped'),
 ]

@@ -1,7 +1,7 @@
 -- The whole force: one tree serves all iterations, and the visits stay few. Assumes nothing.
 use mathlib.Core.Path.{_≡_, refl, sym, ap, _∙_}
 use mathlib.Core.List.{List, [], _∷_}
-use Prim.Native.Nat.{ℕ, zero, suc, _+_, _*_, _≤_, _^_}
+use Prim.Native.Nat.{ℕ, zero, suc, _+_, _*_, _≤_}
 use native.Mathlib.Nat.{mul-le-mul}
 use native.Mathlib.Omega.{arith}
 use lib.ListN.{length}
@@ -15,6 +15,7 @@ use Rattle.rules.specs.Flow.{Flow}
 use Rattle.rules.specs.Collide.{radiusTree, collideOnce, runCollide}
 use Rattle.rules.proofs.CellRule.{tree-nodes}
 use Rattle.rules.proofs.OutcomeLaws.{bind-cong}
+use Rattle.force.specs.Ran.{mostForceVisits}
 use Rattle.tree_slots.specs.declared.Quadtree.{Quadtree}
 use Rattle.tree_slots.proofs.Trees.{lays-levels, lays-nodes}
 use Rattle.tree_walk.proofs.WalkStands.{nodes-stands}
@@ -61,7 +62,7 @@ nodes-radii {at} {radii} {m} {q} s =
     omega (arith, g, lays-nodes t, tree-nodes at (length radii) (lays-levels t) .1)
 
 pub few-visits : {at radii : List Float} {m : List ℕ} {q : Quadtree} {iterations visits : ℕ} → Rounded at radii m q → Bounded (length radii) iterations visits
-    → iterations * (length radii * nodes (radiusTree at radii)) ≤ 2 ^ 37
+    → iterations * (length radii * nodes (radiusTree at radii)) ≤ mostForceVisits
 few-visits {at} {radii} {iterations = iterations} s b =
     let h : nodes (radiusTree at radii) ≤ 262145 = omega (arith, nodes-radii s, b .few) in
     omega (arith, mul-le-mul (b .times) (mul-le-mul (b .few) h))

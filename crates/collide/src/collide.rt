@@ -18,7 +18,7 @@ ghost use Rattle.rules.specs.Tree.{nodes};
 ghost use Rattle.rules.specs.Collide as Collide;
 ghost use Rattle.rules.specs.Calls.{slotsOf};
 ghost use Rattle.tree_build.specs.Build.{Lent};
-ghost use Rattle.force.specs.Ran.{flowAt, RanAs};
+ghost use Rattle.force.specs.Ran.{flowAt, mostForceVisits, RanAs};
 ghost use Rattle.collide.specs.Radius.{Rounded};
 ghost use Rattle.collide_contact.specs.Contact.{Spread};
 ghost use Rattle.collide.specs.Collide.{Bounded, HoldsTree, walkAll, walkTimes};
@@ -124,7 +124,7 @@ fn collide_on(
     requires { ⌜ Spread (now at) (now vs) (now radii) (now draws) (p .used) × HoldsTree (now at) (length (now radii)) (now m) q × Bounded (length (now radii)) iterations (p .visits) ⌝ }
     ensures is { λ r. ⌜ RanAs (now (vs .exit)) (now (draws .entry)) p r
         (walkTimes (now (at .entry)) (now (radii .entry)) strength iterations (flowAt (now (vs .entry)) (now (draws .entry)) p)) ⌝ }
-    ensures few { λ r. ⌜ r .progress .visits ≤ p .visits + 2 ^ 37 ⌝ }
+    ensures few { λ r. ⌜ r .progress .visits ≤ p .visits + mostForceVisits ⌝ }
 {
     prepare(q, radii, m);
     iterate(q, m, at, vs, radii, strength, iterations, draws, p)
@@ -146,7 +146,7 @@ pub fn collide(
     requires { ⌜ Lent (now at) (now next) (now tail) × Spread (now at) (now vs) (now radii) (now draws) (p .used) × (iterations ≤ mostIterations) × (p .visits < 2 ^ 63) ⌝ }
     ensures is { λ r. ⌜ RanAs (now (vs .exit)) (now (draws .entry)) p r
         (Collide.runCollide (now (at .entry)) (now (radii .entry)) strength iterations (slotsOf (now (m .entry))) (flowAt (now (vs .entry)) (now (draws .entry)) p)) ⌝ }
-    ensures few { λ r. ⌜ r .progress .visits ≤ p .visits + 2 ^ 37 ⌝ }
+    ensures few { λ r. ⌜ r .progress .visits ≤ p .visits + mostForceVisits ⌝ }
 {
     if iterations == 0 {
         return Ran::done(p);

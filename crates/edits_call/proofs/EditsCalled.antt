@@ -23,8 +23,8 @@ use Rattle.rules.proofs.RefusalLaws.{Refuses, of-require, of-done, _then·_, _>
 use Rattle.tree_call.specs.Tree.{refusedTree, refusedWork, Comes, extentBuilt, Answers}
 use Rattle.tree_call.proofs.TreeCalled.{work-cleared}
 use Rattle.edits_words.proofs.Words.{points-length, points-ranged, kinds-known}
-use Rattle.edits_made.specs.Editing.{Room, Edits, AllDone}
-use Rattle.edits_call.specs.Call.{AfterEdits, Ready}
+use Rattle.edits_made.specs.Editing.{FlagsLent, Edits, AllDone}
+use Rattle.edits_call.specs.Call.{AfterEdits, EditsReady}
 use Rattle.edits_call.proofs.Checks.{Passes, passing}
 
 -- ---- the numbers of edits: 6, 7 and 15
@@ -44,7 +44,7 @@ edits-met at slots k s (e ∷ es) = of-require (removable s e) 15 k refl then· 
 
 -- ---- past the checks
 
-module _ (l : EditsInput) (at : List Float) (size flags links tails : ℕ) (d : Ready l size flags links tails) (e : at ≡ pointsOf (editList l)) where
+module _ (l : EditsInput) (at : List Float) (size flags links tails : ℕ) (d : EditsReady l size flags links tails) (e : at ≡ pointsOf (editList l)) where
   p : Passes l
   p = passing l (d .passed)
 
@@ -54,7 +54,7 @@ module _ (l : EditsInput) (at : List Float) (size flags links tails : ℕ) (d : 
   pub can-edit : Edits (l .edits) at
   can-edit = record { few = p .few; whole = p .whole; known = kinds-known (l .edits) (p .kinds); points = sym half }
 
-  pub has-room : (there next tail : List ℕ) → length there ≡ flags → length next ≡ links → length tail ≡ tails → Room at there next tail
+  pub has-room : (there next tail : List ℕ) → length there ≡ flags → length next ≡ links → length tail ≡ tails → FlagsLent at there next tail
   has-room there next tail f n t =
       record {
         lent =

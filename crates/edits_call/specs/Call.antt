@@ -18,7 +18,7 @@ pub record AfterEdits (l : EditsInput) (r : TreeAnswer) (rows chains work : List
   pub worked : work ≡ editWorkAfter l
 
 -- past the checks, with lists of as many places as there are insertions: a point, a flag, a link and a tail for each
-pub record Ready (l : EditsInput) (places there next tail : ℕ) : Type 0 where
+pub record EditsReady (l : EditsInput) (places there next tail : ℕ) : Type 0 where
   pub passed : editInputCheck l ≡ fine
   pub pairs : places ≡ insertions (editList l) * 2
   pub flags : there ≡ insertions (editList l)

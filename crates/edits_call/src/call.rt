@@ -11,7 +11,7 @@ ghost use mathlib.Core.Path.{_≡_};
 ghost use lib.ListN.{length};
 ghost use Rattle.rules.specs.Outcome.{fine};
 ghost use Rattle.rules.specs.Edits.{editInputCheck};
-ghost use Rattle.edits_call.specs.Call.{lent, AfterEdits, Ready};
+ghost use Rattle.edits_call.specs.Call.{lent, AfterEdits, EditsReady};
 
 // Every edit is made in the slots, and what is then there is listed.
 fn edits_with(
@@ -24,7 +24,7 @@ fn edits_with(
     chains: &mut [u32],
     work: &mut [u64],
 ) -> TreeAnswer
-    requires { ⌜ Ready (lent (now edits) (now rows) (now chains) (now work)) (length (now places)) (length (now there)) (length (now next)) (length (now tail)) ⌝ }
+    requires { ⌜ EditsReady (lent (now edits) (now rows) (now chains) (now work)) (length (now places)) (length (now there)) (length (now next)) (length (now tail)) ⌝ }
     ensures { λ r. ⌜ AfterEdits (lent (now (edits .entry)) (now (rows .entry)) (now (chains .entry)) (now (work .entry))) r (now (rows .exit)) (now (chains .exit)) (now (work .exit)) ⌝ }
 {
     read_points(edits, places);

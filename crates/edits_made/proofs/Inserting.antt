@@ -23,7 +23,7 @@ use Rattle.tree_placing.specs.Add.{Puts, moreCheck, Placed}
 use Rattle.tree_placing.proofs.AddChain.{none-in, in-snoc}
 use Rattle.tree_build.specs.Build.{particles, ComesNext}
 use Rattle.tree_build.proofs.AddBuild.{empty-root}
-use Rattle.edits_made.specs.Editing.{Now, Room}
+use Rattle.edits_made.specs.Editing.{Now, FlagsLent}
 use Rattle.rules.proofs.EditLaws.{among-new, among-old}
 use Rattle.rules.specs.Calls.{slotsOf, slotWords}
 
@@ -41,7 +41,7 @@ fits-place slots i k t = go (leb (depth t) (greatestLevel + 1)) (leb (nodes t) s
     go true false = refl
     go false b = refl
 
-module _ (at : List Float) (s : Present) (there m next tail : List ℕ) (q : Quadtree) (h : Now at s there m next tail q) (room : Room at there next tail) (less : s .made < particles at) where
+module _ (at : List Float) (s : Present) (there m next tail : List ℕ) (q : Quadtree) (h : Now at s there m next tail q) (room : FlagsLent at there next tail) (less : s .made < particles at) where
   abbrev p : ℕ
   p = s .made
 

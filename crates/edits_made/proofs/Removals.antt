@@ -18,7 +18,7 @@ use Rattle.tree_placing.proofs.AddHold.{holds-fits}
 use Rattle.tree_placing.proofs.AddPlaced.{ranged-points}
 use Rattle.tree_removing.specs.Take.{Removes, Removed}
 use Rattle.tree_build.specs.Build.{particles}
-use Rattle.edits_made.specs.Editing.{Now, Room}
+use Rattle.edits_made.specs.Editing.{Now, FlagsLent}
 use Rattle.rules.proofs.EditLaws.{among-in, among-gone, among-kept}
 use Rattle.rules.specs.Calls.{slotsOf}
 
@@ -57,7 +57,7 @@ module _ (at : List Float) (s : Present) (there m next tail : List ℕ) (q : Qua
 
   -- ---- what is there
 
-  module _ (room : Room at there next tail) (most : s .made ≤ particles at) (e : among i is ≡ true) where
+  module _ (room : FlagsLent at there next tail) (most : s .made ≤ particles at) (e : among i is ≡ true) where
     own : In i is
     own = among-in i is e
 

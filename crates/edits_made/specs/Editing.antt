@@ -29,7 +29,7 @@ pub record Now (at : List Float) (s : Present) (there m next tail : List ℕ) (q
   pub flags : (i : ℕ) → i < s .made → getD there i 0 ≡ cond (among i (s .left)) 1 0
 
 -- points in range, and a flag, a link and a tail for each
-pub record Room (at : List Float) (there next tail : List ℕ) : Type 0 where
+pub record FlagsLent (at : List Float) (there next tail : List ℕ) : Type 0 where
   pub lent : Lent at next tail
   pub flags : length there ≡ particles at
 

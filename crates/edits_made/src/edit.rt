@@ -5,7 +5,7 @@ ghost use Prim.Native.Nat.{ℕ, _≤_, _<_};
 ghost use Rattle.rules.specs.Edits.{present, editOf};
 ghost use Rattle.rules.specs.Calls.{slotsOf};
 ghost use Rattle.tree_build.specs.Build.{particles};
-ghost use Rattle.edits_made.specs.Editing.{Now, Room, Changed, Edits, AllDone};
+ghost use Rattle.edits_made.specs.Editing.{Now, FlagsLent, Changed, Edits, AllDone};
 use crate::insert::insert_next;
 use crate::remove::remove_one;
 use rules::EDIT_WORDS;
@@ -27,7 +27,7 @@ fn edit_one(
     k: usize,
 ) -> Built
     requires { ⌜ ((is : List ℕ) × Now (now at) (present made is) (now there) (now m) (now next) (now tail) q
-        × Room (now at) (now there) (now next) (now tail) × (made ≤ particles (now at)) × (kind < 2) × (kind ≡ 0 → made < particles (now at))) ⌝ }
+        × FlagsLent (now at) (now there) (now next) (now tail) × (made ≤ particles (now at)) × (kind < 2) × (kind ≡ 0 → made < particles (now at))) ⌝ }
     ensures { λ r. ⌜ ((is : List ℕ) (w : ℕ) → Now (now (at .entry)) (present made is) (now (there .entry)) (now (m .entry)) (now (next .entry)) (now (tail .entry)) q
         → Changed (now (at .entry)) (slotsOf (now (m .entry))) k (present made is) (editOf kind number w) (now (there .exit)) (now (m .exit)) (now (next .exit)) (now (tail .exit)) r) ⌝ }
 {
@@ -46,7 +46,7 @@ pub fn edit_all(
     tail: &mut [u32],
     m: &mut [u64],
 ) -> Built
-    requires { ⌜ Edits (now edits) (now at) × Room (now at) (now there) (now next) (now tail) ⌝ }
+    requires { ⌜ Edits (now edits) (now at) × FlagsLent (now at) (now there) (now next) (now tail) ⌝ }
     ensures { λ r. ⌜ AllDone (now (edits .entry)) (now (at .entry)) (now (m .exit)) (now (next .exit)) r ⌝ }
 {
     let n = edits.len() / EDIT_WORDS;

@@ -5,7 +5,7 @@ ghost use lib.Ieee.{Float};
 ghost use Rattle.rules.specs.Edits.{present, insertion};
 ghost use Rattle.rules.specs.Calls.{slotsOf};
 ghost use Rattle.tree_build.specs.Build.{particles};
-ghost use Rattle.edits_made.specs.Editing.{Now, Room, Changed};
+ghost use Rattle.edits_made.specs.Editing.{Now, FlagsLent, Changed};
 use crate::refuse::refused;
 use tree_build::build::Built;
 use tree_build::build::add_next;
@@ -24,7 +24,7 @@ pub fn insert_next(
     k: usize,
 ) -> Built
     requires { ⌜ ((is : List ℕ) × Now (now at) (present made is) (now there) (now m) (now next) (now tail) q
-        × Room (now at) (now there) (now next) (now tail) × (made < particles (now at))) ⌝ }
+        × FlagsLent (now at) (now there) (now next) (now tail) × (made < particles (now at))) ⌝ }
     ensures { λ r. ⌜ ((is : List ℕ) (x y : Float) → Now (now (at .entry)) (present made is) (now (there .entry)) (now (m .entry)) (now (next .entry)) (now (tail .entry)) q
         → Changed (now (at .entry)) (slotsOf (now (m .entry))) k (present made is) (insertion x y) (now (there .exit)) (now (m .exit)) (now (next .exit)) (now (tail .exit)) r) ⌝ }
 {

@@ -2,7 +2,7 @@
 use mathlib.Core.Path.{_≡_}
 use mathlib.Core.Bool.{true, cond}
 use mathlib.Core.List.{List}
-use Prim.Native.Nat.{ℕ}
+use Prim.Native.Nat.{ℕ, _*_, _^_}
 use lib.Dec.{eqb}
 use lib.ListN.{drop}
 use lib.Ieee.{Float}
@@ -17,6 +17,14 @@ use Rattle.force.specs.Draws.{From}
 -- the velocities vs, what is left of the draws ds, and the nodes handed out so far
 abbrev pub flowAt : List Float → List Float → Progress → Counted Flow
 flowAt vs ds p = counted (flow vs (drop (p .used) ds)) (p .visits)
+
+-- no force hands out more nodes: Collide's most, 64 times 4,096 walks over a tree of at most 1 + 64 * 4,096 nodes, are fewer
+abbrev pub mostForceVisits : ℕ
+mostForceVisits = 2 ^ 37
+
+-- nor eight of them more
+abbrev pub mostTickVisits : ℕ
+mostTickVisits = 8 * mostForceVisits
 
 abbrev pub ended : Refusal → Progress → Ran
 ended r p = record { refusal = r; progress = p }

@@ -17,8 +17,8 @@ use Rattle.rules.specs.Link.{Ends, ends, countEnds}
 use Rattle.rules.specs.Force.{endsFrom, endsOf}
 use Rattle.rules.proofs.CellCount.{length-upTo}
 use Rattle.tree_slots.proofs.Fill.{room}
-use Rattle.link_tally.specs.Tally.{counted}
-use Rattle.link.specs.Links.{EndsLent, Ready, tallies}
+use Rattle.link_tally.specs.Tally.{oneMore}
+use Rattle.link.specs.Links.{EndsLent, LinksReady, tallies}
 use Rattle.list_checks.specs.Checks.{endsAt}
 
 -- ---- numbers one after the other
@@ -73,28 +73,28 @@ pub count-most : (es : List Ends) (j : ℕ) → countEnds es j ≤ length es * 2
 count-most [] j = omega arith
 count-most (e ∷ es) j = omega (arith, count-most es j, one-most (eqb (e .source) j), one-most (eqb (e .target) j))
 
-counted-at : (cs : List ℕ) (i j : ℕ) → i < length cs → getD (counted cs i) j 0 ≡ cond (eqb i j) 1 0 + getD cs j 0
+counted-at : (cs : List ℕ) (i j : ℕ) → i < length cs → getD (oneMore cs i) j 0 ≡ cond (eqb i j) 1 0 + getD cs j 0
 counted-at cs i j h = go (eqb i j) refl
   where
-    go : (b : Bool) → eqb i j ≡ b → getD (counted cs i) j 0 ≡ cond b 1 0 + getD cs j 0
+    go : (b : Bool) → eqb i j ≡ b → getD (oneMore cs i) j 0 ≡ cond b 1 0 + getD cs j 0
     go true e = rw (← eqb-true i j e) (getD-set-same cs i (getD cs i 0 + 1) 0 h ∙ omega arith)
     go false e = getD-set-other cs i j (getD cs i 0 + 1) 0 (λ p. eqb-false i j e (sym p)) ∙ omega arith
 
 -- one link more is two ends more
 pub tally-turn : (n : ℕ) (es : List Ends) (s t : ℕ) → s < n → t < n
-    → counted (counted (tallies n es) s) t ≡ tallies n (es ++ (ends s t ∷ []))
+    → oneMore (oneMore (tallies n es) s) t ≡ tallies n (es ++ (ends s t ∷ []))
 tally-turn n es s t hs ht =
     ext-getD 0 _ _ (long ∙ sym (tally-length n (es ++ (ends s t ∷ [])))) (λ j h. at j (omega (arith, long)))
   where
     cs : List ℕ
     cs = tallies n es
 
-    long : length (counted (counted cs s) t) ≡ n
+    long : length (oneMore (oneMore cs s) t) ≡ n
     long = simp length-set (tally-length n es)
 
-    at : (j : ℕ) → j < n → getD (counted (counted cs s) t) j 0 ≡ getD (tallies n (es ++ (ends s t ∷ []))) j 0
+    at : (j : ℕ) → j < n → getD (oneMore (oneMore cs s) t) j 0 ≡ getD (tallies n (es ++ (ends s t ∷ []))) j 0
     at j h =
-        counted-at (counted cs s) t j (simp length-set (omega (arith, tally-length n es)))
+        counted-at (oneMore cs s) t j (simp length-set (omega (arith, tally-length n es)))
         ∙ omega (arith, counted-at cs s j (omega (arith, tally-length n es)), tally-at n es j h, tally-at n (es ++ (ends s t ∷ [])) j h, count-snoc es (ends s t) j)
 
 -- ---- a turn of the loop over the links
@@ -121,7 +121,7 @@ module _ {n : ℕ} {links : List ℕ} (lent : EndsLent n links) (k : ℕ) (h : k
     ht = rw et (lent .range (k * 2 + 1) (omega arith))
 
     -- both ends have counts, and one more fits each
-    pub count-room : (s < length cs) × (t < length cs) × (getD cs s 0 < 2 ^ 31) × (getD (counted cs s) t 0 < 2 ^ 31)
+    pub count-room : (s < length cs) × (t < length cs) × (getD cs s 0 < 2 ^ 31) × (getD (oneMore cs s) t 0 < 2 ^ 31)
     count-room =
         let hl : s < length cs = omega (arith, long, hs) in (
           hl,
@@ -131,17 +131,17 @@ module _ {n : ℕ} {links : List ℕ} (lent : EndsLent n links) (k : ℕ) (h : k
         )
 
     -- both are counted
-    pub count-turn : (cs' : List ℕ) → cs' ≡ counted (counted cs s) t → cs' ≡ tallies n (endsFrom links (k + 1))
+    pub count-turn : (cs' : List ℕ) → cs' ≡ oneMore (oneMore cs s) t → cs' ≡ tallies n (endsFrom links (k + 1))
     count-turn cs' g =
         g
-        ∙ ap (λ (l : List ℕ). counted (counted l s) t) is
+        ∙ ap (λ (l : List ℕ). oneMore (oneMore l s) t) is
         ∙ tally-turn n (endsFrom links k) s t hs ht
         ∙ ap₂ (λ (a b : ℕ). tallies n (endsFrom links k ++ (ends a b ∷ []))) es' et
         ∙ ap (tallies n) (sym (ends-more links k (omega arith)))
 
 -- ---- the counts once they are all made
 
-module _ {vs : List Float} {links cs : List ℕ} (r : Ready vs links cs) where
+module _ {vs : List Float} {links cs : List ℕ} (r : LinksReady vs links cs) where
   pub ready-count : (j : ℕ) → j < length cs → getD cs j 0 ≡ countEnds (endsOf links) j
   ready-count j h = ap (λ (l : List ℕ). getD l j 0) (r .tallied) ∙ tally-at (length cs) (endsOf links) j h
 

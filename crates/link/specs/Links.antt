@@ -30,7 +30,7 @@ unfoldable pub tallies : ℕ → List Ends → List ℕ
 tallies n es = map (countEnds es) (upTo n)
 
 -- all that a link needs beside its lists: the counts of ends, and a velocity for each particle
-pub record Ready (vs : List Float) (links counts : List ℕ) : Type 0 where
+pub record LinksReady (vs : List Float) (links counts : List ℕ) : Type 0 where
   pub lent : EndsLent (length counts) links
   pub tallied : counts ≡ tallies (length counts) (endsOf links)
   pub speeds : length vs ≡ length counts * 2

@@ -24,7 +24,7 @@ ghost use Rattle.rules.specs.Link as Link;
 ghost use Rattle.rules.specs.Force.{endsOf};
 ghost use Rattle.force.specs.Draws.{spentOf, From};
 ghost use Rattle.force.specs.Ran.{flowAt, RanAs};
-ghost use Rattle.link.specs.Links.{EndsLent, NumbersLent, Ready, tallies, pullAt, pullEach, linkOutcome};
+ghost use Rattle.link.specs.Links.{EndsLent, NumbersLent, LinksReady, tallies, pullAt, pullEach, linkOutcome};
 ghost use Rattle.list_checks.specs.Checks.{endsAt};
 
 // How many ends each particle has, from counts that are all zero.
@@ -79,7 +79,7 @@ fn tie(
     x: f64,
     y: f64,
 )
-    requires { ⌜ Ready (now vs) (now links) (now counts) × NumbersLent (now links) (now strengths) (now distances) × (k < length (now links) / 2) ⌝ }
+    requires { ⌜ LinksReady (now vs) (now links) (now counts) × NumbersLent (now links) (now strengths) (now distances) × (k < length (now links) / 2) ⌝ }
     ensures { λ _. ⌜ now (vs .exit)
         ≡ Link.tied (endsOf (now (links .entry))) (now (strengths .entry)) (now (distances .entry)) alpha k (endsAt (now (links .entry)) k) (gap x y) (now (vs .entry)) ⌝ }
 {
@@ -111,7 +111,7 @@ fn pull(
     draws: &[f64],
     used: usize,
 ) -> Spent
-    requires { ⌜ Ready (now vs) (now links) (now counts) × NumbersLent (now links) (now strengths) (now distances)
+    requires { ⌜ LinksReady (now vs) (now links) (now counts) × NumbersLent (now links) (now strengths) (now distances)
         × (length (now at) ≡ length (now vs)) × (k < length (now links) / 2) × (used ≤ length (now draws)) ⌝ }
     ensures is { λ r. ⌜ spentOf (now (vs .exit)) (now (draws .entry)) r
         ≡ pullAt (now (at .entry)) (now (links .entry)) (now (strengths .entry)) (now (distances .entry)) alpha k (flow (now (vs .entry)) (drop used (now (draws .entry)))) ⌝ }
@@ -147,7 +147,7 @@ fn pull_all(
     draws: &[f64],
     used: usize,
 ) -> Spent
-    requires { ⌜ Ready (now vs) (now links) (now counts) × NumbersLent (now links) (now strengths) (now distances)
+    requires { ⌜ LinksReady (now vs) (now links) (now counts) × NumbersLent (now links) (now strengths) (now distances)
         × (length (now at) ≡ length (now vs)) × (used ≤ length (now draws)) ⌝ }
     ensures is { λ r. ⌜ spentOf (now (vs .exit)) (now (draws .entry)) r
         ≡ pullEach (now (at .entry)) (now (links .entry)) (now (strengths .entry)) (now (distances .entry)) alpha (flow (now (vs .entry)) (drop used (now (draws .entry)))) ⌝ }

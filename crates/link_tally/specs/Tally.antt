@@ -6,8 +6,8 @@ use lib.Ieee.{Float, nan}
 use Rattle.rules.specs.Number.{_⊘_, 1·, float}
 
 -- one end more of particle i
-abbrev pub counted : List ℕ → ℕ → List ℕ
-counted cs i = set cs i (getD cs i 0 + 1)
+abbrev pub oneMore : List ℕ → ℕ → List ℕ
+oneMore cs i = set cs i (getD cs i 0 + 1)
 
 -- the strength of link number k, its ends having these counts
 abbrev pub strengthOr : List Float → ℕ → ℕ → ℕ → Float

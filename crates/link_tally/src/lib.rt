@@ -3,12 +3,12 @@ ghost use mathlib.Core.Path.{_≡_};
 ghost use Prim.Native.Nat.{_+_, _<_, _^_, min};
 ghost use lib.ListN.{length, getD};
 ghost use Rattle.rules.specs.Number.{_⊘_, 1·, float};
-ghost use Rattle.link_tally.specs.Tally.{counted, strengthOr};
+ghost use Rattle.link_tally.specs.Tally.{oneMore, strengthOr};
 
 // Both ends of a link, also where they are the same particle.
 pub fn count_link(counts: &mut [u32], source: usize, target: usize)
-    requires { ⌜ (source < length (now counts)) × (target < length (now counts)) × (getD (now counts) source 0 < 2 ^ 31) × (getD (counted (now counts) source) target 0 < 2 ^ 31) ⌝ }
-    ensures { λ _. ⌜ now (counts .exit) ≡ counted (counted (now (counts .entry)) source) target ⌝ }
+    requires { ⌜ (source < length (now counts)) × (target < length (now counts)) × (getD (now counts) source 0 < 2 ^ 31) × (getD (oneMore (now counts) source) target 0 < 2 ^ 31) ⌝ }
+    ensures { λ _. ⌜ now (counts .exit) ≡ oneMore (oneMore (now (counts .entry)) source) target ⌝ }
 {
     counts[source] = counts[source] + 1;
     counts[target] = counts[target] + 1;

@@ -15,7 +15,7 @@ use Rattle.rules.specs.Tree.{Tree, rowsOf, rowNumbers, chainsOf}
 use Rattle.rules.specs.Calls.{slotWords, slotsOf, coverSheet, TreeInput, treeLengths, treeResult, treeAnswer}
 use Rattle.rules.specs.Listing.{ascii, decimal, line, extentLine, rowLines, mostListed, listerSlots, lister}
 use Rattle.tree_call.specs.Tree.{AfterTree}
-use Rattle.lister_text.specs.Text.{Wrote}
+use Rattle.lister_text.specs.Text.{TextWritten}
 use Rattle.lister_text.specs.Told.{SomeTree}
 use Rattle.lister_text.specs.Input.{keptBytes}
 use Rattle.lister_text.proofs.Sheets.{lister-bad, lister-many, lister-refused, lister-done, told, number-is}
@@ -96,7 +96,7 @@ pub kept-few : (kept : List ℕ) (total : ℕ) → length kept ≡ min total kep
 kept-few kept total e = let h = min-le-right total keptBytes in omega arith
 
 -- what was written lies within the list
-pub within : (l t k : List ℕ) (r : ℕ) → Wrote l 0 t k r → r ≤ length k
+pub within : (l t k : List ℕ) (r : ℕ) → TextWritten l 0 t k r → r ≤ length k
 within l t k r w =
     let n : length k ≡ length t + length (drop (0 + length t) l) = ap (λ (m : List ℕ). length m) (w .list) ∙ length-append t (drop (0 + length t) l) in
     omega (arith, n, w .next)

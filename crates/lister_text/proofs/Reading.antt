@@ -13,7 +13,7 @@ use Rattle.rules.specs.Cover.{Square, square, whole, Covered, nothing, holds, e
 use Rattle.rules.specs.Tree.{Tree, Row, rowsOf, flat, chainsOf, rowNumbers}
 use Rattle.rules.specs.Listing.{extentLine, rowLines}
 use Rattle.rules.proofs.CoverTerms.{NearZero}
-use Rattle.lister_text.specs.Told.{integer, squareOf, WholeExtent, rowsAt, chained, Told}
+use Rattle.lister_text.specs.Told.{integer, integerSquare, WholeExtent, rowsAt, chained, Told}
 use Rattle.lister_text.proofs.Whole.{integer-whole, is-whole}
 use Rattle.lister_text.proofs.Rows.{rowLine}
 use Rattle.lister_text.proofs.Sizes.{rows-chained}
@@ -71,7 +71,7 @@ module _ (s : Square) (e : Extent) (i : e ≡ extentOf (holds s)) (h : NearZero 
     y1 = is-whole (e .y1) (s .y1) at-y1 (h .y1);
   }
 
-  square-back : squareOf e ≡ s
+  square-back : integerSquare e ≡ s
   square-back = λ j. square (back (e .x0) (s .x0) at-x0 (h .x0) j) (back (e .y0) (s .y0) at-y0 (h .y0) j) (back (e .x1) (s .x1) at-x1 (h .x1) j) (back (e .y1) (s .y1) at-y1 (h .y1) j)
 
 -- ---- what was told
@@ -110,7 +110,7 @@ some-extent nothing t e n rows chains h z = absurd (z (h .count-is ∙ h .listed
 some-extent (holds s) t e n rows chains h z = extent-whole s e (h .extent-is) (h .listed .covers .1)
 
 -- and the text is that of the numbers
-pub some-told : (c : Covered) (t : Tree Extent) (e : Extent) (n : ℕ) (rows chains : List ℕ) → Told c t e n rows chains → (n ≡ 0 → ⊥) → text c t ≡ extentLine (holds (squareOf e)) ++ rowLines (rowsAt n rows) chains
+pub some-told : (c : Covered) (t : Tree Extent) (e : Extent) (n : ℕ) (rows chains : List ℕ) → Told c t e n rows chains → (n ≡ 0 → ⊥) → text c t ≡ extentLine (holds (integerSquare e)) ++ rowLines (rowsAt n rows) chains
 some-told nothing t e n rows chains h z = absurd (z (h .count-is ∙ h .listed .covers))
 some-told (holds s) t e n rows chains h z =
     ap₂ (λ (q : Square) (l : List ℕ). extentLine (holds q) ++ l) (sym (square-back s e (h .extent-is) (h .listed .covers .1))) (sym (lines-told (holds s) t e n rows chains h))

@@ -8,7 +8,7 @@ use lib.ListN.{length, take, drop, getD}
 use lib.Seq.{getD-drop, drop-drop}
 use Rattle.rules.specs.Tree.{Row, row, rowNumbers}
 use Rattle.rules.specs.Listing.{decimal, rowLetter, line, rowLines}
-use Rattle.lister_text.specs.Text.{Wrote}
+use Rattle.lister_text.specs.Text.{TextWritten}
 use Rattle.lister_text.specs.Told.{rowsAt, chained}
 use Rattle.lister_text.proofs.Writing.{Left, Next, left-as, left-none, left-next}
 
@@ -71,10 +71,10 @@ module _ (nodes : ℕ) (rows chains out₀ : List ℕ) (at : ℕ) where
       pub going-row : Next out₀ at (rowLines (rowsAt nodes rows) chains) out next (rowLine (rowAt rows i) (take (from + getD rows (rowNumbers * i + 3) 0 - from) (drop from chains))) (rowLines (rowsFrom nodes rows (i + 1)) (drop (from + getD rows (rowNumbers * i + 3) 0) chains))
       going-row = left-next _ _ (subst (Left out₀ at (rowLines (rowsAt nodes rows) chains) out next) lines-from (g .left))
 
-      pub going-next : (k : List ℕ) (q : ℕ) → Wrote out next (rowLine (rowAt rows i) (take (from + getD rows (rowNumbers * i + 3) 0 - from) (drop from chains))) k q → Going k q (from + getD rows (rowNumbers * i + 3) 0) (i + 1)
+      pub going-next : (k : List ℕ) (q : ℕ) → TextWritten out next (rowLine (rowAt rows i) (take (from + getD rows (rowNumbers * i + 3) 0 - from) (drop from chains))) k q → Going k q (from + getD rows (rowNumbers * i + 3) 0) (i + 1)
       going-next k q w = record { left = going-row .after w; chain = chain-more; most = omega arith }
 
-    pub going-end : nodes ≤ i → Wrote out₀ at (rowLines (rowsAt nodes rows) chains) out next
+    pub going-end : nodes ≤ i → TextWritten out₀ at (rowLines (rowsAt nodes rows) chains) out next
     going-end h =
         let e : nodes - i ≡ 0 = omega arith in
         left-none (subst (λ (n : ℕ). Left out₀ at (rowLines (rowsAt nodes rows) chains) out next (rowLines (rowsAt n (drop (rowNumbers * i) rows)) (drop from chains))) e (g .left))

@@ -12,7 +12,7 @@ use Rattle.rules.specs.Cover.{Square, Covered, nothing, holds}
 use Rattle.rules.specs.Tree.{Tree, none, leaf, node, nodes, Row, rowsFrom, rowsOf, chainsOf}
 use Rattle.rules.specs.Listing.{ascii, decimal, signed, rowLetter, line, extentLine, rowLines, mostListed}
 use Rattle.rules.proofs.CoverTerms.{NearZero}
-use Rattle.lister_text.specs.Text.{others}
+use Rattle.lister_text.specs.Text.{otherWords}
 use Rattle.lister_text.specs.Told.{chained, Covers, Listed}
 use Rattle.lister_text.specs.Input.{listingBytes}
 use Rattle.lister_text.proofs.Decimal.{decimal-length, decimal-most}
@@ -39,12 +39,12 @@ low-drop zero l h = h
 low-drop (suc k) [] h = tt
 low-drop (suc k) (n ∷ l) h = low-drop k l (h .1)
 
-others-length : (l : List ℕ) → Low l → length (others (map decimal l)) ≤ 1 + 5 * length l
+others-length : (l : List ℕ) → Low l → length (otherWords (map decimal l)) ≤ 1 + 5 * length l
 others-length [] h = lit≤ tt
 others-length (n ∷ l) h =
-    let e : length (decimal n ++ others (map decimal l)) ≡ length (decimal n) + length (others (map decimal l)) = length-append (decimal n) (others (map decimal l)) in
+    let e : length (decimal n ++ otherWords (map decimal l)) ≡ length (decimal n) + length (otherWords (map decimal l)) = length-append (decimal n) (otherWords (map decimal l)) in
     let f : length (decimal n) ≤ 4 = decimal-length 3 n (h .0) in
-    let g : length (others (map decimal l)) ≤ 1 + 5 * length l = others-length l (h .1) in
+    let g : length (otherWords (map decimal l)) ≤ 1 + 5 * length l = others-length l (h .1) in
     omega arith
 
 -- ---- a row
@@ -61,13 +61,13 @@ pub record Slim (r : Row) : Type 0 where
 
 row-length : (r : Row) (l : List ℕ) → Slim r → Low l → length (rowLine r l) ≤ 10 + 5 * length l
 row-length r l s h =
-    let e : length (rowLine r l) ≡ length (decimal (r .level)) + suc (length (decimal (r .quadrant)) + suc (length (rowLetter (r .kind)) + length (others (map decimal l)))) =
+    let e : length (rowLine r l) ≡ length (decimal (r .level)) + suc (length (decimal (r .quadrant)) + suc (length (rowLetter (r .kind)) + length (otherWords (map decimal l)))) =
     length-append (decimal (r .level)) _
     ∙ ap (λ (n : ℕ). length (decimal (r .level)) + suc n) (length-append (decimal (r .quadrant)) _ ∙ ap (λ (n : ℕ). length (decimal (r .quadrant)) + suc n) (length-append (rowLetter (r .kind)) _)) in
     let f : length (decimal (r .level)) ≤ 5 = decimal-length 4 (r .level) (s .level) in
     let g : length (decimal (r .quadrant)) ≤ 1 = decimal-length 0 (r .quadrant) (s .quadrant) in
     let i : length (rowLetter (r .kind)) ≤ 1 = kind-length (r .kind) in
-    let j : length (others (map decimal l)) ≤ 1 + 5 * length l = others-length l h in
+    let j : length (otherWords (map decimal l)) ≤ 1 + 5 * length l = others-length l h in
     omega arith
 
 -- ---- all rows

@@ -24,8 +24,8 @@ pub record IsWhole (x : Float) : Type 0 where
   pub is : x ≡ whole (integer x)
   pub near : natAbs (integer x) ≤ 2 ^ 44
 
-abbrev pub squareOf : Extent → Square
-squareOf e = square (integer (e .x0)) (integer (e .y0)) (integer (e .x1)) (integer (e .y1))
+abbrev pub integerSquare : Extent → Square
+integerSquare e = square (integer (e .x0)) (integer (e .y0)) (integer (e .x1)) (integer (e .y1))
 
 pub record WholeExtent (e : Extent) : Type 0 where
   pub x0 : IsWhole (e .x0)

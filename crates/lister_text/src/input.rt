@@ -7,7 +7,7 @@ ghost use Rattle.rules.specs.Sheet.{countOf};
 ghost use Rattle.rules.specs.Listing.{mostListed, listerSlots, lister};
 ghost use Rattle.rules.specs.Tree.{rowNumbers};
 ghost use Rattle.rules.specs.Calls.{slotWords};
-ghost use Rattle.lister_text.specs.Text.{Wrote};
+ghost use Rattle.lister_text.specs.Text.{TextWritten};
 ghost use Rattle.lister_text.specs.Input.{keptBytes, listingBytes};
 use crate::lines::put_refused;
 use crate::list::write_listing;
@@ -37,7 +37,7 @@ fn list_tree(
 ) -> usize
     requires { ⌜ (length (now rows) ≡ rowNumbers * listerSlots) × (length (now chains) ≡ countOf (now records)) × (length (now work) ≡ slotWords * listerSlots) ⌝ }
     requires { ⌜ listingBytes ≤ length (now out) ⌝ }
-    ensures { λ r. ⌜ Wrote (now (out .entry)) 0 (lister (now (records .entry))) (now (out .exit)) r ⌝ }
+    ensures { λ r. ⌜ TextWritten (now (out .entry)) 0 (lister (now (records .entry))) (now (out .exit)) r ⌝ }
 {
     let answer = tree_within(MOST_LISTED, records, rows, chains, work);
     let refusal = answer.refusal;
@@ -54,7 +54,7 @@ fn list_tree(
 fn list_records(records: &[u8], out: &mut [u8]) -> usize
     requires { ⌜ countOf (now records) ≤ mostListed ⌝ }
     requires { ⌜ listingBytes ≤ length (now out) ⌝ }
-    ensures { λ r. ⌜ Wrote (now (out .entry)) 0 (lister (now (records .entry))) (now (out .exit)) r ⌝ }
+    ensures { λ r. ⌜ TextWritten (now (out .entry)) 0 (lister (now (records .entry))) (now (out .exit)) r ⌝ }
 {
     let n = records.len() / RECORD_SIZE;
     let mut rows = [0u32; ROW_NUMBERS * SLOTS];
@@ -68,7 +68,7 @@ pub fn list_sheet(kept: &[u8], total: usize, out: &mut [u8]) -> usize
     requires { ⌜ length (now kept) ≡ min total keptBytes ⌝ }
     requires { ⌜ listingBytes ≤ length (now out) ⌝ }
     ensures { λ r. ⌜ ((sheet : List ℕ) → length sheet ≡ total → take keptBytes sheet ≡ now (kept .entry)
-        → Wrote (now (out .entry)) 0 (lister sheet) (now (out .exit)) r) ⌝ }
+        → TextWritten (now (out .entry)) 0 (lister sheet) (now (out .exit)) r) ⌝ }
     ensures { λ r. ⌜ r ≤ length (now (out .exit)) ⌝ }
 {
     if total % RECORD_SIZE != 0 {

@@ -5,8 +5,8 @@ ghost use lib.ListN.{length};
 ghost use Rattle.rules.specs.Cover.{holds, nothing};
 ghost use Rattle.rules.specs.Listing.{ascii, decimal, signed, line, extentLine, rowLetter, rowLines};
 ghost use Rattle.rules.specs.Tree.{rowNumbers};
-ghost use Rattle.lister_text.specs.Text.{Wrote, others};
-ghost use Rattle.lister_text.specs.Told.{IsWhole, integer, WholeExtent, squareOf, rowsAt, chained};
+ghost use Rattle.lister_text.specs.Text.{TextWritten, otherWords};
+ghost use Rattle.lister_text.specs.Told.{IsWhole, integer, WholeExtent, integerSquare, rowsAt, chained};
 use crate::text::put_byte;
 use crate::text::put_decimal;
 use crate::text::put_text;
@@ -17,7 +17,7 @@ use rules::ROW_NUMBERS;
 // A space and a number.
 fn put_number(out: &mut [u8], at: usize, n: u64) -> usize
     requires { ⌜ (n < 10 ^ 14) × (at + length (32 ∷ decimal n) ≤ length (now out)) ⌝ }
-    ensures { λ r. ⌜ Wrote (now (out .entry)) at (32 ∷ decimal n) (now (out .exit)) r ⌝ }
+    ensures { λ r. ⌜ TextWritten (now (out .entry)) at (32 ∷ decimal n) (now (out .exit)) r ⌝ }
 {
     let next = put_byte(out, at, b' ');
     put_decimal(out, next, n)
@@ -27,7 +27,7 @@ fn put_number(out: &mut [u8], at: usize, n: u64) -> usize
 fn put_end(out: &mut [u8], at: usize, x: f64) -> usize
     requires { ⌜ IsWhole x ⌝ }
     requires { ⌜ at + length (32 ∷ signed (integer x)) ≤ length (now out) ⌝ }
-    ensures { λ r. ⌜ Wrote (now (out .entry)) at (32 ∷ signed (integer x)) (now (out .exit)) r ⌝ }
+    ensures { λ r. ⌜ TextWritten (now (out .entry)) at (32 ∷ signed (integer x)) (now (out .exit)) r ⌝ }
 {
     let next = put_byte(out, at, b' ');
     put_whole(out, next, x)
@@ -35,14 +35,14 @@ fn put_end(out: &mut [u8], at: usize, x: f64) -> usize
 
 pub fn put_empty(out: &mut [u8], at: usize) -> usize
     requires { ⌜ at + 6 ≤ length (now out) ⌝ }
-    ensures { λ r. ⌜ Wrote (now (out .entry)) at (extentLine nothing) (now (out .exit)) r ⌝ }
+    ensures { λ r. ⌜ TextWritten (now (out .entry)) at (extentLine nothing) (now (out .exit)) r ⌝ }
 {
     put_text(out, at, b"empty\n")
 }
 
 pub fn put_refused(out: &mut [u8], at: usize, number: u64) -> usize
     requires { ⌜ (number < 10 ^ 14) × (at + 23 ≤ length (now out)) ⌝ }
-    ensures { λ r. ⌜ Wrote (now (out .entry)) at (line (ascii "refused" ∷ decimal number ∷ [])) (now (out .exit)) r ⌝ }
+    ensures { λ r. ⌜ TextWritten (now (out .entry)) at (line (ascii "refused" ∷ decimal number ∷ [])) (now (out .exit)) r ⌝ }
 {
     let mut next = put_text(out, at, b"refused");
     next = put_number(out, next, number);
@@ -51,8 +51,8 @@ pub fn put_refused(out: &mut [u8], at: usize, number: u64) -> usize
 
 pub fn put_extent(out: &mut [u8], at: usize, e: Extent) -> usize
     requires { ⌜ WholeExtent e ⌝ }
-    requires { ⌜ at + length (extentLine (holds (squareOf e))) ≤ length (now out) ⌝ }
-    ensures { λ r. ⌜ Wrote (now (out .entry)) at (extentLine (holds (squareOf e))) (now (out .exit)) r ⌝ }
+    requires { ⌜ at + length (extentLine (holds (integerSquare e))) ≤ length (now out) ⌝ }
+    ensures { λ r. ⌜ TextWritten (now (out .entry)) at (extentLine (holds (integerSquare e))) (now (out .exit)) r ⌝ }
 {
     let mut next = put_text(out, at, b"extent");
     next = put_end(out, next, e.x0);
@@ -65,7 +65,7 @@ pub fn put_extent(out: &mut [u8], at: usize, e: Extent) -> usize
 // I for internal, L for a leaf.
 fn put_kind(out: &mut [u8], at: usize, kind: u32) -> usize
     requires { ⌜ at + length (rowLetter kind) ≤ length (now out) ⌝ }
-    ensures { λ r. ⌜ Wrote (now (out .entry)) at (rowLetter kind) (now (out .exit)) r ⌝ }
+    ensures { λ r. ⌜ TextWritten (now (out .entry)) at (rowLetter kind) (now (out .exit)) r ⌝ }
 {
     if kind == 0 {
         return at;
@@ -78,8 +78,8 @@ fn put_kind(out: &mut [u8], at: usize, kind: u32) -> usize
 
 // The particles of a chain, and the line's end.
 fn put_chain(out: &mut [u8], at: usize, chain: &[u32]) -> usize
-    requires { ⌜ at + length (others (map decimal (now chain))) ≤ length (now out) ⌝ }
-    ensures { λ r. ⌜ Wrote (now (out .entry)) at (others (map decimal (now (chain .entry)))) (now (out .exit)) r ⌝ }
+    requires { ⌜ at + length (otherWords (map decimal (now chain))) ≤ length (now out) ⌝ }
+    ensures { λ r. ⌜ TextWritten (now (out .entry)) at (otherWords (map decimal (now (chain .entry)))) (now (out .exit)) r ⌝ }
 {
     let mut next = at;
     let mut i: usize = 0;
@@ -93,7 +93,7 @@ fn put_chain(out: &mut [u8], at: usize, chain: &[u32]) -> usize
 // One node: level, quadrant, kind, chain.
 fn put_row(out: &mut [u8], at: usize, level: u32, quadrant: u32, kind: u32, chain: &[u32]) -> usize
     requires { ⌜ at + length (line (decimal level ∷ decimal quadrant ∷ rowLetter kind ∷ map decimal (now chain))) ≤ length (now out) ⌝ }
-    ensures { λ r. ⌜ Wrote (now (out .entry)) at (line (decimal level ∷ decimal quadrant ∷ rowLetter kind ∷ map decimal (now (chain .entry)))) (now (out .exit)) r ⌝ }
+    ensures { λ r. ⌜ TextWritten (now (out .entry)) at (line (decimal level ∷ decimal quadrant ∷ rowLetter kind ∷ map decimal (now (chain .entry)))) (now (out .exit)) r ⌝ }
 {
     let mut next = put_decimal(out, at, level as u64);
     next = put_number(out, next, quadrant as u64);
@@ -107,7 +107,7 @@ pub fn put_rows(out: &mut [u8], at: usize, nodes: usize, rows: &[u32], chains: &
     requires { ⌜ rowNumbers * nodes ≤ length (now rows) ⌝ }
     requires { ⌜ chained (rowsAt nodes (now rows)) ≤ length (now chains) ⌝ }
     requires { ⌜ at + length (rowLines (rowsAt nodes (now rows)) (now chains)) ≤ length (now out) ⌝ }
-    ensures { λ r. ⌜ Wrote (now (out .entry)) at (rowLines (rowsAt nodes (now (rows .entry))) (now (chains .entry))) (now (out .exit)) r ⌝ }
+    ensures { λ r. ⌜ TextWritten (now (out .entry)) at (rowLines (rowsAt nodes (now (rows .entry))) (now (chains .entry))) (now (out .exit)) r ⌝ }
 {
     let mut next = at;
     let mut from: usize = 0;

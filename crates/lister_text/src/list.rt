@@ -5,7 +5,7 @@ ghost use lib.ListN.{length};
 ghost use Rattle.rules.specs.Cover.{Covered};
 ghost use Rattle.rules.specs.Tree.{Tree, rowsOf, chainsOf};
 ghost use Rattle.rules.specs.Listing.{extentLine, rowLines};
-ghost use Rattle.lister_text.specs.Text.{Wrote};
+ghost use Rattle.lister_text.specs.Text.{TextWritten};
 ghost use Rattle.lister_text.specs.Told.{Told, SomeTree};
 ghost use Rattle.lister_text.specs.Input.{listingBytes};
 use crate::lines::put_empty;
@@ -23,7 +23,7 @@ pub fn write_listing(
     requires { ⌜ SomeTree extent nodes (now rows) (now chains) ⌝ }
     requires { ⌜ listingBytes ≤ length (now out) ⌝ }
     ensures { λ r. ⌜ ((c : Covered) (t : Tree Extent) → Told c t extent nodes (now (rows .entry)) (now (chains .entry))
-        → Wrote (now (out .entry)) 0 (extentLine c ++ rowLines (rowsOf t) (chainsOf t)) (now (out .exit)) r) ⌝ }
+        → TextWritten (now (out .entry)) 0 (extentLine c ++ rowLines (rowsOf t) (chainsOf t)) (now (out .exit)) r) ⌝ }
 {
     if nodes == 0 {
         return put_empty(out, 0);

@@ -3,12 +3,12 @@ ghost use mathlib.Core.List.{[], _∷_};
 ghost use Prim.Native.Nat.{_+_, _^_, _≤_, _<_};
 ghost use lib.ListN.{length};
 ghost use Rattle.rules.specs.Listing.{decimal, signed};
-ghost use Rattle.lister_text.specs.Text.{Wrote};
+ghost use Rattle.lister_text.specs.Text.{TextWritten};
 ghost use Rattle.lister_text.specs.Told.{IsWhole, integer};
 
 pub fn put_byte(out: &mut [u8], at: usize, b: u8) -> usize
     requires { ⌜ at + 1 ≤ length (now out) ⌝ }
-    ensures { λ r. ⌜ Wrote (now (out .entry)) at (b ∷ []) (now (out .exit)) r ⌝ }
+    ensures { λ r. ⌜ TextWritten (now (out .entry)) at (b ∷ []) (now (out .exit)) r ⌝ }
 {
     out[at] = b;
     at + 1
@@ -16,7 +16,7 @@ pub fn put_byte(out: &mut [u8], at: usize, b: u8) -> usize
 
 pub fn put_text(out: &mut [u8], at: usize, text: &[u8]) -> usize
     requires { ⌜ at + length (now text) ≤ length (now out) ⌝ }
-    ensures { λ r. ⌜ Wrote (now (out .entry)) at (now (text .entry)) (now (out .exit)) r ⌝ }
+    ensures { λ r. ⌜ TextWritten (now (out .entry)) at (now (text .entry)) (now (out .exit)) r ⌝ }
 {
     let mut next = at;
     let mut i: usize = 0;
@@ -30,7 +30,7 @@ pub fn put_text(out: &mut [u8], at: usize, text: &[u8]) -> usize
 // The digits of a number.
 pub fn put_decimal(out: &mut [u8], at: usize, n: u64) -> usize
     requires { ⌜ (n < 10 ^ 14) × (at + length (decimal n) ≤ length (now out)) ⌝ }
-    ensures { λ r. ⌜ Wrote (now (out .entry)) at (decimal n) (now (out .exit)) r ⌝ }
+    ensures { λ r. ⌜ TextWritten (now (out .entry)) at (decimal n) (now (out .exit)) r ⌝ }
 {
     let mut digits = [0u8; 20];
     let size = io::decimal(n, &mut digits);
@@ -41,7 +41,7 @@ pub fn put_decimal(out: &mut [u8], at: usize, n: u64) -> usize
 pub fn put_whole(out: &mut [u8], at: usize, x: f64) -> usize
     requires { ⌜ IsWhole x ⌝ }
     requires { ⌜ at + length (signed (integer x)) ≤ length (now out) ⌝ }
-    ensures { λ r. ⌜ Wrote (now (out .entry)) at (signed (integer x)) (now (out .exit)) r ⌝ }
+    ensures { λ r. ⌜ TextWritten (now (out .entry)) at (signed (integer x)) (now (out .exit)) r ⌝ }
 {
     if x < 0.0 {
         let next = put_byte(out, at, b'-');

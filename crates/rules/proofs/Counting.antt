@@ -134,7 +134,7 @@ module _ {A X : Type 0} (count : X → ℕ) (afresh : X → X) (more : ℕ → X
 -- ---- a walk
 
 -- Values laid beside the nodes add no node.
-pub nodes-valued : {A B : Type 0} (ofLeaf : A → List ℕ → B) (ofNode : A → List B → B) (t : Tree A) → nodes (valued ofLeaf ofNode t) ≡ nodes t
+pub nodes-valued : {A B : Type 0} (ofLeaf : List ℕ → B) (ofNode : List B → B) (t : Tree A) → nodes (valued ofLeaf ofNode t) ≡ nodes t
 nodes-valued ofLeaf ofNode none = refl
 nodes-valued ofLeaf ofNode (leaf a is) = refl
 nodes-valued ofLeaf ofNode (node a t0 t1 t2 t3) =

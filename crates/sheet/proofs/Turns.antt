@@ -12,7 +12,7 @@ use Rattle.rules.specs.Plain.{overwritten}
 use Rattle.rules.specs.Number.{bitsOf}
 use Rattle.rules.specs.Outcome.{fine, _>>=_, refusalOf, checkFrom}
 use Rattle.rules.specs.Sheet.{recordSize, bytesOf, wordAt, floatAt, floatBytes, recordAt, recordsFrom, recordCheck, pairsFrom}
-use Rattle.sheet.specs.Columns.{Room, putPairs, flagsOf}
+use Rattle.sheet.specs.Columns.{PairsFit, putPairs, flagsOf}
 use Rattle.sheet.proofs.Lists.{overwritten-next}
 use Rattle.sheet.proofs.Checked.{stays, record-fine}
 
@@ -40,7 +40,7 @@ module _ {A : Type 0} where
 -- ---- where pairs lie
 
 -- each pair lies in the bytes
-pub reaches : (s : List ℕ) (stride offset n j : ℕ) → Room s stride offset n → j < n / 2 → offset + j * stride + 16 ≤ length s
+pub reaches : (s : List ℕ) (stride offset n j : ℕ) → PairsFit s stride offset n → j < n / 2 → offset + j * stride + 16 ≤ length s
 reaches s stride offset n j r h = omega (arith, mul-le-mul-right stride (add-one-le h), r .reach)
 
 -- ---- reading pairs: what is filled, and what is left to read

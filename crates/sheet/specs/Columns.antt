@@ -9,7 +9,7 @@ use Rattle.rules.specs.Sheet.{floatBytes, pairSize}
 use Rattle.rules.specs.declared.Particle.{Particle}
 
 -- n numbers are whole pairs, and all of them lie in the bytes s: the last begins one stride before `offset + n / 2 * stride`
-pub record Room (s : List ℕ) (stride offset n : ℕ) : Type 0 where
+pub record PairsFit (s : List ℕ) (stride offset n : ℕ) : Type 0 where
   pub even : n % 2 ≡ 0
   pub reach : offset + n / 2 * stride + pairSize ≤ length s + stride
 

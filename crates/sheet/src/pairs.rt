@@ -9,10 +9,10 @@ ghost use Prim.Native.Nat.{_+_, _/_, _≤_};
 ghost use lib.ListN.{length};
 ghost use Rattle.rules.specs.Plain.{overwritten};
 ghost use Rattle.rules.specs.Sheet.{floatBytes, pairSize, pairsFrom};
-ghost use Rattle.sheet.specs.Columns.{Room, putPairs};
+ghost use Rattle.sheet.specs.Columns.{PairsFit, putPairs};
 
 pub fn read_pairs(s: &[u8], stride: usize, offset: usize, out: &mut [f64])
-    requires { ⌜ Room (now s) stride offset (length (now out)) ⌝ }
+    requires { ⌜ PairsFit (now s) stride offset (length (now out)) ⌝ }
     ensures { λ _. ⌜ now (out .exit) ≡ pairsFrom stride (now (s .entry)) offset (length (now (out .entry)) / 2) ⌝ }
 {
     let n = out.len() / 2;
@@ -37,7 +37,7 @@ fn put_pair(s: &mut [u8], at: usize, x: f64, y: f64)
 
 // Nothing outside the pairs changes.
 pub fn write_pairs(s: &mut [u8], stride: usize, offset: usize, xs: &[f64])
-    requires { ⌜ Room (now s) stride offset (length (now xs)) ⌝ }
+    requires { ⌜ PairsFit (now s) stride offset (length (now xs)) ⌝ }
     ensures { λ _. ⌜ now (s .exit) ≡ putPairs stride (now (s .entry)) offset (now (xs .entry)) ⌝ }
 {
     let n = xs.len() / 2;

@@ -9,7 +9,7 @@ use lib.Pow.{pow-add, pow-pos, pow-mono, shl-exact, shl-lt}
 use Rattle.rules.specs.Root.{infinity}
 use Rattle.rules.proofs.Units.{units-small, units-large}
 use Rattle.rules.proofs.Nearest.{square-le}
-use Rattle.square_root.specs.Steps.{Unpacked, Radicand, Ready, Stepped, Rooted, whole}
+use Rattle.square_root.specs.Steps.{Unpacked, Radicand, BetweenSteps, Stepped, Rooted, radicandOf}
 
 -- ---- the radicand
 
@@ -48,10 +48,10 @@ radicand-odd m k l e =
 
 -- after i of the 53 steps
 pub record Inv (a q rem rest i : ℕ) : Type 0 where
-  pub ready : Ready q rem rest
+  pub ready : BetweenSteps q rem rest
   pub most : i ≤ 53
   pub short : q < 2 ^ i
-  pub all : whole q rem rest ≡ a * 4 ^ i
+  pub all : radicandOf q rem rest ≡ a * 4 ^ i
 
 pub inv-start : (a : ℕ) → a < 2 ^ 54 → Inv a 0 0 a 0
 inv-start a h = record { ready = record { rem-le = omega arith; rest-lt = h }; most = omega arith; short = omega arith; all = omega arith }

@@ -18,19 +18,19 @@ pub record Radicand (m k a : ℕ) : Type 0 where
   pub value : m * 2 ^ k ≡ a * 2 ^ 52 * (2 ^ ((k - 52) / 2) * 2 ^ ((k - 52) / 2))
 
 -- between two steps: the root q of the digits taken, what is left of them, and the digits to come, at the top of 54
-pub record Ready (q rem rest : ℕ) : Type 0 where
+pub record BetweenSteps (q rem rest : ℕ) : Type 0 where
   pub rem-le : rem ≤ 2 * q
   pub rest-lt : rest < 2 ^ 54
 
 -- what the three stand for: the radicand's digits, those to come behind 54 places
-abbrev pub whole : ℕ → ℕ → ℕ → ℕ
-whole q rem rest = (q * q + rem) * 2 ^ 54 + rest
+abbrev pub radicandOf : ℕ → ℕ → ℕ → ℕ
+radicandOf q rem rest = (q * q + rem) * 2 ^ 54 + rest
 
 -- a step shifts the radicand by two digits and the root by one
 pub record Stepped (q rem rest q' rem' rest' : ℕ) : Type 0 where
-  pub ready : Ready q' rem' rest'
+  pub ready : BetweenSteps q' rem' rest'
   pub q-le : q' ≤ 2 * q + 1
-  pub same : whole q' rem' rest' ≡ 4 * whole q rem rest
+  pub same : radicandOf q' rem' rest' ≡ 4 * radicandOf q rem rest
 
 -- q is the whole part of the root of a * 2 ^ 52
 pub record Rooted (a q rem : ℕ) : Type 0 where

@@ -2,7 +2,7 @@
 // says nothing of that way.
 ghost use Prim.Native.Nat.{_^_, _<_, _≤_};
 ghost use Rattle.rules.specs.Root.{infinity, Nearest};
-ghost use Rattle.square_root.specs.Steps.{Unpacked, Radicand, Ready, Stepped, Rooted};
+ghost use Rattle.square_root.specs.Steps.{Unpacked, Radicand, BetweenSteps, Stepped, Rooted};
 
 // 2^52: the leading one of 53 digits
 const LEAD: u64 = 4503599627370496;
@@ -51,7 +51,7 @@ fn radicand(m: u64, k: u64) -> u64
 
 // one digit of the root from two of the radicand
 fn step(s: Digits) -> Digits
-    requires { ⌜ Ready (s .q) (s .rem) (s .rest) × (s .q < 2 ^ 52) ⌝ }
+    requires { ⌜ BetweenSteps (s .q) (s .rem) (s .rest) × (s .q < 2 ^ 52) ⌝ }
     ensures { λ r. ⌜ Stepped (s .q) (s .rem) (s .rest) (r .q) (r .rem) (r .rest) ⌝ }
 {
     let rem = s.rem * 4 + s.rest / LEAD;

@@ -2,7 +2,7 @@
 use mathlib.Core.Path.{_≡_, refl, sym, ap, _∙_}
 use mathlib.Core.Bool.{true, false}
 use mathlib.Core.List.{List}
-use Prim.Native.Nat.{ℕ, suc, _+_, _-_, _*_, _≤_, _<_, _^_}
+use Prim.Native.Nat.{ℕ, suc, _+_, _-_, _*_, _≤_, _<_}
 use native.Mathlib.Nat.{sub-zero}
 use native.Mathlib.Omega.{arith}
 use lib.ListN.{length}
@@ -13,6 +13,7 @@ use Rattle.rules.specs.declared.Settings.{Settings}
 use Rattle.rules.specs.Outcome.{done, refused, noRefusal, zeroesWork}
 use Rattle.rules.specs.Tick.{State, Force, tickHome, tick, TicksDone, ticksDone, ticksFrom}
 use Rattle.force.specs.declared.Ran.{Ran}
+use Rattle.force.specs.Ran.{mostTickVisits}
 use Rattle.tick_close.specs.declared.Stepped.{Stepped}
 use Rattle.tick_close.specs.Close.{stepped}
 use Rattle.closing.proofs.Closing.{places-back}
@@ -69,8 +70,8 @@ module _ (s : Settings) (fs : List Force) (slots : ℕ) (k k' : Columns) (ds : L
 
 -- ---- the answer, after t ticks that left the columns k at p
 
-module _ (k : Columns) (ds : List Float) (p : Progress) (n budget t : ℕ) (o : TicksDone) (h : ColumnsFit (k .places) (k .speeds) ds n (p .used)) (l : t ≤ budget) (few : p .visits ≤ t * 2 ^ 40) where
-  enough : p .visits ≤ budget * 2 ^ 40
+module _ (k : Columns) (ds : List Float) (p : Progress) (n budget t : ℕ) (o : TicksDone) (h : ColumnsFit (k .places) (k .speeds) ds n (p .used)) (l : t ≤ budget) (few : p .visits ≤ t * mostTickVisits) where
+  enough : p .visits ≤ budget * mostTickVisits
   enough = omega arith
 
   -- no tick was refused

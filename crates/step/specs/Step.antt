@@ -2,7 +2,7 @@
 use mathlib.Core.Path.{_≡_}
 use mathlib.Core.Bool.{true}
 use mathlib.Core.List.{List}
-use Prim.Native.Nat.{ℕ, _*_, _≤_, _^_}
+use Prim.Native.Nat.{ℕ, _*_, _≤_}
 use lib.ListN.{length}
 use lib.Ieee.{Float}
 use Rattle.rules.specs.declared.Progress.{Progress}
@@ -10,6 +10,7 @@ use Rattle.rules.specs.Plain.{all}
 use Rattle.rules.specs.Outcome.{zeroesWork}
 use Rattle.rules.specs.Number.{within}
 use Rattle.rules.specs.Tick.{TicksDone, ticksDone}
+use Rattle.force.specs.Ran.{mostTickVisits}
 use Rattle.tick_close.specs.declared.Stepped.{Stepped}
 use Rattle.tick_columns.specs.Stage.{Columns, stateOf}
 
@@ -23,5 +24,5 @@ pub record Steps (k : Columns) (ds : List Float) (budget : ℕ) (r : Stepped) (o
   pub late : zeroesWork (r .refusal) ≡ true
   pub ticked : r .ticks ≤ budget
   pub drawn : r .progress .used ≤ length ds
-  pub few : r .progress .visits ≤ budget * 2 ^ 40
+  pub few : r .progress .visits ≤ budget * mostTickVisits
   pub ranged : all within (k .places) ≡ true

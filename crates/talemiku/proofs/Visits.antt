@@ -72,7 +72,7 @@ many-body-walked t at strengths alpha slots σ n e = go (treeCheck at (length st
         → Walked (manyBodyStep t at strengths alpha) (chargedTree at strengths) σ (upTo (length strengths)) (n .visits) (mostNodes (distinct at (upTo (length strengths))))
     go (done u) p e =
         walked (manyBodyStep t at strengths alpha) (chargedTree at strengths) (upTo (length strengths)) σ n (mostNodes (distinct at (upTo (length strengths))))
-        (omega (arith, nodes-valued (λ c is. leafCharge at strengths is) (λ c qs. nodeCharge qs) (treeOf at (length strengths)), few-nodes at (length strengths) slots p)) e
+        (omega (arith, nodes-valued (leafCharge at strengths) nodeCharge (treeOf at (length strengths)), few-nodes at (length strengths) slots p)) e
     go (refused r) p e = never r e
 
 -- Collide: one for each particle, in each iteration.
@@ -110,7 +110,7 @@ module _ (at radii : List Float) (strength : Float) (slots : ℕ) where
       walked-none z = rw (← z) (record { counts = []; each = refl; total = refl; few = refl })
   collide-walked (suc k) σ n e =
       walked (collideStep at radii strength) (radiusTree at radii) (repeated (suc k) (upTo (length radii))) σ n (mostNodes (distinct at (upTo (length radii))))
-      (omega (arith, nodes-valued (λ c is. leafRadius radii is) (λ c rs. nodeRadius rs) (treeOf at (length radii)), few-nodes at (length radii) slots (once-fine (counted σ 0) n (λ y. foldStages (λ m _. collideOnce at radii strength slots m) y (countFrom (0 + 1) k)) e)))
+      (omega (arith, nodes-valued (leafRadius radii) nodeRadius (treeOf at (length radii)), few-nodes at (length radii) slots (once-fine (counted σ 0) n (λ y. foldStages (λ m _. collideOnce at radii strength slots m) y (countFrom (0 + 1) k)) e)))
       (turns (suc k) 0 (counted σ 0) n e)
 
 -- ---- a force

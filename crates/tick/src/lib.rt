@@ -13,6 +13,7 @@ ghost use Prim.Native.Nat.{_+_, _*_, _<_, _^_};
 ghost use lib.ListN.{length};
 ghost use Rattle.rules.specs.Calls.{slotsOf};
 ghost use Rattle.rules.specs.Tick.{entriesOf, forcesFrom, tickHome};
+ghost use Rattle.force.specs.Ran.{mostTickVisits};
 ghost use Rattle.tick_checks.specs.Fits.{Fits};
 ghost use Rattle.tick_columns.specs.Stage.{columns, ColumnsFit, Chains, stateOf, Stages};
 ghost use Rattle.tick.specs.Tick.{cooled};
@@ -43,7 +44,7 @@ pub fn tick_on(
         × Chains (length (now flags)) (now next) (now tail) × (turn .progress .visits < 2 ^ 62) ⌝ }
     ensures { λ r. ⌜ (let s = turn .settings in
         let p = turn .progress in
-        Stages (columns (now (places .exit)) (now (speeds .exit)) (now (flags .entry))) (now (draws .entry)) (cooled s p) (p .visits + 2 ^ 40) r
+        Stages (columns (now (places .exit)) (now (speeds .exit)) (now (flags .entry))) (now (draws .entry)) (cooled s p) (p .visits + mostTickVisits) r
         (tickHome s (now (home .entry)) (forcesFrom (length (now (flags .entry))) (entriesOf (now (words .entry))) (now (numbers .entry)) (now (links .entry))) (slotsOf (now (work .entry)))
         (stateOf (columns (now (places .entry)) (now (speeds .entry)) (now (flags .entry))) (now (draws .entry)) p))) ⌝ }
 {

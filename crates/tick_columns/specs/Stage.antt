@@ -2,7 +2,7 @@
 use mathlib.Core.Path.{_≡_}
 use mathlib.Core.Bool.{true}
 use mathlib.Core.List.{List}
-use Prim.Native.Nat.{ℕ, _+_, _*_, _^_, _≤_}
+use Prim.Native.Nat.{ℕ, _+_, _*_, _≤_}
 use lib.ListN.{length, drop}
 use lib.Ieee.{Float}
 use Rattle.rules.specs.declared.ForceEntry.{ForceEntry}
@@ -15,7 +15,7 @@ use Rattle.rules.specs.Refusal.{mostParticles, resultCheck}
 use Rattle.rules.specs.Tick.{State, state, entryCounts, strengthsRight, numbersNeeded, linksNeeded, forceOf, forceEnds}
 use Rattle.force.specs.declared.Ran.{Ran}
 use Rattle.force.specs.Draws.{From}
-use Rattle.force.specs.Ran.{ended, ranCheck}
+use Rattle.force.specs.Ran.{mostForceVisits, ended, ranCheck}
 use Rattle.closing.specs.Columns.{particlesFrom}
 
 -- particles by columns: places and velocities in pairs, and flags
@@ -72,6 +72,6 @@ pub record Stages (k : Columns) (ds : List Float) (p : Progress) (most : ℕ) (r
   pub few : r .refusal .number ≡ 0 → r .progress .visits ≤ most
   pub ranged : r .refusal .number ≡ 0 → all within (k .places) ≡ true
 
--- the stage f, from the columns k to k': one force slot hands out at most 2 ^ 37 nodes
+-- the stage f, from the columns k to k'
 abbrev pub StageBy : (State → Outcome State) → Columns → Columns → List Float → Progress → Ran → Type 0
-StageBy f k k' ds p r = Stages k' ds p (p .visits + 2 ^ 37) r (f (stateOf k ds p))
+StageBy f k k' ds p r = Stages k' ds p (p .visits + mostForceVisits) r (f (stateOf k ds p))

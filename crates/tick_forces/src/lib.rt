@@ -13,6 +13,7 @@ ghost use lib.ListN.{length};
 ghost use Rattle.rules.specs.Outcome.{foldStages};
 ghost use Rattle.rules.specs.Calls.{slotsOf};
 ghost use Rattle.rules.specs.Tick.{entriesOf, forcesFrom, forceStage};
+ghost use Rattle.force.specs.Ran.{mostTickVisits};
 ghost use Rattle.tick_checks.specs.Fits.{Fits};
 ghost use Rattle.tick_columns.specs.Stage.{columns, ColumnsFit, Chains, stateOf, Stages};
 
@@ -33,7 +34,7 @@ pub fn run_forces(
 ) -> Ran
     requires { ⌜ Fits (length (now flags)) (entriesOf (now words)) (now numbers) (now links) ⌝ }
     requires { ⌜ ColumnsFit (now places) (now speeds) (now draws) (length (now flags)) (p .used) × Chains (length (now flags)) (now next) (now tail) × (p .visits < 2 ^ 62) ⌝ }
-    ensures { λ r. ⌜ Stages (columns (now (places .exit)) (now (speeds .exit)) (now (flags .entry))) (now (draws .entry)) p (p .visits + 2 ^ 40) r
+    ensures { λ r. ⌜ Stages (columns (now (places .exit)) (now (speeds .exit)) (now (flags .entry))) (now (draws .entry)) p (p .visits + mostTickVisits) r
         (foldStages (forceStage t (slotsOf (now (work .entry)))) (stateOf (columns (now (places .entry)) (now (speeds .entry)) (now (flags .entry))) (now (draws .entry)) p)
         (forcesFrom (length (now (flags .entry))) (entriesOf (now (words .entry))) (now (numbers .entry)) (now (links .entry)))) ⌝ }
 {

@@ -23,7 +23,7 @@ use Rattle.sheet.proofs.Columns.{places-of}
 use Rattle.tree_slots.specs.declared.Quadtree.{Quadtree}
 use Rattle.tree_slots.specs.Trees.{Stands}
 use Rattle.tree_rows.proofs.ListWhole.{chains-all}
-use Rattle.tree_call.specs.Tree.{AfterTree, refusedTree, refusedWork, Comes, extentBuilt, Answers, built, Ready}
+use Rattle.tree_call.specs.Tree.{AfterTree, refusedTree, refusedWork, Comes, extentBuilt, Answers, built, TreeReady}
 use Rattle.tree_build.specs.declared.build.Built.{Built}
 use Rattle.tree_build.specs.declared.build.Built.the-variants as Built
 use Rattle.tree_build.specs.Build.{particles, Lent, Builds}
@@ -73,7 +73,7 @@ module _ {l : TreeInput} {o : Outcome (Tree Extent)} {a : TreeAnswer} where
 
 -- ---- the call on a sheet that passed every check
 
-module _ {l : TreeInput} {size : ℕ} {at : List Float} {links tails : ℕ} (d : Ready l size links tails) (e : at ≡ pairsFrom recordSize (l .sheet) 0 (size / 2)) where
+module _ {l : TreeInput} {size : ℕ} {at : List Float} {links tails : ℕ} (d : TreeReady l size links tails) (e : at ≡ pairsFrom recordSize (l .sheet) 0 (size / 2)) where
   abbrev n : ℕ
   n = countOf (l .sheet)
 

@@ -71,7 +71,7 @@ built l =
     treeCheck at n (slotsOf (l .work)) >>= λ _. done (treeOf at n)
 
 -- lists of the sheet's length to build with: two places, a link and a tail for each particle
-pub record Ready (l : TreeInput) (places next tail : ℕ) : Type 0 where
+pub record TreeReady (l : TreeInput) (places next tail : ℕ) : Type 0 where
   pub passed : Passed l
   pub pairs : places ≡ countOf (l .sheet) * 2
   pub links : next ≡ countOf (l .sheet)

@@ -23,7 +23,7 @@ ghost use Rattle.rules.specs.Outcome.{refusalOf, _then_};
 ghost use Rattle.rules.specs.Refusal.{mostParticles, countCheck, lengthsCheck};
 ghost use Rattle.rules.specs.Calls.{treeResult};
 ghost use Rattle.rules.specs.Tree.{rowNumbers};
-ghost use Rattle.tree_call.specs.Tree.{lent, AfterTree, Passed, built, Ready};
+ghost use Rattle.tree_call.specs.Tree.{lent, AfterTree, Passed, built, TreeReady};
 
 // A row for each slot, a number for each particle.
 fn agree(rows: usize, slots: usize, chains: usize, n: usize) -> bool
@@ -50,7 +50,7 @@ fn tree_with(
     chains: &mut [u32],
     work: &mut [u64],
 ) -> TreeAnswer
-    requires { ⌜ Ready (lent (now records) (now rows) (now chains) (now work)) (length (now places)) (length (now next)) (length (now tail)) ⌝ }
+    requires { ⌜ TreeReady (lent (now records) (now rows) (now chains) (now work)) (length (now places)) (length (now next)) (length (now tail)) ⌝ }
     ensures { λ r. ⌜ (let l = lent (now (records .entry)) (now (rows .entry)) (now (chains .entry)) (now (work .entry)) in
         AfterTree l (built l) r (now (rows .exit)) (now (chains .exit)) (now (work .exit))) ⌝ }
 {

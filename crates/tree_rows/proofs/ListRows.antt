@@ -8,7 +8,7 @@ use lib.Seq.{sets-eq}
 use Rattle.rules.specs.Plain.{overwritten}
 use Rattle.rules.specs.Tree.{Tree, none, leaf, node, nodes, Row, row, rowsFrom, flat, rowNumbers}
 use Rattle.sheet.proofs.Lists.{overwritten-next, overwritten-none, overwritten-length}
-use Rattle.tree_rows.specs.List.{Wrote}
+use Rattle.tree_rows.specs.List.{RowsWritten}
 use Rattle.tree_rows.specs.declared.Cursor.{Cursor}
 
 -- four stores are one row
@@ -37,24 +37,24 @@ rows-count l q (node s t0 t1 t2 t3) =
 
 module _ {rows chains : List ℕ} {at : Cursor} where
   -- nothing is written
-  pub wrote-none : Wrote rows chains at [] [] rows chains at
+  pub wrote-none : RowsWritten rows chains at [] [] rows chains at
   wrote-none =
       record { listed = sym (overwritten-none rows (at .nodes * rowNumbers)); chained = sym (overwritten-none chains (at .chained)); nodes = omega arith; reach = omega arith }
 
   -- a leaf's chain and its row
   pub wrote-leaf : {level quadrant end : ℕ} {is rows′ chains′ : List ℕ} → chains′ ≡ overwritten chains (at .chained) is → end ≡ at .chained + length is
       → rows′ ≡ overwritten rows (at .nodes * rowNumbers) (flat (row level quadrant 2 (end - at .chained) ∷ []))
-      → Wrote rows chains at (row level quadrant 2 (length is) ∷ []) is rows′ chains′ (record { nodes = at .nodes + 1; chained = end })
+      → RowsWritten rows chains at (row level quadrant 2 (length is) ∷ []) is rows′ chains′ (record { nodes = at .nodes + 1; chained = end })
   wrote-leaf {end = end} {is} c e r =
       let k : end - at .chained ≡ length is = omega arith in
       record { listed = rw (← k) r; chained = c; nodes = refl; reach = e }
 
   -- an internal node's row
   pub wrote-internal : {level quadrant : ℕ} {rows′ : List ℕ} → rows′ ≡ overwritten rows (at .nodes * rowNumbers) (flat (row level quadrant 1 0 ∷ []))
-      → Wrote rows chains at (row level quadrant 1 0 ∷ []) [] rows′ chains (record { nodes = at .nodes + 1; chained = at .chained })
+      → RowsWritten rows chains at (row level quadrant 1 0 ∷ []) [] rows′ chains (record { nodes = at .nodes + 1; chained = at .chained })
   wrote-internal r = record { listed = r; chained = sym (overwritten-none chains (at .chained)); nodes = refl; reach = omega arith }
 
-  module _ {rs : List Row} {is rows′ chains′ : List ℕ} {b : Cursor} (v : Wrote rows chains at rs is rows′ chains′ b) where
+  module _ {rs : List Row} {is rows′ chains′ : List ℕ} {b : Cursor} (v : RowsWritten rows chains at rs is rows′ chains′ b) where
     -- lists keep their lengths
     pub wrote-rows : (at .nodes + length rs) * rowNumbers ≤ length rows → length rows′ ≡ length rows
     wrote-rows h = rw (v .listed) (overwritten-length rows (at .nodes * rowNumbers) (flat rs) (omega (arith, flat-length rs)))
@@ -63,8 +63,8 @@ module _ {rows chains : List ℕ} {at : Cursor} where
     wrote-chains h = rw (v .chained) (overwritten-length chains (at .chained) is h)
 
     -- what is written next stands behind it
-    pub wrote-next : {ss : List Row} {js rows″ chains″ : List ℕ} {c : Cursor} → Wrote rows′ chains′ b ss js rows″ chains″ c
-        → (at .nodes + length rs) * rowNumbers ≤ length rows → at .chained + length is ≤ length chains → Wrote rows chains at (rs ++ ss) (is ++ js) rows″ chains″ c
+    pub wrote-next : {ss : List Row} {js rows″ chains″ : List ℕ} {c : Cursor} → RowsWritten rows′ chains′ b ss js rows″ chains″ c
+        → (at .nodes + length rs) * rowNumbers ≤ length rows → at .chained + length is ≤ length chains → RowsWritten rows chains at (rs ++ ss) (is ++ js) rows″ chains″ c
     wrote-next {ss} {js} w r s =
         let e : b .nodes * rowNumbers ≡ at .nodes * rowNumbers + length (flat rs) = omega (arith, v .nodes, flat-length rs) in
         record {

@@ -8,7 +8,7 @@ use Rattle.rules.specs.Refusal.{mostParticles}
 use Rattle.rules.specs.Tree.{Tree, none, leaf, node, nodes, Row, row, rowsFrom, flat, chainsOf, rowNumbers}
 use Rattle.rules.specs.Plain.{overwritten}
 use Rattle.tree_slots.specs.Trees.{word, kids, first, Follows, Trails, Below, InSlots}
-use Rattle.tree_rows.specs.List.{ListableLeaf, StandsAt, Listable, Wrote}
+use Rattle.tree_rows.specs.List.{ListableLeaf, StandsAt, Listable, RowsWritten}
 use Rattle.tree_rows.specs.declared.Cursor.{Cursor}
 use Rattle.tree_slots.proofs.Links.{follows-trails}
 use Rattle.tree_rows.proofs.ListRows.{rows-count, wrote-internal, wrote-next, wrote-rows, wrote-chains}
@@ -126,7 +126,7 @@ particlesOf (t ∷ ts) = length (chainsOf t) + particlesOf ts
 
 -- These rows and particles stand behind what was listed; trees are left to list, and there is room for them.
 pub record Listing (rows chains : List ℕ) (at : Cursor) (rs : List Row) (is : List ℕ) (left : List (Tree ℕ)) (rows′ chains′ : List ℕ) (r : Cursor) : Type 0 where
-  pub wrote : Wrote rows chains at rs is rows′ chains′ r
+  pub wrote : RowsWritten rows chains at rs is rows′ chains′ r
   pub room : (at .nodes + length rs + nodesOf left) * rowNumbers ≤ length rows
   pub space : at .chained + length is + particlesOf left ≤ length chains
 
@@ -160,7 +160,7 @@ module _ {rows chains : List ℕ} {at : Cursor} {rs : List Row} {is : List ℕ} 
 
   -- and then is
   pub child-listed : (level q : ℕ) {t : Tree ℕ} {left : List (Tree ℕ)} {rows″ chains″ : List ℕ} {b : Cursor} → Listing rows chains at rs is (t ∷ left) rows′ chains′ r
-      → Wrote rows′ chains′ r (rowsFrom level q t) (chainsOf t) rows″ chains″ b
+      → RowsWritten rows′ chains′ r (rowsFrom level q t) (chainsOf t) rows″ chains″ b
       → Listing rows chains at (rs ++ rowsFrom level q t) (is ++ chainsOf t) left rows″ chains″ b
   child-listed level q {t} s w = record {
     wrote = wrote-next (s .wrote) w (omega (arith, s .room)) (omega (arith, s .space));

@@ -18,7 +18,7 @@ use Rattle.sheet.proofs.Lists.{overwritten-none, overwritten-next, overwritten-
 use Rattle.tree_slots.specs.Trees.{inCells, Lays, Below, InSlots}
 use Rattle.tree_slots.proofs.Trees.{each-map}
 use Rattle.tree_slots.proofs.Links.{in-below}
-use Rattle.tree_rows.specs.List.{Listable, Wrote, Whole}
+use Rattle.tree_rows.specs.List.{Listable, RowsWritten, Whole}
 use Rattle.tree_slots.specs.declared.Quadtree.{Quadtree}
 use Rattle.tree_rows.specs.declared.Cursor.{Cursor}
 use Rattle.tree_rows.proofs.ListRows.{flat-length, rows-count, wrote-chains}
@@ -107,7 +107,7 @@ module _ {t : Tree Extent} {m next : List ℕ} {q : Quadtree} {rows chains : ℕ
 
   -- and is, with zeros behind its rows and its chains
   module _ {rows₀ chains₀ rows′ chains′ : List ℕ} {r : Cursor}
-      (v : Wrote rows₀ chains₀ (record { nodes = 0; chained = 0 }) (rowsOf (s .tree)) (chainsOf (s .tree)) rows′ chains′ r) where
+      (v : RowsWritten rows₀ chains₀ (record { nodes = 0; chained = 0 }) (rowsOf (s .tree)) (chainsOf (s .tree)) rows′ chains′ r) where
     pub rows-listed : length rows₀ ≡ rows → {rows″ : List ℕ} → rows″ ≡ overwritten rows′ (q .nodes * rowNumbers) (replicate (length rows′ - q .nodes * rowNumbers) 0)
         → rows″ ≡ padded (length rows₀) 0 (flat (rowsOf t))
     rows-listed a e =

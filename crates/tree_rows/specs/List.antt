@@ -38,7 +38,7 @@ pub record Listable (m next : List ℕ) (p level rows chains : ℕ) (at : Cursor
   pub few : (length next ≤ mostParticles) × (chains ≤ mostParticles)
 
 -- these rows and particles stand behind what was listed, and nothing else has changed
-pub record Wrote (rows chains : List ℕ) (at : Cursor) (rs : List Row) (is : List ℕ) (rows′ chains′ : List ℕ) (r : Cursor) : Type 0 where
+pub record RowsWritten (rows chains : List ℕ) (at : Cursor) (rs : List Row) (is : List ℕ) (rows′ chains′ : List ℕ) (r : Cursor) : Type 0 where
   pub listed : rows′ ≡ overwritten rows (at .nodes * rowNumbers) (flat rs)
   pub chained : chains′ ≡ overwritten chains (at .chained) is
   pub nodes : r .nodes ≡ at .nodes + length rs

@@ -10,7 +10,7 @@ ghost use lib.ListN.{length, replicate};
 ghost use Rattle.rules.specs.declared.Extent.{Extent};
 ghost use Rattle.rules.specs.Plain.{overwritten, padded};
 ghost use Rattle.rules.specs.Tree.{Tree, row, rowsFrom, rowsOf, flat, chainsOf, rowNumbers};
-ghost use Rattle.tree_rows.specs.List.{ListableChain, ListableLeaf, Listable, Wrote, Whole};
+ghost use Rattle.tree_rows.specs.List.{ListableChain, ListableLeaf, Listable, RowsWritten, Whole};
 
 const INTERNAL: u32 = 1;
 
@@ -63,7 +63,7 @@ fn list_leaf(
 ) -> Cursor
     requires { ⌜ ((is : List ℕ) × ListableLeaf (now next) p (length (now rows)) (length (now chains)) at is) ⌝ }
     ensures { λ r. ⌜ ((is : List ℕ) → ListableLeaf (now (next .entry)) p (length (now (rows .entry))) (length (now (chains .entry))) at is
-        → Wrote (now (rows .entry)) (now (chains .entry)) at (row level quadrant 2 (length is) ∷ []) is
+        → RowsWritten (now (rows .entry)) (now (chains .entry)) at (row level quadrant 2 (length is) ∷ []) is
         (now (rows .exit)) (now (chains .exit)) r) ⌝ }
 {
     let nodes = at.nodes;
@@ -89,7 +89,7 @@ fn list_node(
 ) -> Cursor
     requires { ⌜ ((t : Tree ℕ) × Listable (now m) (now next) p level (length (now rows)) (length (now chains)) at t) ⌝ }
     ensures { λ r. ⌜ ((t : Tree ℕ) → Listable (now (m .entry)) (now (next .entry)) p level (length (now (rows .entry))) (length (now (chains .entry))) at t
-        → Wrote (now (rows .entry)) (now (chains .entry)) at (rowsFrom level quadrant t) (chainsOf t)
+        → RowsWritten (now (rows .entry)) (now (chains .entry)) at (rowsFrom level quadrant t) (chainsOf t)
         (now (rows .exit)) (now (chains .exit)) r) ⌝ }
 {
     if p == 0 {

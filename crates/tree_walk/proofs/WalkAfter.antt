@@ -232,7 +232,7 @@ module _ {B : Type 0} {Fit : B → Type 0} {read : List ℕ → ℕ → B} {writ
         values = kept-valued read write ofLeaf ofNode m (q .extent) (s .tree)
             (subst⁻¹ (λ (x : List ℕ). Rattle.tree_walk.proofs.WalkFill.Kept read write ofLeaf ofNode x (s .tree)) e
             (kept-fill W ofLeaf ofNode P fitLeaf fitNode next (s .tree) (q .root) m₀ (s .leads) (s .once) (found s P h .1) h))
-            ∙ ap (valued (λ _ is. ofLeaf is) (λ _ bs. ofNode bs)) (s .is);
+            ∙ ap (valued ofLeaf ofNode) (s .is);
       }
     where
       none-left : (rest : List (Entry ℕ)) → length rest ≡ 0 → fill read write ofLeaf ofNode rest m ≡ fill read write ofLeaf ofNode (parentLast (s .tree)) m₀

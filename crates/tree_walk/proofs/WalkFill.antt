@@ -7,7 +7,7 @@ use lib.ListN.{length}
 use Rattle.rules.specs.declared.Extent.{Extent}
 use Rattle.rules.specs.Cell.{quarter}
 use Rattle.rules.specs.Tree.{Tree, none, leaf, node}
-use Rattle.rules.specs.Walk.{Entry, internal, tip, valued, present, parentLast}
+use Rattle.rules.specs.Walk.{Entry, internal, tip, valued, presentValue, parentLast}
 use Rattle.rules.specs.Calls.{slotWords}
 use Rattle.tree_slots.specs.Trees.{kid, Leads, EachSlot, Apart, Once, inCells, InSlots, SlotsLent}
 use Rattle.tree_walk.specs.Walk.{seen, EachChain}
@@ -71,12 +71,12 @@ module _ {B : Type 0} (read : List ℕ → ℕ → B) (write : List ℕ → ℕ 
   )
 
   -- then it is the rules' value
-  present-seen : (m : List ℕ) (c : Extent) (t : Tree ℕ) → present (seen (λ s c. (c, read m s)) c t) ≡ reads read m t
+  present-seen : (m : List ℕ) (c : Extent) (t : Tree ℕ) → presentValue (seen (λ s c. (c, read m s)) c t) ≡ reads read m t
   present-seen m c none = refl
   present-seen m c (leaf s is) = refl
   present-seen m c (node s t0 t1 t2 t3) = refl
 
-  pub kept-valued : (m : List ℕ) (c : Extent) (t : Tree ℕ) → Kept m t → seen (λ s c. (c, read m s)) c t ≡ valued (λ _ is. ofLeaf is) (λ _ bs. ofNode bs) (inCells c t)
+  pub kept-valued : (m : List ℕ) (c : Extent) (t : Tree ℕ) → Kept m t → seen (λ s c. (c, read m s)) c t ≡ valued ofLeaf ofNode (inCells c t)
   kept-valued m c none k = refl
   kept-valued m c (leaf s is) k = rw k
   kept-valued m c (node s t0 t1 t2 t3) k =

@@ -121,4 +121,4 @@ kidValues read m s = valuesAt read m (kid m s 0) ++ valuesAt read m (kid m s 1) 
 -- the slots hold the tree of the first n points, and what is read at each node is the rules' value: `ofLeaf` of its chain, or `ofNode` of its children's values
 pub record Valued {B : Type 0} (read : List ℕ → ℕ → B) (ofLeaf : List ℕ → B) (ofNode : List B → B) (at : List Float) (n : ℕ) (m next : List ℕ) (q : Quadtree) : Type 0 where
   pub stands : Stands at n m next q
-  pub values : seen (λ s c. (c, read m s)) (q .extent) (stands .tree) ≡ valued (λ _ is. ofLeaf is) (λ _ bs. ofNode bs) (treeOf at n)
+  pub values : seen (λ s c. (c, read m s)) (q .extent) (stands .tree) ≡ valued ofLeaf ofNode (treeOf at n)

@@ -2,7 +2,7 @@
 use mathlib.Core.Path.{_≡_, refl, sym, ap, _∙_}
 use mathlib.Core.Logic.{⊎-elim}
 use mathlib.Core.List.{List}
-use Prim.Native.Nat.{ℕ, _+_, _-_, _*_, _/_, _≤_, _^_}
+use Prim.Native.Nat.{ℕ, _+_, _-_, _*_, _/_, _≤_}
 use native.Mathlib.Omega.{arith}
 use borrow.Author.Needs.{needs}
 use lib.ListN.{length, take}
@@ -10,6 +10,7 @@ use lib.Seq.{length-take-le}
 use lib.Ieee.{Float}
 use Rattle.rules.specs.Calls.{slotsOf, slotWords}
 use Rattle.rules.specs.Tick.{Force, entriesOf, forcesFrom, tickHome}
+use Rattle.force.specs.Ran.{mostTickVisits}
 use Rattle.tick_columns.specs.Stage.{Columns, columns, ColumnsFit, Chains, stateOf, stagedOf}
 use Rattle.step.proofs.Keeping.{first-part, second-part}
 use Rattle.step.proofs.Stepping.{ticksLeft, ticks-first, ticks-end, ticks-low, ticks-stop, ticks-on, tick-stops, tick-goes, ended-steps, stopped-steps}
@@ -27,7 +28,7 @@ Inv-loop words numbers links places₀ speeds₀ flags draws kept₀ next₀ tai
     × (length tail ≡ length tail₀)
     × (length work ≡ length work₀)
     × (t ≤ budget)
-    × (p .visits ≤ t * 2 ^ 40)
+    × (p .visits ≤ t * mostTickVisits)
     × (let ticks = ticksLeft settings alphaMin (forcesFrom (length flags) (entriesOf words) numbers links) (slotsOf work₀) budget in
     ticks 0 (stateOf (columns places₀ speeds₀ flags) draws p₀) ≡ ticks t (stateOf (columns places speeds flags) draws p))
 

@@ -1,7 +1,7 @@
 -- `tick_on` is the rules' tick, with a home for held axes.
 use mathlib.Core.Path.{_≡_, sym, ap, ap₂, subst, subst⁻¹, _∙_}
 use mathlib.Core.List.{List}
-use Prim.Native.Nat.{ℕ, _+_, _^_}
+use Prim.Native.Nat.{ℕ, _+_}
 use borrow.Author.Needs.{needs}
 use borrow.Author.Tests.{not-true, not-false}
 use lib.ListN.{length}
@@ -12,7 +12,7 @@ use Rattle.rules.specs.Number.{within}
 use Rattle.rules.specs.Calls.{slotsOf}
 use Rattle.rules.specs.Tick.{Force, entriesOf, forcesFrom, forceStage, tickHome}
 use Rattle.force.specs.declared.Ran.{Ran}
-use Rattle.force.specs.Ran.{ended}
+use Rattle.force.specs.Ran.{mostTickVisits, ended}
 use Rattle.tick_columns.specs.Stage.{Columns, columns, stateOf, Stages}
 use Rattle.tick_close.specs.Close.{closed}
 use Rattle.tick.specs.Tick.{cooled}
@@ -52,7 +52,7 @@ module _ (c : tie.After-next-alpha) where
   begun = columns (entry c .args .places .now) (entry c .args .speeds .now) (entry c .args .flags .now)
 
   abbrev most : ℕ
-  most = entry c .args .turn .progress .visits + 2 ^ 40
+  most = entry c .args .turn .progress .visits + mostTickVisits
 
 returns : tie.Need-returns
 returns c =

@@ -1,7 +1,7 @@
 -- `run_forces` is the rules' stages of the eight force slots, one after the other.
 use mathlib.Core.Path.{_≡_, refl, sym, ap, _∙_}
 use mathlib.Core.List.{_∷_}
-use Prim.Native.Nat.{ℕ, _+_, _-_, _*_, _≤_, _^_}
+use Prim.Native.Nat.{ℕ, _+_, _-_, _*_, _≤_}
 use native.Mathlib.Omega.{arith}
 use borrow.Author.Needs.{needs}
 use lib.ListN.{length, drop}
@@ -10,7 +10,7 @@ use Rattle.rules.specs.Outcome.{foldStages, zeroesWork}
 use Rattle.rules.specs.Calls.{slotsOf}
 use Rattle.rules.specs.Tick.{forceSlots, numbersNeeded, linksNeeded, forceOf, forceStage}
 use Rattle.force.specs.Draws.{From}
-use Rattle.force.specs.Ran.{ranCheck}
+use Rattle.force.specs.Ran.{mostForceVisits, ranCheck}
 use Rattle.tick_columns.specs.Stage.{Columns, columns, ColumnsFit, Chains, EntryFits, stateOf, stagedOf}
 use Rattle.tick_forces.proofs.EntriesLeft.{Left, forcesLeft, left-first, left-none, left-slot, left-next, left-forces, rest-is, staged-rest, stage-stop, stage-on}
 use Rattle.tick_forces.proofs.run_forces.Statement.{statement}
@@ -28,7 +28,7 @@ Inv-loop words numbers links places₀ speeds₀ flags t draws next₀ tail₀ w
     × (length work ≡ length work₀)
     × (at .alpha ≡ p .alpha)
     × From draws (p .used) (at .used)
-    × (at .visits ≤ p .visits + i * 2 ^ 37)
+    × (at .visits ≤ p .visits + i * mostForceVisits)
     × (foldStages (forceStage t (slotsOf work₀)) (stateOf (columns places₀ speeds₀ flags) draws p) (forcesLeft n words numbers links 0 0 0)
     ≡ foldStages (forceStage t (slotsOf work₀)) (stateOf (columns places speeds flags) draws at) (forcesLeft n words numbers links i a b))
 

@@ -8,7 +8,7 @@ use lib.ListN.{length, getD}
 use borrow.Fn.Kinds.{In}
 use borrow.Fn.PlainCycle.{Measures, is, falls, and}
 use Rattle.rules.specs.Tree.{Tree, row, rowsFrom, chainsOf}
-use Rattle.tree_rows.specs.List.{Listable, ListableLeaf, Wrote}
+use Rattle.tree_rows.specs.List.{Listable, ListableLeaf, RowsWritten}
 use Rattle.tree_rows.proofs.ListRows.{wrote-none}
 use Rattle.tree_rows.proofs.ListTree.{Some, stands-none, stands-some, IsLeaf, stands-leaf, leaf-listable, IsNode, stands-node, Listing, node-listed, listing-rows, listing-chains, next-child, child-listed}
 use Rattle.tree_rows.proofs.list_node.Reads as list-node
@@ -186,7 +186,7 @@ state4 t c x w =
 returns : (t : ℕ) → list-node-lts.Need-returns (rd t) (list-node-at t) list-node.Post
 returns t c x w =
     let a = entry-from-if1 (c .before) .args in
-    subst (λ (y : Tree ℕ). Wrote (a .rows .now) (a .chains .now) (a .at) (rowsFrom (a .level) (a .quadrant) y) (chainsOf y) (a .rows .now) (a .chains .now) (a .at))
+    subst (λ (y : Tree ℕ). RowsWritten (a .rows .now) (a .chains .now) (a .at) (rowsFrom (a .level) (a .quadrant) y) (chainsOf y) (a .rows .now) (a .chains .now) (a .at))
     (sym (stands-none _ _ _ _ _ (w .stands) (c .if1 .taken))) (wrote-none)
 
 sub-s : (t : ℕ) → list-node-lts.Need-sub-s (rd t) (list-node-at t) list-node.Post

@@ -10,7 +10,7 @@ use Rattle.rules.specs.Edits.{editOf, editsOf, present, editsFrom, editWords}
 use Rattle.rules.specs.Calls.{slotsOf, slotWords}
 use Rattle.tree_build.specs.declared.build.Built.{Built}
 use Rattle.tree_build.specs.Build.{particles}
-use Rattle.edits_made.specs.Editing.{Room, Changed}
+use Rattle.edits_made.specs.Editing.{FlagsLent, Changed}
 use Rattle.edits_made.proofs.Turns.{Editing, edit-start, insertion-left, edit-refused, edit-next, edits-done}
 use Rattle.edits_made.proofs.edit.edit_all.Statement.{statement}
 use Rattle.edits_made.proofs.edit.edit_all.Tie as tie
@@ -49,7 +49,7 @@ more c = omega (arith, c .loop-test .taken)
 few : (c : tie.At-loop Inv-loop μ-loop) → c .loop .made ≤ particles (start c .args .at .now)
 few c = let s = start c in omega (arith, c .loop .inv .5 .count, s .pre .0 .points)
 
-room : (c : tie.At-loop Inv-loop μ-loop) → Room (start c .args .at .now) (c .loop .there) (c .loop .next) (c .loop .tail)
+room : (c : tie.At-loop Inv-loop μ-loop) → FlagsLent (start c .args .at .now) (c .loop .there) (c .loop .next) (c .loop .tail)
 room c =
     let r = start c .pre .1 in
     record { lent = record { ranged = r .lent .ranged; few = r .lent .few; links = c .loop .inv .1 ∙ r .lent .links; tails = c .loop .inv .2 ∙ r .lent .tails }; flags = c .loop .inv .0 ∙ r .flags }

@@ -12,7 +12,7 @@ use Rattle.rules.specs.Force.{endsOf}
 use Rattle.force.specs.Draws.{From}
 use Rattle.force.specs.Ran.{visited}
 use Rattle.force.proofs.Stages.{ran-dry, ran-done, left, left-first, left-stops, left-goes, left-end}
-use Rattle.link.specs.Links.{Ready, tallies, pullEach}
+use Rattle.link.specs.Links.{LinksReady, tallies, pullEach}
 use Rattle.link.proofs.Linked.{spent-dry, spent-on}
 use Rattle.link.proofs.link.iterate.Statement.{statement}
 use Rattle.link.proofs.link.iterate.Tie as tie
@@ -21,7 +21,7 @@ abbrev Inv-loop : tie.InvT-loop
 Inv-loop at vs₀ links counts strengths distances iterations draws p reached₀ i₀ vs reached i =
     (i ≤ iterations)
     × (length vs ≡ length vs₀)
-    × Ready vs links counts
+    × LinksReady vs links counts
     × (reached .alpha ≡ p .alpha)
     × (reached .visits ≡ p .visits)
     × From draws (p .used) (reached .used)

@@ -6,14 +6,14 @@ use Prim.Native.Nat.{_+_, _-_}
 use native.Mathlib.Omega.{arith}
 use lib.ListN.{length, drop, getD, drop-of-length-le}
 use Rattle.rules.specs.Listing.{decimal}
-use Rattle.lister_text.specs.Text.{others}
+use Rattle.lister_text.specs.Text.{otherWords}
 use Rattle.lister_text.proofs.Writing.{Left, Next, from-index, left-all, left-next, left-last}
 use Rattle.lister_text.proofs.lines.put_chain.Statement.{statement}
 use Rattle.lister_text.proofs.lines.put_chain.Tie as tie
 
 -- what is left are the chain's numbers from i on, and the line's end
 abbrev Inv-loop : tie.InvT-loop
-Inv-loop out₀ at chain next₀ i₀ out next i = Left out₀ at (others (map decimal chain)) out next (others (map decimal (drop i chain)))
+Inv-loop out₀ at chain next₀ i₀ out next i = Left out₀ at (otherWords (map decimal chain)) out next (otherWords (map decimal (drop i chain)))
 
 abbrev μ-loop : tie.MeasureT-loop
 μ-loop out₀ at chain next₀ i₀ out next i = length chain - i
@@ -24,7 +24,7 @@ loop-holds c = left-all _ _ _ (c .before .before .pre)
 number-left : (c : tie.In-loop Inv-loop μ-loop)
     → let e = c .before .before .before .before .args in
     let i = c .before .loop .i in
-    Next (e .out .now) (e .at) (others (map decimal (e .chain .now))) (c .before .loop .out) (c .before .loop .next) (32 ∷ decimal (getD (e .chain .now) i 0)) (others (map decimal (drop (i + 1) (e .chain .now))))
+    Next (e .out .now) (e .at) (otherWords (map decimal (e .chain .now))) (c .before .loop .out) (c .before .loop .next) (32 ∷ decimal (getD (e .chain .now) i 0)) (otherWords (map decimal (drop (i + 1) (e .chain .now))))
 number-left c = left-next _ _ (rw (from-index _ _ (c .loop-test .taken)) at (c .before .loop .inv))
 
 cast-put-number : tie.Need-cast-put-number Inv-loop μ-loop
@@ -38,7 +38,7 @@ loop-again c = number-left (c .before .before .before .before .before) .after (c
 
 end-left : (c : tie.After-loop Inv-loop μ-loop)
     → let e = c .before .before .before .before .args in
-    Left (e .out .now) (e .at) (others (map decimal (e .chain .now))) (c .before .loop .out) (c .before .loop .next) (10 ∷ [])
+    Left (e .out .now) (e .at) (otherWords (map decimal (e .chain .now))) (c .before .loop .out) (c .before .loop .next) (10 ∷ [])
 end-left c = rw (drop-of-length-le _ (c .loop-test .left)) at (c .before .loop .inv)
 
 put-byte-requires : tie.Need-put-byte-requires Inv-loop μ-loop

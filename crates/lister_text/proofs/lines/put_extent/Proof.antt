@@ -5,8 +5,8 @@ use Prim.Native.Nat.{ℕ}
 use lib.Ieee.{Float}
 use Rattle.rules.specs.Cover.{holds}
 use Rattle.rules.specs.Listing.{ascii, signed, extentLine}
-use Rattle.lister_text.specs.Text.{others}
-use Rattle.lister_text.specs.Told.{integer, squareOf}
+use Rattle.lister_text.specs.Text.{otherWords}
+use Rattle.lister_text.specs.Told.{integer, integerSquare}
 use Rattle.lister_text.proofs.Writing.{Left, Next, left-all, left-next, left-last}
 use Rattle.lister_text.proofs.lines.put_extent.Statement.{statement}
 use Rattle.lister_text.proofs.lines.put_extent.Tie as tie
@@ -41,7 +41,7 @@ word x = signed (integer x)
 
 -- an end is next, and these are left then
 abbrev Ahead : tie.Start → List ℕ → ℕ → Float → List (List ℕ) → Type 0
-Ahead s k next x rest = Next (s .args .out .now) (s .args .at) (extentLine (holds (squareOf (s .args .e)))) k next (32 ∷ word x) (others rest)
+Ahead s k next x rest = Next (s .args .out .now) (s .args .at) (extentLine (holds (integerSquare (s .args .e)))) k next (32 ∷ word x) (otherWords rest)
 
 x0-ahead : (c : tie.After-put-text) → let s = entry c in Ahead s (c .put-text .last .0) (c .put-text .result) (s .args .e .x0) (word (s .args .e .y0) ∷ word (s .args .e .x1) ∷ word (s .args .e .y1) ∷ [])
 x0-ahead c = left-next _ _ (left-next (ascii "extent") _ (left-all _ _ _ (entry c .pre .1)) .after (c .put-text .ensures))
@@ -69,7 +69,7 @@ put-end-requires-4 c κs = (entry-from-put-end3 (end-put3 c .before) .pre .0 .y1
 
 line-end : (c : tie.After-put-end4)
     → let s = entry-from-put-end3 (end-put3 (c .before) .before) in
-    Left (s .args .out .now) (s .args .at) (extentLine (holds (squareOf (s .args .e)))) (c .put-end4 .last .0) (c .put-end4 .result) (10 ∷ [])
+    Left (s .args .out .now) (s .args .at) (extentLine (holds (integerSquare (s .args .e)))) (c .put-end4 .last .0) (c .put-end4 .result) (10 ∷ [])
 line-end c = y1-ahead (end-put3 (c .before)) .after (c .put-end4 .ensures)
 
 put-byte-requires : tie.Need-put-byte-requires

@@ -4,7 +4,7 @@ use mathlib.Core.List.{List, [], _∷_, _++_, map}
 use Prim.Native.Nat.{ℕ}
 use native.Mathlib.Omega.{arith}
 use Rattle.rules.specs.Listing.{decimal, rowLetter, line}
-use Rattle.lister_text.specs.Text.{others}
+use Rattle.lister_text.specs.Text.{otherWords}
 use Rattle.lister_text.proofs.Writing.{Left, Next, left-all, left-next, left-last}
 use Rattle.lister_text.proofs.lines.put_row.Statement.{statement}
 use Rattle.lister_text.proofs.lines.put_row.Tie as tie
@@ -35,7 +35,7 @@ text s = line (decimal (s .args .level) ∷ decimal (s .args .quadrant) ∷ rowL
 abbrev Ahead : tie.Start → List ℕ → ℕ → List ℕ → List ℕ → Type 0
 Ahead s k next w rest = Next (s .args .out .now) (s .args .at) (text s) k next w rest
 
-level-ahead : (s : tie.Start) → Ahead s (s .args .out .now) (s .args .at) (decimal (s .args .level)) (others (decimal (s .args .quadrant) ∷ rowLetter (s .args .kind) ∷ map decimal (s .args .chain .now)))
+level-ahead : (s : tie.Start) → Ahead s (s .args .out .now) (s .args .at) (decimal (s .args .level)) (otherWords (decimal (s .args .quadrant) ∷ rowLetter (s .args .kind) ∷ map decimal (s .args .chain .now)))
 level-ahead s = left-next _ _ (left-all (s .args .out .now) (s .args .at) (text s) (s .pre))
 
 put-decimal-requires : tie.Need-put-decimal-requires
@@ -43,7 +43,7 @@ put-decimal-requires c κs = (omega (arith, entry c .fits .level), level-ahead (
 
 quadrant-ahead : (c : tie.After-put-decimal)
     → let s = entry (c .before) in
-    Ahead s (c .put-decimal .last .0) (c .put-decimal .result) (32 ∷ decimal (s .args .quadrant)) (others (rowLetter (s .args .kind) ∷ map decimal (s .args .chain .now)))
+    Ahead s (c .put-decimal .last .0) (c .put-decimal .result) (32 ∷ decimal (s .args .quadrant)) (otherWords (rowLetter (s .args .kind) ∷ map decimal (s .args .chain .now)))
 quadrant-ahead c = left-next _ _ (level-ahead (entry (c .before)) .after (c .put-decimal .ensures))
 
 put-number-requires : tie.Need-put-number-requires
@@ -51,7 +51,7 @@ put-number-requires c κs = (omega (arith, entry (decimal-put c .before) .fits .
 
 space-ahead : (c : tie.After-put-number)
     → let s = entry (decimal-put (c .before) .before) in
-    Ahead s (c .put-number .last .0) (c .put-number .result) (32 ∷ []) (rowLetter (s .args .kind) ++ others (map decimal (s .args .chain .now)))
+    Ahead s (c .put-number .last .0) (c .put-number .result) (32 ∷ []) (rowLetter (s .args .kind) ++ otherWords (map decimal (s .args .chain .now)))
 space-ahead c = left-next _ _ (quadrant-ahead (decimal-put (c .before)) .after (c .put-number .ensures))
 
 put-byte-requires : tie.Need-put-byte-requires
@@ -59,7 +59,7 @@ put-byte-requires c κs = space-ahead (number-put c) .room
 
 kind-ahead : (c : tie.After-put-byte)
     → let s = entry-from-byte-put c in
-    Ahead s (c .put-byte .last .0) (c .put-byte .result) (rowLetter (s .args .kind)) (others (map decimal (s .args .chain .now)))
+    Ahead s (c .put-byte .last .0) (c .put-byte .result) (rowLetter (s .args .kind)) (otherWords (map decimal (s .args .chain .now)))
 kind-ahead c = left-next _ _ (space-ahead (number-put (c .before)) .after (c .put-byte .ensures))
 
 put-kind-requires : tie.Need-put-kind-requires
@@ -67,7 +67,7 @@ put-kind-requires c κs = kind-ahead (byte-put c) .room
 
 chain-left : (c : tie.After-put-kind)
     → let s = entry-from-byte-put (byte-put (c .before)) in
-    Left (s .args .out .now) (s .args .at) (text s) (c .put-kind .last .0) (c .put-kind .result) (others (map decimal (s .args .chain .now)))
+    Left (s .args .out .now) (s .args .at) (text s) (c .put-kind .last .0) (c .put-kind .result) (otherWords (map decimal (s .args .chain .now)))
 chain-left c = kind-ahead (byte-put (c .before)) .after (c .put-kind .ensures)
 
 put-chain-requires : tie.Need-put-chain-requires

@@ -8,7 +8,7 @@ use Rattle.rules.specs.declared.Extent.{Extent}
 use Rattle.rules.specs.Cover.{Covered, holds}
 use Rattle.rules.specs.Tree.{Tree, rowsOf, chainsOf}
 use Rattle.rules.specs.Listing.{extentLine, rowLines}
-use Rattle.lister_text.specs.Told.{Told, squareOf, rowsAt}
+use Rattle.lister_text.specs.Told.{Told, integerSquare, rowsAt}
 use Rattle.lister_text.proofs.Writing.{Left, Next, left-as, left-next, left-last}
 use Rattle.lister_text.proofs.Sizes.{listing-length}
 use Rattle.lister_text.proofs.Reading.{none-told, some-extent, some-told, rows-room, chains-room}
@@ -32,7 +32,7 @@ returns c = λ cov t h.
 extent-ahead : (c : tie.Else1)
     → let s = c .before .before .before .before in
     (cov : Covered) (t : Tree Extent) → IsTold s cov t
-    → Next (s .args .out .now) 0 (text cov t) (s .args .out .now) 0 (extentLine (holds (squareOf (s .args .extent)))) (rowLines (rowsAt (s .args .nodes) (s .args .rows .now)) (s .args .chains .now))
+    → Next (s .args .out .now) 0 (text cov t) (s .args .out .now) 0 (extentLine (holds (integerSquare (s .args .extent)))) (rowLines (rowsAt (s .args .nodes) (s .args .rows .now)) (s .args .chains .now))
 extent-ahead c cov t h = let s = c .before .before .before .before in left-next _ _ (left-as (s .args .out .now) 0 _ _ (some-told cov t _ _ _ _ h (c .if1 .left)) (fits s cov t h))
 
 put-extent-requires : tie.Need-put-extent-requires
