@@ -1,7 +1,7 @@
 """A case and its answer as a theorem, "the definition's whole answer is this list of numbers", that the prover has to compute."""
-import os, re, struct, subprocess
+import os, re, shutil, struct, subprocess
 
-from lines import EARLY, hexes, moved, refusal, sheet, slot_lists, ask, Words
+from lines import ROOT, EARLY, hexes, moved, refusal, sheet, slot_lists, ask, Words
 
 
 # ---- antt terms
@@ -265,6 +265,16 @@ def judged(lines):
         made = CASES[kind](t, answer)
         if made:
             yield line, kind + (' ' + line.split()[2] if kind == 'force' else ''), answer, made
+
+
+def definitions(folder):
+    """A copy of crates/rules: its definitions and types, without functions and theorems, so that a changed definition is judged by what it computes and by nothing else."""
+    rules = os.path.join(folder, 'crates', 'rules')
+    shutil.copytree(os.path.join(ROOT, 'crates', 'rules'), rules, ignore=shutil.ignore_patterns('proofs'))
+    source = os.path.join(rules, 'src', 'lib.rt')
+    types = re.sub(r'^impl .*?^}\n', '', open(source).read(), flags=re.M | re.S)
+    open(source, 'w').write(types + '\npub fn none() {}\n')
+    return rules
 
 
 def library(folder, name, modules):
