@@ -1,4 +1,4 @@
-// Makes the data of the program `vectors` again: roots and floors, answered by this machine's own square root and floor.
+// Makes the data of the program `replay_vectors` again: roots and floors, answered by this machine's own square root and floor.
 //
 //   rustc -O -o beside/build/vectors beside/vectors.rs && beside/build/vectors crates/replay_vectors/src
 //
