@@ -21,7 +21,7 @@ use Rattle.rules.specs.Flow.{Flow, flow}
 use Rattle.rules.specs.ManyBody.{standard}
 use Rattle.rules.specs.Force.{Push, pushCounts, pushLengths, pushEnds, run}
 use Rattle.rules.specs.Calls.{ForceInput, slotsOf, count, speeds, inputLengths, forceCheck, forceResult, forceAnswer, bufferAfter, lentCheck, numbersCheck}
-use Rattle.rules.proofs.RefusalNumbers.{Early}
+use Rattle.rules.proofs.RefusalNumbers.{Early, early-stays}
 use Rattle.sheet.specs.Columns.{putPairs}
 use Rattle.sheet.proofs.Columns.{put-beside}
 use Rattle.force.specs.declared.Ran.{Ran}
@@ -29,7 +29,6 @@ use Rattle.force.specs.Ran.{flowAt, ranCheck, ranOf}
 use Rattle.force_call.specs.Calls.{lent, noCounts, countsAfter, Settled, AfterForce}
 use Rattle.force.proofs.RanCheck.{late-met}
 use Rattle.list_checks.proofs.Checks.{then-both, require-true}
-use Rattle.list_checks.proofs.Scans.{early-stays}
 
 -- ---- lengths
 

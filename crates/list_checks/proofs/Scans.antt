@@ -1,6 +1,6 @@
 -- Checks: what an answered refusal says of a check, and scans for the first that refuses.
 use mathlib.Core.Path.{_≡_, refl, sym, ap, _∙_}
-use mathlib.Core.Bool.{Bool, true, false, _&&_, not, false≢true}
+use mathlib.Core.Bool.{Bool, true, false, _&&_, not}
 use mathlib.Core.List.{List, [], _∷_}
 use Prim.Native.Nat.{ℕ, suc, _+_, _-_, _*_, _/_, _≤_, _<_}
 use native.Mathlib.Nat.{sub-zero}
@@ -14,42 +14,19 @@ use lib.Ieee.{Float}
 use Rattle.rules.specs.Refusal.{pairsCheck}
 use Rattle.rules.specs.declared.Refusal.{Refusal}
 use Rattle.rules.specs.Plain.{all, countFrom, upTo}
-use Rattle.rules.specs.Outcome.{done, refused, refusal, Check, fine, require, _then_, _>>=_, refusalOf, checkFrom, onTheWay, zeroesWork}
+use Rattle.rules.specs.Outcome.{done, refused, refusal, Check, fine, require, _then_, _>>=_, refusalOf, checkFrom}
 use Rattle.rules.specs.Link.{Ends}
 use Rattle.rules.specs.Force.{endsFrom, endsOf}
 use Rattle.rules.specs.Number.{xAt, yAt}
 use Rattle.rules.proofs.RefusalLaws.{Refuses, of-each}
-use Rattle.rules.proofs.RefusalNumbers.{Early, one, two, three, four, five, ten, place-early, velocity-early}
+use Rattle.rules.proofs.RefusalNumbers.{Early, place-early, velocity-early}
+use Rattle.rules.proofs.Places.{early-numbered}
 use Rattle.list_checks.specs.declared.Pair.{Pair}
 use Rattle.list_checks.specs.declared.Pair.the-variants.{Place, Velocity}
 use Rattle.list_checks.specs.Checks.{pairCheck, endsAt, firstOf}
 use Rattle.sheet.proofs.PairLists.{pair-off}
 
 -- ---- one check and the refusal that was answered for it
-
--- a refusal by 1 to 5 or 10 leaves everything as it was
-pub early-keeps : (q : Refusal) → Early q → zeroesWork q ≡ false
-unfolding zeroesWork
-early-keeps q one = refl
-early-keeps q two = refl
-early-keeps q (three i) = refl
-early-keeps q (four i) = refl
-early-keeps q (five i) = refl
-early-keeps q (ten i) = refl
-
--- it isn't one of those that are met on the way
-pub early-stays : (q : Refusal) → Early q → onTheWay q ≡ false
-early-stays q one = refl
-early-stays q two = refl
-early-stays q (three i) = refl
-early-stays q (four i) = refl
-early-stays q (five i) = refl
-early-stays q (ten i) = refl
-
--- so its number isn't 0, by which the work slots are cleared
-early-numbered : (q : Refusal) → Early q → q .number ≡ 0 → ⊥
-unfolding zeroesWork
-early-numbered q h z = false≢true (sym (early-keeps q h) ∙ rw z)
 
 -- number 0 is a check that is fine
 pub passes : (c : Check) → Refuses Early c → refusalOf c .number ≡ 0 → c ≡ fine

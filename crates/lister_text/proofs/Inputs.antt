@@ -42,7 +42,7 @@ module _ {l : TreeInput} (h : Lent l) where
 
     -- with a number, the line that says it
     pub record Refuses : Type 0 where
-      pub small : r .refusal .number ≤ 10
+      pub small : r .refusal .number < 100
       pub text : lister (l .sheet) ≡ line (ascii "refused" ∷ decimal (r .refusal .number) ∷ [])
 
     pub refuses : (r .refusal .number ≡ 0 → ⊥) → Refuses
@@ -53,7 +53,7 @@ module _ {l : TreeInput} (h : Lent l) where
         go (refused q) e =
             let n : r .refusal .number ≡ q .number = number ∙ ap (λ (o : Outcome (Tree Extent)). refusalOf o .number) e in
             record {
-              small = subst (λ (k : ℕ). k ≤ 10) (sym n) (number-is mostListed l q e .1);
+              small = subst (λ (k : ℕ). k < 100) (sym n) (number-is mostListed l q e .1);
               text = lister-refused l slots lengths q e ∙ ap (λ (k : ℕ). line (ascii "refused" ∷ decimal k ∷ [])) (sym n);
             }
 

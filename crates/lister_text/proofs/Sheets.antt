@@ -4,7 +4,6 @@ use mathlib.Core.Bool.{Bool}
 use mathlib.Core.List.{List, [], _∷_, _++_}
 use Prim.Native.Nat.{ℕ, _%_, _≤_, _<_}
 use borrow.Author.Tests.{lt-leb, eq-eqb, ne-eqb}
-use lib.Dec.{lit≤, lit<}
 use lib.ListN.{length}
 use Rattle.rules.specs.declared.Extent.{Extent}
 use Rattle.rules.specs.declared.Refusal.{Refusal}
@@ -17,7 +16,7 @@ use Rattle.rules.specs.Cover.{extentOf}
 use Rattle.rules.specs.Tree.{Tree, nodes, treeOf, treeCheck, rowsOf, flat, chainsOf}
 use Rattle.rules.specs.Calls.{slotsOf, treeOfSheet, coverSheet, TreeInput, treeLengths, treeResult, treeAnswer, rowsAfter, chainsAfter}
 use Rattle.rules.specs.Listing.{ascii, decimal, line, extentLine, rowLines, mostListed, listerSlots, listing, lister}
-use Rattle.rules.proofs.RefusalNumbers.{Early, one, two, three, four, five, ten, Late, six, seven, eight, nine}
+use Rattle.rules.proofs.RefusalNumbers.{early-number, late-number}
 use Rattle.rules.proofs.Places.{tree-refuses}
 use Rattle.lister_text.specs.Told.{Told}
 use Rattle.lister_text.proofs.Accepted.{accepted}
@@ -85,24 +84,6 @@ lister-many sheet whole many =
     (tree-after sheet mostListed listerSlots fine
     ∙ ap₂ (λ (ok few : Bool). after sheet (require ok 10 0) (require few 1 0) fine listerSlots) (eq-eqb (length sheet % recordSize) 0 whole) (lt-leb (countOf sheet) mostListed many))
 
--- ---- a refusal's number is one of 1 to 10
-
-abbrev Numbered : Refusal → Type 0
-Numbered r = (0 < r .number) × (r .number ≤ 10)
-
-early-numbered : (r : Refusal) → Early r → Numbered r
-early-numbered r one = (lit< tt, lit≤ tt)
-early-numbered r two = (lit< tt, lit≤ tt)
-early-numbered r (three i) = (lit< tt, lit≤ tt)
-early-numbered r (four i) = (lit< tt, lit≤ tt)
-early-numbered r (five i) = (lit< tt, lit≤ tt)
-early-numbered r (ten i) = (lit< tt, lit≤ tt)
-
-late-numbered : (r : Refusal) → Late r → Numbered r
-late-numbered r (six i) = (lit< tt, lit≤ tt)
-late-numbered r (seven i) = (lit< tt, lit≤ tt)
-late-numbered r eight = (lit< tt, lit≤ tt)
-late-numbered r nine = (lit< tt, lit≤ tt)
-
-pub number-is : (most : ℕ) (l : TreeInput) (r : Refusal) → treeResult most l ≡ refused r → (0 < r .number) × (r .number ≤ 10)
-number-is most l r e = tree-refuses early-numbered late-numbered most l .by r e
+-- a refusal has a number, of two digits at most
+pub number-is : (most : ℕ) (l : TreeInput) (r : Refusal) → treeResult most l ≡ refused r → (0 < r .number) × (r .number < 100)
+number-is most l r e = tree-refuses early-number late-number most l .by r e

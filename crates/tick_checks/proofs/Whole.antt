@@ -16,9 +16,9 @@ use Rattle.rules.specs.Sheet.{countOf, particlesOf, wholeRecords, recordsCheck}
 use Rattle.rules.specs.Force.{kindOf}
 use Rattle.rules.specs.Tick.{SheetInput, entryCounts, strengthsRight, numbersNeeded, linksNeeded, entriesOf, forceEnds, forceRanges, count, entries, forces, tickLengths, sheetCheck}
 use Rattle.rules.proofs.RefusalLaws.{Refuses, _then·_, of-each}
-use Rattle.rules.proofs.RefusalNumbers.{Early, count-early, length-early, kind-early, sheet-early}
+use Rattle.rules.proofs.RefusalNumbers.{Early, early-stays, count-early, length-early, kind-early, sheet-early}
 use Rattle.list_checks.specs.Checks.{firstOf}
-use Rattle.list_checks.proofs.Scans.{early-stays, passes, stops}
+use Rattle.list_checks.proofs.Scans.{passes, stops}
 use Rattle.list_checks.proofs.Checks.{then-both, then-fine, require-true}
 use Rattle.tick_checks.specs.Fits.{Fits}
 use Rattle.tick_checks.specs.Input.{lentSheet, sizesCheck, contentsCheck}

@@ -3,19 +3,12 @@ use mathlib.Core.Path.{_≡_}
 use mathlib.Core.Bool.{true}
 use mathlib.Core.List.{List}
 use Prim.Native.Nat.{ℕ}
-use native.Mathlib.Omega.{arith}
 use lib.Ieee.{Float}
 use Rattle.rules.specs.declared.Refusal.{Refusal}
 use Rattle.rules.specs.Outcome.{refused, zeroesWork}
 use Rattle.rules.specs.Tree.{treeCheck}
-use Rattle.rules.proofs.RefusalNumbers.{Late, six, seven, eight, nine, tree-late}
-use Rattle.rules.proofs.Places.{late-zeroes}
-
-late-numbered : (r : Refusal) → Late r → r .number ≡ 0 → ⊥
-late-numbered r (six i) z = omega arith
-late-numbered r (seven i) z = omega arith
-late-numbered r eight z = omega arith
-late-numbered r nine z = omega arith
+use Rattle.rules.proofs.RefusalNumbers.{tree-late}
+use Rattle.rules.proofs.Places.{late-numbered, late-zeroes}
 
 pub tree-clears : (at : List Float) (n slots : ℕ) (r : Refusal) → treeCheck at n slots ≡ refused r → (r .number ≡ 0 → ⊥) × (zeroesWork r ≡ true)
 tree-clears at n slots r e = let l = tree-late at n slots .by r e in (late-numbered r l, late-zeroes r l)
