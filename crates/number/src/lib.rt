@@ -14,6 +14,7 @@ pub use plain::wide;
 pub use range::distance_range;
 pub use range::draw_range;
 pub use range::is_finite;
+pub use range::speed_range;
 pub use range::within;
 pub use whole::floor;
 pub use whole::try_floor;

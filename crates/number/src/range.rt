@@ -29,3 +29,10 @@ pub fn is_finite(x: f64) -> bool
     let infinity = 1.0 / 0.0;
     x > -infinity && x < infinity
 }
+
+// Of a velocity, on both axes.
+pub fn speed_range(vx: f64, vy: f64) -> bool
+    ensures { λ r. ⌜ r ≡ Number.speedRange vx vy ⌝ }
+{
+    is_finite(vx) && is_finite(vy)
+}

@@ -64,8 +64,8 @@ pub fn tick_is_right(
     work: &mut [u64],
 ) -> bool {
     let s = settings(case);
-    let forces = force_words(case);
+    let words = force_words(case);
     let mut alpha = argument(case, 0);
-    let a = tick_call::tick(sheet, &mut alpha, &forces, numbers, links, draws, s, work);
+    let a = tick_call::tick(sheet, &mut alpha, &words, numbers, links, draws, s, work);
     tick_ended_right(case, a, alpha, sheet, work)
 }

@@ -1,6 +1,6 @@
 // What is wrong with a sheet: its length, then the first bad record, within it flags, coordinates, velocities.
 use crate::records::record_at;
-use number::is_finite;
+use number::speed_range;
 use number::within;
 use rules::Particle;
 use rules::RECORD_SIZE;
@@ -39,10 +39,7 @@ pub fn place_check(i: u64, x: f64, y: f64) -> Refusal
 pub fn velocity_check(i: u64, vx: f64, vy: f64) -> Refusal
     ensures { λ r. ⌜ r ≡ refusalOf (velocityCheck i vx vy) ⌝ }
 {
-    if is_finite(vx) {
-        return Refusal::unless(is_finite(vy), 5, i);
-    }
-    Refusal::at(5, i)
+    Refusal::unless(speed_range(vx, vy), 5, i)
 }
 
 // Of the particle whose number is i.

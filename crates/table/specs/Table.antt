@@ -410,6 +410,9 @@ limits =
     -- iterations: those of Collide and Link alone are looked at
     ∷ refusesTick (lent [] (entry 2 65 0 0 1· 0· 0·) []) 1 0 7
     ∷ isRefusal 0 0 (tickAnswer (lent [] (entry 1 65 0 0 1· 0· 0· ++ entry 4 65 0 0 0· 0· 0·) []) halving .refusal)
+    -- nor are links, link strengths and settings of a kind that has none
+    ∷ isRefusal 0 0 (tickAnswer (lent [] (entry 0 65 8193 1 nan· nan· nan· ++ entry 1 65 8193 1 nan· nan· nan· ++ entry 2 64 8193 1 1· nan· nan· ++ entry 3 64 0 0 nan· nan· nan·) []) halving .refusal)
+    ∷ isRefusal 0 0 (tickAnswer (lent [] (entry 4 65 8193 1 0· 0· 0·) []) halving .refusal)
     -- 10 for a length comes before 1, and 1 before 2
     ∷ isRefusal 10 0 (treeRefusal 0 oddly)
     ∷ isRefusal 1 0 (treeRefusal 0 (lengths 0 1 8 0·))
@@ -420,7 +423,7 @@ limits =
     ∷ []
 
 pub every-limit-holds : all (λ b. b) limits ≡ true
-unfolding opened limits lent crowd flagged oddly records treeRefusal lengths entry halving half refusesTick equals isRefusal force before behind refusesForce two
+unfolding opened limits lent crowd flagged oddly records treeRefusal lengths nan· entry halving half refusesTick equals isRefusal force before behind refusesForce two
 every-limit-holds = refl
 
 -- ---- outlines, of document 02, R-10: the output holds 9 before the call

@@ -1,5 +1,5 @@
 // The check of one particle, by value. Number 0 at place 0 where nothing is refused.
-use number::is_finite;
+use number::speed_range;
 use number::within;
 use rules::Particle;
 use rules::Refusal;
@@ -11,8 +11,8 @@ ghost use Rattle.talemiku.specs.Pass.{resultOf};
 pub fn result_check(p: Particle) -> Refusal
     ensures { λ r. ⌜ r ≡ refusalOf (resultOf p) ⌝ }
 {
-    if within(p.x) && within(p.y) && is_finite(p.vx) {
-        return Refusal::unless(is_finite(p.vy), 9, 0);
+    if within(p.x) && within(p.y) {
+        return Refusal::unless(speed_range(p.vx, p.vy), 9, 0);
     }
     Refusal::at(9, 0)
 }

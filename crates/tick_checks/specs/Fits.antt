@@ -3,6 +3,7 @@ use mathlib.Core.Path.{_≡_}
 use mathlib.Core.Bool.{true}
 use mathlib.Core.List.{List}
 use Prim.Native.Nat.{ℕ, _≤_}
+use lib.ListN.{length}
 use lib.Ieee.{Float}
 use Rattle.rules.specs.declared.ForceEntry.{ForceEntry}
 use Rattle.rules.specs.Outcome.{fine, checkEach}
@@ -13,5 +14,5 @@ use Rattle.rules.specs.Tick.{entryCounts, entryLengths, forceEnds, forcesFrom}
 pub record Fits (n : ℕ) (entries : List ForceEntry) (numbers : List Float) (links : List ℕ) : Type 0 where
   pub few : n ≤ mostParticles
   pub counts : checkEach (λ _ e. entryCounts e) entries ≡ fine
-  pub lengths : entryLengths n entries numbers links ≡ true
+  pub lengths : entryLengths n entries (length numbers) (length links) ≡ true
   pub ends : checkEach (λ _ f. forceEnds n f) (forcesFrom n entries numbers links) ≡ fine

@@ -13,7 +13,7 @@ ghost use lib.Dec.{eqb};
 ghost use Rattle.rules.specs.Plain.{all, sum};
 ghost use Rattle.rules.specs.Outcome.{fine, checkEach};
 ghost use Rattle.rules.specs.Refusal.{mostParticles};
-ghost use Rattle.rules.specs.Tick.{entryCounts, strengthsRight, numbersNeeded, linksNeeded, entriesOf};
+ghost use Rattle.rules.specs.Tick.{entryCounts, strengthsRight, numbersNeeded, linksNeeded, entriesOf, entryLengths};
 
 // A link's strengths are none or one for each link.
 fn strengths_right(e: ForceEntry) -> bool
@@ -73,7 +73,7 @@ fn all_links(words: &[u64; FORCE_WORDS]) -> usize
 // Of lists with so many numbers and so many link ends. No sum is made before the counts and the strengths are known to be small.
 pub fn lengths_agree(words: &[u64; FORCE_WORDS], n: usize, numbers: usize, links: usize) -> bool
     requires { ⌜ (n ≤ mostParticles) × (checkEach (λ _ e. entryCounts e) (entriesOf (now words)) ≡ fine) ⌝ }
-    ensures { λ r. ⌜ (let es = entriesOf (now (words .entry)) in r ≡ all strengthsRight es && eqb numbers (sum (map (numbersNeeded n) es)) && eqb links (sum (map linksNeeded es) * 2)) ⌝ }
+    ensures { λ r. ⌜ r ≡ entryLengths n (entriesOf (now (words .entry))) numbers links ⌝ }
 {
     if !all_right(words) {
         return false;

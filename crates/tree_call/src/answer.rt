@@ -12,8 +12,8 @@ ghost use Rattle.rules.specs.Outcome.{Outcome, refusal, onTheWay};
 ghost use Rattle.rules.specs.Tree.{Tree};
 ghost use Rattle.tree_call.specs.Tree.{refusedTree, refusedWork, Comes, Answers};
 
-// Whether a refusal clears the work slots.
-fn met_while_working(number: u64) -> bool
+// Whether a refusal is met on the way, so that the work slots are cleared.
+fn on_the_way(number: u64) -> bool
     ensures { λ r. ⌜ r ≡ onTheWay (refusal number 0) ⌝ }
 {
     if number == 15 {
@@ -22,7 +22,7 @@ fn met_while_working(number: u64) -> bool
     6 <= number && number <= 9
 }
 
-// Counts zero and no extent; refusals that aren't met while working leave the work slots as they were.
+// Counts zero and no extent; refusals that aren't met on the way leave the work slots as they were.
 pub fn refuse(work: &mut [u64], refusal: Refusal) -> TreeAnswer
     ensures { λ r. ⌜ (r ≡ refusedTree refusal) × (now (work .exit) ≡ refusedWork refusal (now (work .entry))) ⌝ }
 {
@@ -37,7 +37,7 @@ pub fn refuse(work: &mut [u64], refusal: Refusal) -> TreeAnswer
             y1: 0.0,
         },
     };
-    if !met_while_working(number) {
+    if !on_the_way(number) {
         return answer;
     }
     clear(work);
