@@ -1,4 +1,6 @@
 // center.rs: the mean of all places is drawn to a point.
+#![tactic(auto)]
+
 ghost use Rattle.std.specs.Prelude.{◌≡◌, List, ◌*◌, ◌%◌, ◌≤◌, length};
 ghost use Rattle.rules.specs.Plain.{foldl};
 ghost use Rattle.rules.specs.Number.{◌⊕◌, 0·};

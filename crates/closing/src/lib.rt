@@ -1,4 +1,6 @@
 // particle.rs: the closing move, of one particle and of particles by columns.
+#![tactic(auto)]
+
 ghost use Rattle.std.specs.Prelude.{◌≡◌, ◌+◌, ◌*◌, ◌<◌, length};
 ghost use Rattle.rules.specs.Sheet.{places_of, speeds_of};
 ghost use Rattle.rules.specs.Particle as Rule;
@@ -8,7 +10,7 @@ use number::clamp;
 use rules::Particle;
 
 // A place and a velocity on one axis.
-#[derive(Drop)]
+#[derive(Clone, Copy)]
 pub struct Axis {
     pub place: f64,
     pub speed: f64,

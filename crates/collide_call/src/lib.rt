@@ -1,4 +1,6 @@
 // Collide called alone, on plain lists.
+#![tactic(auto)]
+
 ghost use Rattle.std.specs.Prelude.{◌≡◌, ◌&&◌, [], ◌*◌, ◌/◌, length};
 ghost use Rattle.rules.specs.Number.{0·};
 ghost use Rattle.rules.specs.Outcome.{fine, refusal_of};

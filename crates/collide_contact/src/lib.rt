@@ -1,4 +1,6 @@
 // Collide for one particle at one node: whether it lies out of reach, and what a leaf's first particle and this one do to each other.
+#![tactic(auto)]
+
 ghost use Rattle.std.specs.Prelude.{◌≡◌, ◌+◌, ◌*◌, ◌≤◌, ◌<◌, length, get_or, drop};
 ghost use Rattle.std.specs.Float.{nan};
 ghost use Rattle.rules.specs.Number.{◌⊕◌, ◌⊖◌};

@@ -4,7 +4,7 @@ ghost use Rattle.rules.specs.Flow as Flow;
 ghost use Rattle.force.specs.Draws.{drawn_of, shaken_of, From};
 
 // A number, or dry where a draw was needed and none was left.
-#[derive(Drop)]
+#[derive(Clone, Copy)]
 pub struct Drawn {
     pub value: f64,
     pub used: usize,
@@ -12,7 +12,7 @@ pub struct Drawn {
 }
 
 // A gap in which a draw stands for each difference that was zero (it may be 0.0 itself), or dry.
-#[derive(Drop)]
+#[derive(Clone, Copy)]
 pub struct Jiggled {
     pub x: f64,
     pub y: f64,
@@ -21,7 +21,7 @@ pub struct Jiggled {
 }
 
 // How many draws are used after a stage of a force, or dry.
-#[derive(Drop)]
+#[derive(Clone, Copy)]
 pub struct Spent {
     pub used: usize,
     pub dry: bool,

@@ -1,4 +1,6 @@
 // What the forces share: the lent draws, a push on a velocity, and how a force ends.
+#![tactic(auto)]
+
 mod draws;
 mod push;
 
@@ -11,7 +13,7 @@ pub use push::{push_back, push_on};
 use rules::{Progress, Refusal};
 
 // How a force ended: refused, or with number 0; and what it hands on, with alpha as it was handed in.
-#[derive(Drop)]
+#[derive(Clone, Copy)]
 pub struct Ran {
     pub refusal: Refusal,
     pub progress: Progress,

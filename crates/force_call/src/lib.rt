@@ -1,4 +1,6 @@
 // What the calls of all forces share: the lengths of what is lent, and how a force that has run is answered.
+#![tactic(auto)]
+
 ghost use Rattle.std.specs.Prelude.{◌≡◌, [], ◌*◌, ◌%◌, length};
 ghost use Rattle.rules.specs.Outcome.{fine, ◌then◌};
 ghost use Rattle.rules.specs.Refusal.{result_check};

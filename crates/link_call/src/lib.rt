@@ -1,4 +1,6 @@
 // Link called alone, on plain lists.
+#![tactic(auto)]
+
 ghost use Rattle.std.specs.Prelude.{◌≡◌, ◌&&◌, [], ◌*◌, ◌/◌, ◌%◌, eqb, length};
 ghost use Rattle.rules.specs.Outcome.{fine, refusal_of};
 ghost use Rattle.rules.specs.Sheet.{pair_size};

@@ -1,4 +1,6 @@
 // Link's numbers for one link: its ends counted, the bias and the strength that follow from the counts.
+#![tactic(auto)]
+
 ghost use Rattle.std.specs.Prelude.{◌≡◌, ◌+◌, ◌<◌, ◌^◌, min, length, get_or};
 ghost use Rattle.rules.specs.Number.{◌⊘◌, 1·, float};
 ghost use Rattle.link_tally.specs.Tally.{one_more, strength_or};

@@ -1,4 +1,6 @@
 // The checks of the lists that a force is lent and of what it leaves. Number 0 at place 0 where nothing is refused.
+#![tactic(auto)]
+
 ghost use Rattle.std.specs.Prelude.{◌≡◌, [], ◌∷◌, ◌/◌, length};
 ghost use Rattle.rules.specs.Plain.{all};
 ghost use Rattle.rules.specs.Outcome.{refusal_of, require_all, ◌then◌};
@@ -12,7 +14,7 @@ use rules::Refusal;
 use sheet::{place_check, velocity_check};
 
 // What a number of a list is to be.
-#[derive(Drop)]
+#[derive(Clone, Copy)]
 enum Range {
     Within,
     Distance,
@@ -95,7 +97,7 @@ pub fn ends_check(links: &[u32], n: usize) -> Refusal
 }
 
 // What pairs of numbers are of particles.
-#[derive(Drop)]
+#[derive(Clone, Copy)]
 enum Pair {
     Place,
     Velocity,

@@ -1,4 +1,6 @@
 // The lister: reads a sheet from standard input to its end and writes its listing.
+#![tactic(auto)]
+
 ghost use Rattle.std.specs.Prelude.{◌≡◌, length};
 ghost use Rattle.lister_text.specs.Input.{kept_bytes, listing_bytes};
 

@@ -1,4 +1,6 @@
 // Writes the listings of sheets, each behind its name: most are zeros but for a pair of words.
+#![tactic(auto)]
+
 ghost use Rattle.std.specs.Prelude.{◌≡◌, ◌+◌, ◌≤◌, min, length};
 ghost use Rattle.rules.specs.Sheet.{pair_size};
 ghost use Rattle.lister_text.specs.Input.{kept_bytes};

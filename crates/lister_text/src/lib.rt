@@ -1,4 +1,6 @@
 // The lister's text: what is written for a sheet, as bytes.
+#![tactic(auto)]
+
 mod input;
 mod lines;
 mod list;

@@ -1,4 +1,6 @@
 // ManyBody called alone, on plain lists.
+#![tactic(auto)]
+
 ghost use Rattle.std.specs.Prelude.{◌≡◌, ◌&&◌, [], ◌*◌, ◌/◌, length};
 ghost use Rattle.rules.specs.Outcome.{fine, refusal_of};
 ghost use Rattle.rules.specs.Sheet.{pair_size};

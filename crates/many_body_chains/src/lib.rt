@@ -1,4 +1,6 @@
 // A leaf's chain of particles, followed by its links: the strengths of its members, and their sum.
+#![tactic(auto)]
+
 ghost use Rattle.std.specs.Prelude.{◌≡◌, ◌<◌, length};
 ghost use Rattle.rules.specs.ManyBody.{strength_of, leaf_charge};
 ghost use Rattle.many_body_chains.specs.Chain.{Chain};

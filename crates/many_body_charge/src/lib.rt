@@ -1,4 +1,6 @@
 // many_body.rs: the charge of each node, laid in its value words, children first.
+#![tactic(auto)]
+
 ghost use Rattle.std.specs.Prelude.{◌≡◌, ◌+◌, ◌*◌, ◌≤◌, ◌<◌, length};
 ghost use Rattle.rules.specs.Plain.{foldl};
 ghost use Rattle.rules.specs.Number.{◌⊗◌};
@@ -16,7 +18,7 @@ use tree_walk::visit_after;
 use tree_walk::visit_after::Path;
 
 // A place and the strength that acts from there.
-#[derive(Drop)]
+#[derive(Clone, Copy)]
 pub struct Charge {
     pub x: f64,
     pub y: f64,
@@ -24,7 +26,7 @@ pub struct Charge {
 }
 
 // The sums over a node's children.
-#[derive(Drop)]
+#[derive(Clone, Copy)]
 pub struct Sums {
     pub x: f64,
     pub y: f64,

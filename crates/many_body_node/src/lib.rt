@@ -1,4 +1,6 @@
 // ManyBody for one particle at one node: a far cell pulls it as a whole, the members of a near leaf one by one.
+#![tactic(auto)]
+
 ghost use Rattle.std.specs.Prelude.{◌≡◌, ℕ, ◌+◌, ◌*◌, ◌-◌, ◌≤◌, ◌<◌, length, drop};
 ghost use Rattle.rules.specs.Refusal.{most_particles};
 ghost use Rattle.rules.specs.Flow.{gap, flow};
@@ -19,7 +21,7 @@ use rules::{Extent, Tuning, Visit};
 use tree_slots::store;
 
 // What a node leaves.
-#[derive(Drop)]
+#[derive(Clone, Copy)]
 pub struct NodeLeft {
     pub used: usize,
     pub dry: bool,

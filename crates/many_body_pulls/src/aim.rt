@@ -10,7 +10,7 @@ use rules::Tuning;
 use square_root::root;
 
 // A gap in which a draw stands for each difference that was zero (it may be 0.0 itself), and its length, or dry where a draw was needed and none was left.
-#[derive(Drop)]
+#[derive(Clone, Copy)]
 pub struct Aim {
     pub x: f64,
     pub y: f64,

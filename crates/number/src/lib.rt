@@ -1,4 +1,6 @@
 // Numbers after document 01: floor, bits, ranges and small helpers. Each function answers what a definition of `rules` says, but for `index` and `wide`, which only change a number's type.
+#![tactic(auto)]
+
 mod bits;
 mod plain;
 mod range;

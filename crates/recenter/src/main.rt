@@ -1,4 +1,6 @@
 // The program recenter: reads a sheet from standard input, runs as many ticks as its argument says with Center in force slot 0, and writes the sheet.
+#![tactic(auto)]
+
 ghost use Rattle.std.specs.Prelude.{◌≡◌, min, length};
 ghost use Rattle.recenter_call.specs.Recentered.{kept_bytes};
 

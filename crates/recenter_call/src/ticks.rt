@@ -8,7 +8,7 @@ use rules::MOST_TICKS;
 const MOST_ASKED: u64 = MOST_TICKS as u64 + 1;
 
 // Whether an argument is a whole number, and how many ticks that is, cut; 0 where it is none.
-#[derive(Drop)]
+#[derive(Clone, Copy)]
 pub struct TicksAsked {
     pub whole: bool,
     pub ticks: u64,

@@ -1,4 +1,6 @@
 // What is checked of a sheet that is written from particles, or read into them, before its records are (document 02, R-1).
+#![tactic(auto)]
+
 ghost use Rattle.std.specs.Prelude.{◌≡◌};
 ghost use Rattle.rules.specs.Outcome.{refusal_of};
 ghost use Rattle.rules.specs.Records.{room_check, read_check};

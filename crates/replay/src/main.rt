@@ -1,5 +1,7 @@
 // Runs a stored sample of the Rust's answers through the calls that the entries hand on to: a case is right if the answer and every lent buffer after the call are what the sample
 // says. Writes, kind by kind, how many of how many are right. beside/pack makes the sample and says how it is laid out.
+#![tactic(auto)]
+
 use crate::numbers::{floor_is_right, root_is_right};
 use crate::sheets::sheet_is_right;
 use replay_answers::{force_is_right, tree_is_right};

@@ -1,5 +1,7 @@
 // Cases of a tree, of a force alone and of a tick: each `.._is_right` runs a case of the sample, and says whether the answer and every lent buffer after the call are what the
 // sample says. Of steps what stands below their call is here.
+#![tactic(auto)]
+
 mod forces;
 mod sheets;
 mod trees;

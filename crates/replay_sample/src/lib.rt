@@ -1,4 +1,6 @@
 // A stored sample of the Rust's answers: the parts of a case, and the lists that a call is lent, read before it and compared after it.
+#![tactic(auto)]
+
 mod counts;
 mod input;
 mod lists;

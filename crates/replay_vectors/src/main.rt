@@ -1,4 +1,6 @@
 // Runs stored roots and floors through `square_root` and `number`, and writes how many of how many are right.
+#![tactic(auto)]
+
 ghost use Rattle.std.specs.Prelude.{◌≡◌, length};
 
 mod floors;

@@ -94,6 +94,7 @@ pub record Kept (s : Present) : Type 0 where
 
 in_snoc : (i p : ℕ) (l : List ℕ) → ((i : ℕ) → In i l → i < p) → In i (l ++ (p ∷ [])) → i < p + 1
 in_snoc i p [] h (inl e) = omega arith
+in_snoc i p [] h (inr m) = elim m [ ]
 in_snoc i p (j ∷ l) h (inl e) = omega (arith, h i (inl e))
 in_snoc i p (j ∷ l) h (inr m) = in_snoc i p l (λ k n. h k (inr n)) m
 
@@ -327,7 +328,7 @@ module _ (at at' : List Float) where
   cover_from : (c : Covered) (is : List ℕ) → Agree at at' is
       → foldl (λ c i. cover_point c (floor (x_at at i)) (floor (y_at at i))) c is ≡ foldl (λ c i. cover_point c (floor (x_at at' i)) (floor (y_at at' i))) c is
   cover_from c [] h = refl
-  cover_from c (i ∷ is) h = rw ((h i (inl refl)).0, (h i (inl refl)).1) (cover_from _ is (λ j m. h j (inr m)))
+  cover_from c (i ∷ is) h = rw ((h i (inl refl)).0, (h i (inl refl)).1) (cover_from (cover_point c (floor (x_at at' i)) (floor (y_at at' i))) is (λ j m. h j (inr m)))
 
   pub cover_agree : (is : List ℕ) → Agree at at' is → cover_all at is ≡ cover_all at' is
   unfolding cover_all

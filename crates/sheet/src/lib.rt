@@ -1,4 +1,6 @@
 // A sheet's bytes: 40-byte records, what is wrong with them, and pairs of numbers in and out.
+#![tactic(auto)]
+
 mod check;
 mod pairs;
 mod records;

@@ -1,4 +1,6 @@
 // The standard input of a program that reads a sheet: how long it is, though only its first bytes are kept.
+#![tactic(auto)]
+
 ghost use Rattle.std.specs.Prelude.{◌≡◌, ◌^◌, ◌≤◌, min};
 
 // Reads on, and answers how many bytes came: 0 at the end.

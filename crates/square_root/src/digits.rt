@@ -8,14 +8,14 @@ ghost use Rattle.square_root.specs.Steps.{Unpacked, Radicand, BetweenSteps, Step
 const LEAD: u64 = 4503599627370496;
 
 // m * 2^k
-#[derive(Drop)]
+#[derive(Clone, Copy)]
 struct Parts {
     m: u64,
     k: u64,
 }
 
 // The root q of the digits taken, what is left of them, and the digits to come.
-#[derive(Drop)]
+#[derive(Clone, Copy)]
 struct Digits {
     q: u64,
     rem: u64,

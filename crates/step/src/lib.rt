@@ -1,4 +1,6 @@
 // Many ticks by columns, until alpha is low, the budget is spent or a tick is refused.
+#![tactic(auto)]
+
 ghost use Rattle.std.specs.Prelude.{◌≡◌, ◌++◌, ◌+◌, ◌*◌, ◌≤◌, length, take, drop};
 ghost use Rattle.rules.specs.Refusal.{most_ticks};
 ghost use Rattle.rules.specs.Calls.{slots_of};
@@ -12,7 +14,7 @@ use tick::{Turn, tick_on};
 use tick_close::{Stepped, copy_from, copy_to};
 
 // What a step is set to: how its ticks are, where alpha begins and where it is to stop, and how many ticks there may be.
-#[derive(Drop)]
+#[derive(Clone, Copy)]
 pub struct Plan {
     pub settings: Settings,
     pub alpha: f64,

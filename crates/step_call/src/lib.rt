@@ -1,4 +1,6 @@
 // A step of many ticks, called on a sheet.
+#![tactic(auto)]
+
 ghost use Rattle.std.specs.Prelude.{◌≡◌, [], ◌∷◌, ◌++◌, ◌*◌, length};
 ghost use Rattle.rules.specs.Number.{float_of};
 ghost use Rattle.rules.specs.Outcome.{fine};

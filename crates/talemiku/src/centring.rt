@@ -13,7 +13,7 @@ use sheet::record_check;
 use tick_checks::settings_check;
 
 // A number for each axis: sums of places, and how far to move back.
-#[derive(Drop)]
+#[derive(Clone, Copy)]
 pub struct Pair {
     pub x: f64,
     pub y: f64,

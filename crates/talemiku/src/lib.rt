@@ -1,5 +1,7 @@
 // The entries for a host: numbers and slices in, a struct out. Each only calls the function that does the work, a tick and a step with their numbers as settings, and says the same of it; Center, the closing move, the writer and the reader of records do it themselves, on a lent list of particles.
 // What follows from these promises, for any bytes, is shown in proofs/Theorems.
+#![tactic(auto)]
+
 mod applying;
 mod centring;
 mod check;

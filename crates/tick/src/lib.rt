@@ -1,4 +1,6 @@
 // One tick by columns: alpha's step, the forces, the closing move.
+#![tactic(auto)]
+
 ghost use Rattle.std.specs.Prelude.{◌≡◌, ◌+◌, ◌*◌, ◌<◌, ◌^◌, length};
 ghost use Rattle.rules.specs.Calls.{slots_of};
 ghost use Rattle.rules.specs.Tick.{entries_of, forces_from, tick_home};
@@ -14,7 +16,7 @@ use tick_close::{close, next_alpha};
 use tick_forces::run_forces;
 
 // What a tick is set to, and what it takes over.
-#[derive(Drop)]
+#[derive(Clone, Copy)]
 pub struct Turn {
     pub settings: Settings,
     pub progress: Progress,

@@ -1,4 +1,6 @@
 // What a tick and a step are lent beside their sheet: the force slots' entries, and every check of the whole input in its order.
+#![tactic(auto)]
+
 mod check;
 mod counts;
 mod ends;

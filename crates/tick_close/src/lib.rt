@@ -1,4 +1,6 @@
 // What a tick does before and after its force slots: alpha's step and the closing move; and how a call of a tick or a step is settled.
+#![tactic(auto)]
+
 pub mod settle;
 
 ghost use Rattle.std.specs.Prelude.{◌≡◌, List, ℕ, ◌+◌, ◌*◌, ◌≤◌, length, take, drop, Float};
@@ -69,7 +71,7 @@ pub fn close(
 }
 
 // How a step ended: the ticks done, the refusal of the tick that ended it or number 0, and what they left.
-#[derive(Drop)]
+#[derive(Clone, Copy)]
 pub struct Stepped {
     pub ticks: u64,
     pub refusal: Refusal,

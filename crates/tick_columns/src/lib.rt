@@ -1,4 +1,6 @@
 // Particles by columns: read from a sheet and written back, and how a stage of a tick on them ends.
+#![tactic(auto)]
+
 mod ended;
 mod sheets;
 

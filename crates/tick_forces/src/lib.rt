@@ -1,4 +1,6 @@
 // The forces of a tick's slots, in ascending number.
+#![tactic(auto)]
+
 ghost use Rattle.std.specs.Prelude.{◌+◌, ◌<◌, ◌^◌, length};
 ghost use Rattle.rules.specs.Outcome.{fold_stages};
 ghost use Rattle.rules.specs.Calls.{slots_of};

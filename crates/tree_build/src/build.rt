@@ -13,7 +13,7 @@ use tree_placing::Inserted;
 use tree_slots::Quadtree;
 
 // The tree, or refusal 6 or 7 with the particle's number as its place: `build_outcome`.
-#[derive(Drop)]
+#[derive(Clone, Copy)]
 pub enum Built {
     Tree(Quadtree),
     Refused(Refusal),

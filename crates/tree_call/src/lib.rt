@@ -1,4 +1,6 @@
 // The tree call: a sheet's tree, listed parent first with its chains.
+#![tactic(auto)]
+
 pub mod answer;
 mod call;
 

@@ -10,14 +10,14 @@ ghost use Rattle.tree_cells.specs.Cover.{square_of, Reachable, Near, DoubledTo, 
 use rules::Extent;
 
 // An extent and the quadrant that the one before takes in it.
-#[derive(Drop)]
+#[derive(Clone, Copy)]
 pub struct Doubled {
     pub extent: Extent,
     pub quadrant: usize,
 }
 
 // An extent and how many doublings led to it.
-#[derive(Drop)]
+#[derive(Clone, Copy)]
 pub struct Covered {
     pub extent: Extent,
     pub doublings: usize,

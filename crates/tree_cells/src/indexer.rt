@@ -6,7 +6,7 @@ ghost use Rattle.tree_cells.specs.Indexer.{indexer, cell_of, Descends};
 use crate::extent::{middle, quarter};
 use rules::Extent;
 
-#[derive(Drop)]
+#[derive(Clone, Copy)]
 pub struct Indexer {
     pub x0: f64,
     pub y0: f64,
@@ -17,7 +17,7 @@ pub struct Indexer {
 }
 
 // A quadrant's number and the indexer of that quarter.
-#[derive(Drop)]
+#[derive(Clone, Copy)]
 pub struct Descent {
     pub quadrant: usize,
     pub indexer: Indexer,

@@ -1,4 +1,6 @@
 // A particle leaves the chain at its point: next[i] is 0 for the end and j + 1 for particle j; tail[f] is the last particle of the chain whose first is f.
+#![tactic(auto)]
+
 ghost use Rattle.std.specs.Prelude.{◌≡◌, List, ℕ, ◌+◌, length};
 ghost use Rattle.tree_leaving.specs.Leaving.{Member, Precedes, Left};
 

@@ -1,4 +1,6 @@
 // A particle goes into a tree whose extent holds it, after src/quadtree/add.rs of fjadra. Where it ends is found by reading alone.
+#![tactic(auto)]
+
 ghost use Rattle.std.specs.Prelude.{◌≡◌, false, List, ℕ, ◌+◌, ◌*◌, ◌≤◌, ◌<◌, max};
 ghost use Rattle.rules.specs.Refusal.{most_particles};
 ghost use Rattle.rules.specs.Tree.{same, greatest_level};
@@ -10,7 +12,7 @@ use tree_leaves::{chain, leaf, point};
 use tree_slots::{Quadtree, store};
 
 // Where a point's way down the tree ends.
-#[derive(Drop)]
+#[derive(Clone, Copy)]
 pub enum Stop {
     // A leaf: its slot, its level, its first particle and its cell.
     Leaf(usize, usize, usize, Extent),
@@ -19,7 +21,7 @@ pub enum Stop {
 }
 
 // The tree with the particle, or refusal 6, or refusal 7: `insert_outcome` says which case is which.
-#[derive(Drop)]
+#[derive(Clone, Copy)]
 pub enum Inserted {
     Done(Quadtree),
     Deep,

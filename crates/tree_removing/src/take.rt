@@ -10,7 +10,7 @@ use crate::{tidy, way};
 use tree_slots::{Quadtree, store};
 
 // Where a leaf stands: its slot, and as a number the node above it, 0 for none, with the leaf's quadrant there.
-#[derive(Drop)]
+#[derive(Clone, Copy)]
 pub struct Spot {
     pub leaf: usize,
     pub above: usize,

@@ -8,7 +8,7 @@ use crate::way;
 use tree_slots::{Quadtree, store};
 
 // An internal node, and its only child, a leaf, as its number; 0 for none.
-#[derive(Drop)]
+#[derive(Clone, Copy)]
 pub struct Fold {
     pub slot: usize,
     pub child: usize,

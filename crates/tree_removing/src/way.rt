@@ -9,7 +9,7 @@ use tree_leaves::point;
 use tree_slots::{Quadtree, store};
 
 // An internal node and one of its quadrants.
-#[derive(Drop)]
+#[derive(Clone, Copy)]
 pub struct Edge {
     pub slot: usize,
     pub quadrant: usize,

@@ -1,4 +1,6 @@
 // The listing of a tree, parent first: four numbers a node, and the particle numbers of the chains in that order.
+#![tactic(auto)]
+
 ghost use Rattle.std.specs.Prelude.{◌≡◌, List, [], ◌∷◌, ℕ, ◌+◌, ◌-◌, ◌*◌, ◌≤◌, length, replicate};
 ghost use Rattle.rules.specs.declared.Extent.{Extent};
 ghost use Rattle.rules.specs.Plain.{overwritten, padded};
@@ -14,7 +16,7 @@ const INTERNAL: u32 = 1;
 const LEAF: u32 = 2;
 
 // How many nodes are listed, and how many particles.
-#[derive(Drop)]
+#[derive(Clone, Copy)]
 struct Cursor {
     nodes: usize,
     chained: usize,

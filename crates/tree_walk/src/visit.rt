@@ -15,7 +15,7 @@ pub struct Walk {
     pub height: usize,
 }
 
-#[derive(Drop)]
+#[derive(Clone, Copy)]
 pub struct Waiting {
     pub slot: usize,
     pub extent: Extent,

@@ -13,7 +13,7 @@ pub struct Path {
 }
 
 // A node that is handed out, and the height of the path without it.
-#[derive(Drop)]
+#[derive(Clone, Copy)]
 pub struct Handed {
     pub slot: usize,
     pub height: usize,

@@ -1,4 +1,6 @@
 // Little-endian words in bytes.
+#![tactic(auto)]
+
 ghost use Rattle.std.specs.Prelude.{◌≡◌, ◌+◌, ◌≤◌, ◌<◌, length};
 ghost use Rattle.rules.specs.Plain.{overwritten};
 ghost use Rattle.rules.specs.Sheet.{word_at, bytes_of};

@@ -9,9 +9,9 @@ returns : tie.Need-returns
 returns c ps e =
     let s = c.before.before in
     let a = s.before.before.before.before.before.before.before.args in
-    s.shift-all.ensures
-    ∙ rw (s.before.before.offset2.ensures, s.before.before.before.before.offset.ensures, ← e) (sym (centered-places a.x a.y a.strength ps))
+    s.shift_all.ensures
+    ∙ rw (s.before.before.offset-sy.ensures, s.before.before.before.before.offset-sx.ensures, ← e) (sym (centered-places a.x a.y a.strength ps))
 
-pub center-all-spec : {M : Type 1} → statement M
-center-all-spec =
+pub center_all_spec : {M : Type 1} → statement M
+center_all_spec =
     tie.close (tie.spec (λ c κs. search rules) (λ c κs. search rules) (λ c κs. search rules) (λ c. search rules) returns)

@@ -11,7 +11,7 @@ use Rattle.center.proofs.offset.Statement.{statement}
 use Rattle.center.proofs.offset.Tie as tie
 
 -- a count below 2 ^ 53 is exact
-int-to-float-result : tie.Need-int-to-float-result
+int-to-float-result : tie.Need-int_to_float-result
 unfolding in_float
 int-to-float-result c = le→leb (length c.before.before.before.args.places.now / 2) 9007199254740992 (omega arith)
 
@@ -19,7 +19,7 @@ returns : tie.Need-returns
 unfolding offset
 returns c =
     let a = c.before.before.before.args in
-    rw (c.before.sum-axis.ensures, column-length a.axis a.places.now)
+    rw (c.before.sum_axis.ensures, column-length a.axis a.places.now)
 
-pub offset-spec : {M : Type 1} → statement M
-offset-spec = tie.close (tie.spec (λ c κs. search rules) int-to-float-result returns)
+pub offset_spec : {M : Type 1} → statement M
+offset_spec = tie.close (tie.spec (λ c κs. search rules) int-to-float-result returns)

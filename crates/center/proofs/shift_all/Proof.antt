@@ -9,29 +9,29 @@ use Rattle.center.proofs.Centring.{shift-turn, shift_end}
 use Rattle.center.proofs.shift_all.Statement.{statement}
 use Rattle.center.proofs.shift_all.Tie as tie
 
-abbrev invariant-loop : tie.invariant-loop
+abbrev invariant-loop : tie.invariant-loop-i
 invariant-loop sx sy places₀ n i₀ places i =
     (i ≤ n)
     × (length places ≡ length places₀)
     × (shifted_pairs sx sy places₀ ≡ take (i * 2) places ++ shifted_pairs sx sy (drop (i * 2) places))
 
-abbrev decreases-loop : tie.decreases-loop
+abbrev decreases-loop : tie.decreases-loop-i
 decreases-loop sx sy places₀ n i₀ places i = n - i
 
-loop-again : tie.Need-loop-preserved invariant-loop decreases-loop
+loop-again : tie.Need-loop-i-preserved invariant-loop decreases-loop
 loop-again c =
-    let l = c.before.before.before.loop in
+    let l = c.before.before.before.loop-i in
     let s = c.before.before.before.before in
     (omega arith, simp length-set l.invariant.1, l.invariant.2 ∙ shift-turn s.args.sx s.args.sy l.places l.i (omega arith))
 
 returns : tie.Need-returns invariant-loop decreases-loop
 returns c =
-    let l = c.before.loop in
+    let l = c.before.loop-i in
     let s = c.before.before in
     sym (l.invariant.2 ∙ shift_end s.args.sx s.args.sy l.places l.i (omega arith))
 
-pub shift-all-spec : {M : Type 1} → statement M
-shift-all-spec =
+pub shift_all_spec : {M : Type 1} → statement M
+shift_all_spec =
     tie.close
     (tie.spec
     invariant-loop

@@ -8,5 +8,5 @@ returns : tie.Need-returns
 unfolding shifted
 returns c = refl
 
-pub shifted-spec : {M : Type 1} → statement M
-shifted-spec = tie.close (tie.spec returns)
+pub shifted_spec : {M : Type 1} → statement M
+shifted_spec = tie.close (tie.spec returns)

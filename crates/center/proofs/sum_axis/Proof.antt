@@ -10,27 +10,27 @@ use Rattle.center.proofs.Centring.{sum-turn, sum_end}
 use Rattle.center.proofs.sum_axis.Statement.{statement}
 use Rattle.center.proofs.sum_axis.Tie as tie
 
-abbrev invariant-loop : tie.invariant-loop
+abbrev invariant-loop : tie.invariant-loop-i
 invariant-loop places axis n sum₀ i₀ sum i =
     (i ≤ n) × (foldl ◌⊕◌ 0· (column axis places) ≡ foldl ◌⊕◌ sum (column axis (drop (i * 2) places)))
 
-abbrev decreases-loop : tie.decreases-loop
+abbrev decreases-loop : tie.decreases-loop-i
 decreases-loop places axis n sum₀ i₀ sum i = n - i
 
-loop-again : tie.Need-loop-preserved invariant-loop decreases-loop
+loop-again : tie.Need-loop-i-preserved invariant-loop decreases-loop
 loop-again c =
-    let l = c.before.before.loop in
+    let l = c.before.before.loop-i in
     let s = c.before.before.before in
     (omega arith, l.invariant.1 ∙ sum-turn s.args.places.now s.args.axis l.sum l.i s.requires (omega arith))
 
 returns : tie.Need-returns invariant-loop decreases-loop
 returns c =
-    let l = c.before.loop in
+    let l = c.before.loop-i in
     let s = c.before.before in
     sym (l.invariant.1 ∙ sum_end s.args.places.now s.args.axis l.sum l.i (omega arith))
 
-pub sum-axis-spec : {M : Type 1} → statement M
-sum-axis-spec =
+pub sum_axis_spec : {M : Type 1} → statement M
+sum_axis_spec =
     tie.close
     (tie.spec
     invariant-loop

@@ -4,10 +4,10 @@ use borrow.Author.Tests.{not-true, not-false}
 use Rattle.collide_call.proofs.lengths_agree.Statement.{statement}
 use Rattle.collide_call.proofs.lengths_agree.Tie as tie
 
-pub lengths-agree-spec : {M : Type 1} → statement M
-lengths-agree-spec =
+pub lengths_agree_spec : {M : Type 1} → statement M
+lengths_agree_spec =
     tie.close
     (tie.spec
     (λ c κs. search rules)
-    (λ c. rw (← c.before.input-lengths.ensures, not-true c.before.input-lengths.result c.if1.true))
-    (λ c. rw (← c.before.input-lengths.ensures, not-false c.before.input-lengths.result c.if1.false)))
+    (λ c. rw (← c.before.input_lengths.ensures, not-true c.before.input_lengths.result c.if-not-input_lengths.true-raw))
+    (λ c. rw (← c.before.input_lengths.ensures, not-false c.before.input_lengths.result c.if-not-input_lengths.false-raw)))

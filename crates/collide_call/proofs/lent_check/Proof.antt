@@ -7,7 +7,7 @@ use Rattle.collide_call.proofs.lent_check.Statement.{statement}
 use Rattle.collide_call.proofs.lent_check.Tie as tie
 
 -- the points of the code, each from a later one
-abbrev entry : tie.After-count-check → tie.Start
+abbrev entry : tie.After-count_check → tie.Start
 entry c = c.before.before.before.before
 
 returns : tie.Need-returns
@@ -19,11 +19,11 @@ returns c =
     let particles = often.before in
     let a = (entry particles).args in
     lent_answer (lent a.places.now a.buffer.now a.start [] []) a.radii.now a.iterations
-    particles.count-check.result often.count-check2.result counts.first.result lengths.lengths-check.result c.first2.result agree.lengths-agree.result
-    particles.count-check.ensures often.count-check2.ensures counts.first.ensures agree.lengths-agree.ensures lengths.lengths-check.ensures c.first2.ensures
+    particles.count_check.result often.count_check-2.result counts.first-counts.result lengths.lengths_check-lengths.result c.first.result agree.lengths_agree.result
+    particles.count_check.ensures often.count_check-2.ensures counts.first-counts.ensures agree.lengths_agree.ensures lengths.lengths_check-lengths.ensures c.first.ensures
 
-pub lent-check-spec : {M : Type 1} → statement M
-lent-check-spec =
+pub lent_check_spec : {M : Type 1} → statement M
+lent_check_spec =
     tie.close
     (tie.spec
     (λ c κs. search rules)

@@ -5,7 +5,7 @@ use Rattle.collide_call.proofs.numbers_check.Statement.{statement}
 use Rattle.collide_call.proofs.numbers_check.Tie as tie
 
 -- the points of the code, each from a later one
-abbrev entry : tie.After-points-check → tie.Start
+abbrev entry : tie.After-points_check-points → tie.Start
 entry c = c.before.before.before.before.before
 
 returns : tie.Need-returns
@@ -19,12 +19,12 @@ returns c =
     let s = entry points in
     let a = s.args in
     numbers_answer a.places.now a.speeds.now a.radii.now a.draws.now a.strength
-    points.points-check.result some.distances-check.result setting.setting-check.result own.first.result both.first2.result more.draws-check.result c.first3.result
-    s.pre
-    points.points-check.ensures some.distances-check.ensures setting.setting-check.ensures own.first.ensures both.first2.ensures more.draws-check.ensures c.first3.ensures
+    points.points_check-points.result some.distances_check.result setting.setting_check.result own.first-own.result both.first.result more.draws_check.result c.first-2.result
+    s.requires
+    points.points_check-points.ensures some.distances_check.ensures setting.setting_check.ensures own.first-own.ensures both.first.ensures more.draws_check.ensures c.first-2.ensures
 
-pub numbers-check-spec : {M : Type 1} → statement M
-numbers-check-spec =
+pub numbers_check_spec : {M : Type 1} → statement M
+numbers_check_spec =
     tie.close
     (tie.spec
     (λ c κs. search rules)

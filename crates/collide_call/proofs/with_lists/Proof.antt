@@ -17,13 +17,13 @@ use Rattle.collide_call.proofs.with_lists.Statement.{statement}
 use Rattle.collide_call.proofs.with_lists.Tie as tie
 
 -- the points of the code, each from a later one
-abbrev entry : tie.After-on-part-arg → tie.Start
+abbrev entry : tie.After-on_part-arg-1 → tie.Start
 entry c = c.before.before.before.before.before.before
 
-abbrev fast : tie.After-speeds → tie.Start
+abbrev fast : tie.After-speeds-1 → tie.Start
 fast c = entry c.before
 
-abbrev chained : tie.After-next → tie.Start
+abbrev chained : tie.After-next-1 → tie.Start
 chained c = fast c.before
 
 -- the lists are long enough
@@ -32,14 +32,14 @@ few s =
     let l = lent-all (lent s.args.places.now s.args.part.now 0 [] []) (collide s.args.radii.now s.args.strength s.args.iterations) no_ends s.requires.0 in
     (omega (arith, l.few, l.pairs), l.few)
 
-on-part-requires : tie.Need-on-part-requires
+on-part-requires : tie.Need-on_part-requires
 on-part-requires c κs =
     let s = chained c.before.before in
     let n = length s.args.places.now in
-    (s.pre.0, s.pre.1, room {A = Float} n (2 * most_particles) 0· (few s).0, room {A = ℕ} (n / 2) most_particles 0 (few s).1, room {A = ℕ} (n / 2) most_particles 0 (few s).1)
+    (s.requires.0, s.requires.1, room {A = Float} n (2 * most_particles) 0· (few s).0, room {A = ℕ} (n / 2) most_particles 0 (few s).1, room {A = ℕ} (n / 2) most_particles 0 (few s).1)
 
-pub with-lists-spec : {M : Type 1} → statement M
-with-lists-spec =
+pub with_lists_spec : {M : Type 1} → statement M
+with_lists_spec =
     tie.close
     (tie.spec
     (λ c. (few (entry c)).0)

@@ -4,16 +4,16 @@ use Rattle.rules.specs.Collide as Collide
 use Rattle.collide_contact.proofs.away.Statement.{statement}
 use Rattle.collide_contact.proofs.away.Tie as tie
 
-returns : tie.Need-returns
+returns : tie.Need-returns-then-beyond
 unfolding Collide.away
-returns c = rw (← c.before.beyond.ensures, c.if1.true)
+returns c = rw (← c.before.beyond.ensures, c.if-beyond.true)
 
-returns-2 : tie.Need-returns-2
+returns-2 : tie.Need-returns
 unfolding Collide.away
-returns-2 c = rw (← c.before.before.before.beyond.ensures, c.before.before.if1.false) c.beyond2.ensures
+returns-2 c = rw (← c.before.before.before.beyond.ensures, c.before.before.if-beyond.false) c.beyond-2.ensures
 
-pub away-spec : {M : Type 1} → statement M
-away-spec =
+pub away_spec : {M : Type 1} → statement M
+away_spec =
     tie.close
     (tie.spec
     (λ c. search rules)

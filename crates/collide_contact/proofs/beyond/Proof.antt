@@ -2,11 +2,11 @@
 use Rattle.collide_contact.proofs.beyond.Statement.{statement}
 use Rattle.collide_contact.proofs.beyond.Tie as tie
 
-returns : tie.Need-returns
-returns c = rw c.if1.true
+returns : tie.Need-returns-then-lo-p
+returns c = rw c.if-lo-p.true
 
-returns-2 : tie.Need-returns-2
-returns-2 c = rw c.if1.false
+returns-2 : tie.Need-returns-else-lo-p
+returns-2 c = rw c.if-lo-p.false
 
-pub beyond-spec : {M : Type 1} → statement M
-beyond-spec = tie.close (tie.spec returns returns-2)
+pub beyond_spec : {M : Type 1} → statement M
+beyond_spec = tie.close (tie.spec returns returns-2)

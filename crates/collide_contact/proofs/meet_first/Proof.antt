@@ -6,26 +6,26 @@ use Rattle.force.specs.Draws.{spent_of}
 use Rattle.collide_contact.proofs.meet_first.Statement.{statement}
 use Rattle.collide_contact.proofs.meet_first.Tie as tie
 
-returns : tie.Need-returns
+returns : tie.Need-returns-then-i-j
 returns c =
     let p = c.before.before in
     let v = p.before.before in
     let k = v.before.before in (
-      rw (← k.before.tag.ensures, ← k.index.ensures, lt-ltb _ _ v.before.if1.true, ← v.node-value.ensures) p.meet.ensures.0,
+      rw (← k.before.tag.ensures, ← k.index-j.ensures, lt-ltb _ _ v.before.if-i-j.true, ← v.node_value-rj.ensures) p.meet.ensures.0,
       p.meet.ensures.1,
     )
 
-returns-2 : tie.Need-returns-2
+returns-2 : tie.Need-returns
 unfolding spent_of
 returns-2 c =
     let k = c.before in
     let s = k.before.before.before.before.before.before.before in (
-      rw (← k.before.tag.ensures, ← k.index.ensures, le-ltb _ _ c.if1.false),
+      rw (← k.before.tag.ensures, ← k.index-j.ensures, le-ltb _ _ c.if-i-j.false),
       omega (arith, s.requires),
     )
 
-pub meet-first-spec : {M : Type 1} → statement M
-meet-first-spec =
+pub meet_first_spec : {M : Type 1} → statement M
+meet_first_spec =
     tie.close
     (tie.spec
     (λ c κs. search rules)

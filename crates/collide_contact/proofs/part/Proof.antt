@@ -8,5 +8,5 @@ returns : tie.Need-returns
 unfolding Collide.parted
 returns c = cc
 
-pub part-spec : {M : Type 1} → statement M
-part-spec = tie.close (tie.spec (λ c κs. search rules) (λ c κs. search rules) (λ c κs. search rules) (λ c. search rules) returns)
+pub part_spec : {M : Type 1} → statement M
+part_spec = tie.close (tie.spec (λ c κs. search rules) (λ c κs. search rules) (λ c κs. search rules) (λ c. search rules) returns)

@@ -7,26 +7,26 @@ use Rattle.force_call.proofs.Called.{uneven, reaches-past, agrees}
 use Rattle.force_call.proofs.input_lengths.Statement.{statement}
 use Rattle.force_call.proofs.input_lengths.Tie as tie
 
-returns : tie.Need-returns
+returns : tie.Need-returns-then-places-n
 returns c =
     let a = c.before.args in
-    uneven (length a.places.now) (length a.buffer.now) (length a.places.now / 2) a.start c.if1.true
+    uneven (length a.places.now) (length a.buffer.now) (length a.places.now / 2) a.start c.if-places-n.true
 
-returns-2 : tie.Need-returns-2
+returns-2 : tie.Need-returns-then-buffer-n
 returns-2 c =
     let a = c.before.before.args in
-    reaches-past (length a.places.now) (length a.buffer.now) (length a.places.now / 2) a.start c.before.if1.false (omega arith)
+    reaches-past (length a.places.now) (length a.buffer.now) (length a.places.now / 2) a.start c.before.if-places-n.false (omega arith)
 
-returns-3 : tie.Need-returns-3
+returns-3 : tie.Need-returns-then-buffer-n-2
 returns-3 c =
     let a = c.before.before.before.args in
-    reaches-past (length a.places.now) (length a.buffer.now) (length a.places.now / 2) a.start c.before.before.if1.false (omega arith)
+    reaches-past (length a.places.now) (length a.buffer.now) (length a.places.now / 2) a.start c.before.before.if-places-n.false (omega arith)
 
-returns-4 : tie.Need-returns-4
+returns-4 : tie.Need-returns
 returns-4 c =
     let a = c.before.before.before.args in
-    agrees (length a.places.now) (length a.buffer.now) (length a.places.now / 2) a.start c.before.before.if1.false (omega arith)
+    agrees (length a.places.now) (length a.buffer.now) (length a.places.now / 2) a.start c.before.before.if-places-n.false (omega arith)
 
-pub input-lengths-spec : {M : Type 1} → statement M
-input-lengths-spec =
+pub input_lengths_spec : {M : Type 1} → statement M
+input_lengths_spec =
     tie.close (tie.spec (λ c. search rules) returns (λ c. search rules) returns-2 (λ c. search rules) (λ c. search rules) returns-3 returns-4)

@@ -8,47 +8,47 @@ use Rattle.link_call.proofs.lengths_agree.Statement.{statement}
 use Rattle.link_call.proofs.lengths_agree.Tie as tie
 
 -- the points of the code, each from a later one
-abbrev entry : tie.After-input-lengths → tie.Start
+abbrev entry : tie.After-input_lengths → tie.Start
 entry c = c.before.before.before.before.before.before
 
-returns : tie.Need-returns
+returns : tie.Need-returns-then-not-input_lengths
 returns c =
     let i = c.before in
     let a = (entry i).args in
-    rw (← i.input-lengths.ensures)
-    (no_input i.input-lengths.result (length a.links.now % 2) (length a.distances.now) (length a.strengths.now) _ _ (ends-count a.links.now) c.if1.true)
+    rw (← i.input_lengths.ensures)
+    (no_input i.input_lengths.result (length a.links.now % 2) (length a.distances.now) (length a.strengths.now) _ _ (ends-count a.links.now) c.if-not-input_lengths.true-raw)
 
-returns-2 : tie.Need-returns-2
+returns-2 : tie.Need-returns-then-links-ne0
 returns-2 c =
     let i = c.before.before in
     let a = (entry i).args in
-    rw (← i.input-lengths.ensures)
-    (odd-ends i.input-lengths.result (length a.links.now % 2) (length a.distances.now) (length a.strengths.now) _ _ (ends-count a.links.now)
-    c.before.if1.false c.if2.true)
+    rw (← i.input_lengths.ensures)
+    (odd-ends i.input_lengths.result (length a.links.now % 2) (length a.distances.now) (length a.strengths.now) _ _ (ends-count a.links.now)
+    c.before.if-not-input_lengths.false-raw c.if-links-ne0.true)
 
-returns-3 : tie.Need-returns-3
+returns-3 : tie.Need-returns-then-distances-n
 returns-3 c =
     let i = c.before.before.before in
     let a = (entry i).args in
-    rw (← i.input-lengths.ensures)
-    (no-distances i.input-lengths.result (length a.links.now % 2) (length a.distances.now) (length a.strengths.now) _ _ (ends-count a.links.now)
-    c.before.before.if1.false c.before.if2.false c.if3.true)
+    rw (← i.input_lengths.ensures)
+    (no-distances i.input_lengths.result (length a.links.now % 2) (length a.distances.now) (length a.strengths.now) _ _ (ends-count a.links.now)
+    c.before.before.if-not-input_lengths.false-raw c.before.if-links-ne0.false c.if-distances-n.true)
 
-returns-4 : tie.Need-returns-4
+returns-4 : tie.Need-returns-then-strengths-eq0
 returns-4 c =
     let i = c.before.before.before.before in
     let a = (entry i).args in
-    rw (← i.input-lengths.ensures)
-    (no-strength i.input-lengths.result (length a.links.now % 2) (length a.distances.now) (length a.strengths.now) _ _ (ends-count a.links.now)
-    c.before.before.before.if1.false c.before.before.if2.false c.before.if3.false c.if4.true)
+    rw (← i.input_lengths.ensures)
+    (no-strength i.input_lengths.result (length a.links.now % 2) (length a.distances.now) (length a.strengths.now) _ _ (ends-count a.links.now)
+    c.before.before.before.if-not-input_lengths.false-raw c.before.before.if-links-ne0.false c.before.if-distances-n.false c.if-strengths-eq0.true)
 
-returns-5 : tie.Need-returns-5
+returns-5 : tie.Need-returns
 returns-5 c =
     let i = c.before.before.before.before in
     let a = (entry i).args in
-    rw (← i.input-lengths.ensures)
-    (each-strength i.input-lengths.result (length a.links.now % 2) (length a.distances.now) (length a.strengths.now) _ _ (ends-count a.links.now)
-    c.before.before.before.if1.false c.before.before.if2.false c.before.if3.false c.if4.false)
+    rw (← i.input_lengths.ensures)
+    (each-strength i.input_lengths.result (length a.links.now % 2) (length a.distances.now) (length a.strengths.now) _ _ (ends-count a.links.now)
+    c.before.before.before.if-not-input_lengths.false-raw c.before.before.if-links-ne0.false c.before.if-distances-n.false c.if-strengths-eq0.false)
 
-pub lengths-agree-spec : {M : Type 1} → statement M
-lengths-agree-spec = tie.close (tie.spec (λ c κs. search rules) returns returns-2 returns-3 returns-4 returns-5)
+pub lengths_agree_spec : {M : Type 1} → statement M
+lengths_agree_spec = tie.close (tie.spec (λ c κs. search rules) returns returns-2 returns-3 returns-4 returns-5)

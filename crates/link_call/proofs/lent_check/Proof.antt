@@ -7,7 +7,7 @@ use Rattle.link_call.proofs.lent_check.Statement.{statement}
 use Rattle.link_call.proofs.lent_check.Tie as tie
 
 -- the points of the code, each from a later one
-abbrev entry : tie.After-count-check → tie.Start
+abbrev entry : tie.After-count_check-particles → tie.Start
 entry c = c.before.before.before.before.before.before
 
 returns : tie.Need-returns
@@ -23,13 +23,13 @@ returns c =
     let particles = many.before in
     let a = (entry particles).args in
     lent_answer (lent a.places.now a.buffer.now a.start [] []) a.links.now a.strengths.now a.distances.now a.iterations
-    particles.count-check.result many.count-check2.result often.count-check3.result counts.first.result lengths.lengths-check.result sizes.first2.result
-    both.first3.result ends.ends-check.result c.first4.result agree.lengths-agree.result
-    particles.count-check.ensures many.count-check2.ensures often.count-check3.ensures counts.first.ensures agree.lengths-agree.ensures lengths.lengths-check.ensures
-    sizes.first2.ensures both.first3.ensures ends.ends-check.ensures c.first4.ensures
+    particles.count_check-particles.result many.count_check.result often.count_check-2.result counts.first-counts.result lengths.lengths_check-lengths.result sizes.first.result
+    both.first-2.result ends.ends_check.result c.first-3.result agree.lengths_agree.result
+    particles.count_check-particles.ensures many.count_check.ensures often.count_check-2.ensures counts.first-counts.ensures agree.lengths_agree.ensures lengths.lengths_check-lengths.ensures
+    sizes.first.ensures both.first-2.ensures ends.ends_check.ensures c.first-3.ensures
 
-pub lent-check-spec : {M : Type 1} → statement M
-lent-check-spec =
+pub lent_check_spec : {M : Type 1} → statement M
+lent_check_spec =
     tie.close
     (tie.spec
     (λ c κs. search rules)

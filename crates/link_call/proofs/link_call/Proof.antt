@@ -20,13 +20,13 @@ use Rattle.link_call.proofs.link_call.Statement.{statement}
 use Rattle.link_call.proofs.link_call.Tie as tie
 
 -- the points of the code, each from a later one
-abbrev entry : tie.After-lent-check → tie.Start
+abbrev entry : tie.After-lent_check-r → tie.Start
 entry c = c.before.before.before.before.before.before.before.before.before
 
-abbrev tested : tie.After-with-speeds-arg → tie.Else1
+abbrev tested : tie.After-with_speeds-arg-1 → tie.Else-number-ne0
 tested c = c.before.before
 
-abbrev answered : tie.After-slice-known4 → tie.After-with-speeds
+abbrev answered : tie.After-slice_known-4-1 → tie.After-with_speeds
 answered c = c.before.before.before.before
 
 -- the input, the force, whether its ends are pairs, and what 1, 2 and 3 say
@@ -46,21 +46,21 @@ module _ (s : tie.Start) where
   early : Refuses Early checks
   early = lent-early input force paired
 
-returns : tie.Need-returns
+returns : tie.Need-returns-then-number-ne0
 returns c =
     let n = c.before.before in
     let s = entry n in
-    let q = n.lent-check.result in
-    let st = stopped (checks s) q (early s) n.lent-check.ensures c.before.if1.true in
+    let q = n.lent_check-r.result in
+    let st = stopped (checks s) q (early s) n.lent_check-r.ensures c.before.if-number-ne0.true in
     answered_refused (input s) _ q c.refused.result (result-lent (input s) (force s) (paired s) s.args.alpha q st.0) st.1 c.refused.ensures
 
 -- 1, 2 and 3 are past
-module _ (d : tie.Else1) where
+module _ (d : tie.Else-number-ne0) where
   abbrev start : tie.Start
   start = entry d.before
 
   past : checks start ≡ fine
-  past = passed (checks start) d.before.lent-check.result (early start) d.before.lent-check.ensures d.if1.left
+  past = passed (checks start) d.before.lent_check-r.result (early start) d.before.lent_check-r.ensures d.if-number-ne0.left
 
   passed-lent : Lent (input start) (force start) (paired start)
   passed-lent = lent-all (input start) (force start) (paired start) past
@@ -72,7 +72,7 @@ module _ (d : tie.Else1) where
   size : bytes ≡ length start.args.places.now / 2 * pair_size
   size = omega arith
 
-with-speeds-requires : tie.Need-with-speeds-requires
+with-speeds-requires : tie.Need-with_speeds-requires
 with-speeds-requires c κs =
     let d = tested c in
     let s = start d in
@@ -81,20 +81,20 @@ with-speeds-requires c κs =
       part-size a.places.now a.buffer.now a.start [] [] (force s) (paired s) (bytes d) (size d) (past d) ∙ size d,
     )
 
-returns-2 : tie.Need-returns-2
+returns-2 : tie.Need-returns
 returns-2 c =
     let p = answered c in
     let d = tested p.before in
     let s = start d in
     let a = s.args in
     answered-part a.places.now a.buffer.now a.start a.draws.now a.work.now (force s) (paired s) (bytes d) (size d) (past d)
-    _ _ p.with-speeds.result p.with-speeds.last.1.0 p.with-speeds.last.1.1.1.1.1.1.1.1.0
+    _ _ p.with_speeds.result p.with_speeds.new.part p.with_speeds.new.work
     (result-part a.places.now a.buffer.now a.start a.draws.now a.work.now (force s) (paired s) (bytes d) (size d) (past d) a.alpha)
-    (p.with-speeds.kept.1.0 ∙ part-size a.places.now a.buffer.now a.start [] [] (force s) (paired s) (bytes d) (size d) (past d))
-    p.with-speeds.ensures
+    (p.with_speeds.auto.part ∙ part-size a.places.now a.buffer.now a.start [] [] (force s) (paired s) (bytes d) (size d) (past d))
+    p.with_speeds.ensures
 
-pub link-call-spec : {M : Type 1} → statement M
-link-call-spec =
+pub link_call_spec : {M : Type 1} → statement M
+link_call_spec =
     tie.close
     (tie.spec
     (λ c κs. search rules)

@@ -5,7 +5,7 @@ use Rattle.link_call.proofs.numbers_check.Statement.{statement}
 use Rattle.link_call.proofs.numbers_check.Tie as tie
 
 -- the points of the code, each from a later one
-abbrev entry : tie.After-points-check → tie.Start
+abbrev entry : tie.After-points_check-points → tie.Start
 entry c = c.before.before.before.before.before.before
 
 returns : tie.Need-returns
@@ -21,13 +21,13 @@ returns c =
     let s = entry points in
     let a = s.args in
     numbers_answer a.places.now a.speeds.now a.strengths.now a.distances.now a.draws.now a.alpha
-    points.points-check.result some.strengths-check.result lengths.distances-check.result lists.first.result both.first2.result more.draws-check.result all.first3.result
-    setting.setting-check.result c.first4.result s.pre
-    points.points-check.ensures some.strengths-check.ensures lengths.distances-check.ensures lists.first.ensures both.first2.ensures more.draws-check.ensures all.first3.ensures
-    setting.setting-check.ensures c.first4.ensures
+    points.points_check-points.result some.strengths_check.result lengths.distances_check.result lists.first-lists.result both.first.result more.draws_check.result all.first-2.result
+    setting.setting_check.result c.first-3.result s.requires
+    points.points_check-points.ensures some.strengths_check.ensures lengths.distances_check.ensures lists.first-lists.ensures both.first.ensures more.draws_check.ensures all.first-2.ensures
+    setting.setting_check.ensures c.first-3.ensures
 
-pub numbers-check-spec : {M : Type 1} → statement M
-numbers-check-spec =
+pub numbers_check_spec : {M : Type 1} → statement M
+numbers_check_spec =
     tie.close
     (tie.spec
     (λ c κs. search rules)

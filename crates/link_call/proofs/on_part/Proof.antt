@@ -28,16 +28,16 @@ use Rattle.link_call.proofs.on_part.Tie as tie
 abbrev entry : tie.After-read-pairs-arg2 → tie.Start
 entry c = c.before.before.before.before.before.before.before.before.before.before
 
-abbrev read : tie.After-numbers-check → tie.After-read-pairs
+abbrev read : tie.After-numbers_check-r → tie.After-read_pairs
 read c = c.before.before.before.before
 
-abbrev checked : tie.After-link-arg → tie.Else1
+abbrev checked : tie.After-link-arg-1 → tie.Else-number-ne0
 checked c = c.before
 
-abbrev ran : tie.After-settle-arg3 → tie.After-link
+abbrev ran : tie.After-settle-arg3 → tie.After-link-ran
 ran c = c.before.before.before.before.before
 
-abbrev settled : tie.After-slice-known7 → tie.After-settle
+abbrev settled : tie.After-slice_known-7-1 → tie.After-settle
 settled c = c.before.before.before.before
 
 -- the input, the force, whether its ends are pairs, and what 1, 2 and 3 let pass
@@ -52,27 +52,27 @@ module _ (s : tie.Start) where
   paired = eqb (length s.args.links.now % 2) 0
 
   passed-lent : Lent input force paired
-  passed-lent = lent-all input force paired s.pre.0
+  passed-lent = lent-all input force paired s.requires.0
 
-read-pairs-requires : tie.Need-read-pairs-requires
+read-pairs-requires : tie.Need-read_pairs-requires
 read-pairs-requires c κs =
     let s = entry c in
     let l = passed-lent s in
-    record { even = omega (arith, l.pairs, s.pre.2); reach = omega (arith, l.pairs, s.pre.1, s.pre.2) }
+    record { even = omega (arith, l.pairs, s.requires.2); reach = omega (arith, l.pairs, s.requires.1, s.requires.2) }
 
 -- the velocities that were read, and what 4 and 5 say
-module _ (d : tie.After-read-pairs) where
+module _ (d : tie.After-read_pairs) where
   abbrev start : tie.Start
   start = entry d.before
 
   abbrev vs : List Float
-  vs = d.read_pairs.last.1.1.1.0
+  vs = d.read_pairs.new.out
 
   vs-are : vs ≡ speeds (input start)
-  vs-are = d.read_pairs.ensures ∙ ap (λ (n : ℕ). pairs_from pair_size start.args.part.now 0 (n / 2)) start.pre.2
+  vs-are = d.read_pairs.ensures ∙ ap (λ (n : ℕ). pairs_from pair_size start.args.part.now 0 (n / 2)) start.requires.2
 
   vs-many : length vs ≡ length start.args.places.now
-  vs-many = d.read_pairs.kept.1.1.1.0 ∙ start.pre.2
+  vs-many = d.read_pairs.auto.out ∙ start.requires.2
 
   abbrev numbers : Check
   numbers = numbers_check start.args.places.now vs (force start) start.args.draws.now start.args.alpha
@@ -80,20 +80,20 @@ module _ (d : tie.After-read-pairs) where
   early : Refuses Early numbers
   early = numbers-early start.args.places.now vs (force start) start.args.draws.now start.args.alpha
 
-returns : tie.Need-returns
+returns : tie.Need-returns-then-number-ne0
 returns c =
     let n = c.before.before in
     let d = read n in
     let s = start d in
-    let q = n.numbers-check.result in
-    let st = stopped (numbers d) q (early d) n.numbers-check.ensures c.before.if1.true in
-    answered_refused (input s) _ q c.refused.result (result-numbers (input s) (force s) (paired s) s.args.alpha s.pre.0 (vs d) (vs-are d) q st.0) st.1 c.refused.ensures
+    let q = n.numbers_check-r.result in
+    let st = stopped (numbers d) q (early d) n.numbers_check-r.ensures c.before.if-number-ne0.true in
+    answered_refused (input s) _ q c.refused.result (result-numbers (input s) (force s) (paired s) s.args.alpha s.requires.0 (vs d) (vs-are d) q st.0) st.1 c.refused.ensures
 
 -- 4 and 5 are past
-past : (e : tie.Else1) → numbers (read e.before) ≡ fine
-past e = let n = e.before in passed (numbers (read n)) n.numbers-check.result (early (read n)) n.numbers-check.ensures e.if1.false
+past : (e : tie.Else-number-ne0) → numbers (read e.before) ≡ fine
+past e = let n = e.before in passed (numbers (read n)) n.numbers_check-r.result (early (read n)) n.numbers_check-r.ensures e.if-number-ne0.false
 
-link-requires : tie.Need-link-requires
+link-requires : tie.Need-link-ran-requires
 link-requires c κs =
     let d = read (checked c).before in
     let s = start d in
@@ -109,37 +109,37 @@ link-requires c κs =
     )
 
 -- where Link has run
-module _ (r : tie.After-link) where
-  abbrev was : tie.After-read-pairs
+module _ (r : tie.After-link-ran) where
+  abbrev was : tie.After-read_pairs
   was = read (checked r.before).before
 
   -- as many velocities as numbers in the places
-  kept : length r.link.last.1.0 ≡ length (start was).args.places.now
-  kept = r.link.kept.1.0 ∙ vs-many was
+  kept : length r.link-ran.new.vs ≡ length (start was).args.places.now
+  kept = r.link-ran.auto.vs ∙ vs-many was
 
 settle-requires : tie.Need-settle-requires
 settle-requires c κs =
     let s = start (was (ran c)) in
     let l = passed-lent s in
-    (omega (arith, kept (ran c), l.pairs), omega (arith, kept (ran c), l.pairs, s.pre.1))
+    (omega (arith, kept (ran c), l.pairs), omega (arith, kept (ran c), l.pairs, s.requires.1))
 
-returns-2 : tie.Need-returns-2
+returns-2 : tie.Need-returns
 returns-2 c =
     let t = settled c in
     let r = ran t.before in
     let d = was r in
     let s = start d in
     let a = s.args in
-    let m = r.link.ensures in
-    let vs' = r.link.last.1.0 in
-    answered_ran (input s) _ r.link.result vs' t.settle.result t.settle.last.1.0 t.settle.last.1.1.1.1.0
-    (result-ran (input s) (force s) (paired s) a.alpha s.pre.0 (vs d) (vs-are d) (past (checked r.before)) vs' r.link.result
-    (link_runs (ran_of vs' a.draws.now r.link.result) (ends_of a.links.now) a.strengths.now a.distances.now a.iterations a.places.now a.alpha (slots_of a.work.now) 0
+    let m = r.link-ran.ensures in
+    let vs' = r.link-ran.new.vs in
+    answered_ran (input s) _ r.link-ran.result vs' t.settle.result t.settle.new.part t.settle.new.work
+    (result-ran (input s) (force s) (paired s) a.alpha s.requires.0 (vs d) (vs-are d) (past (checked r.before)) vs' r.link-ran.result
+    (link_runs (ran_of vs' a.draws.now r.link-ran.result) (ends_of a.links.now) a.strengths.now a.distances.now a.iterations a.places.now a.alpha (slots_of a.work.now) 0
     (flow (vs d) a.draws.now) m.is))
     m.draws.reach m.late refl t.settle.ensures
 
-pub on-part-spec : {M : Type 1} → statement M
-on-part-spec =
+pub on_part_spec : {M : Type 1} → statement M
+on_part_spec =
     tie.close
     (tie.spec
     read-pairs-requires

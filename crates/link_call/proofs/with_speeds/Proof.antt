@@ -17,10 +17,10 @@ use Rattle.link_call.proofs.with_speeds.Statement.{statement}
 use Rattle.link_call.proofs.with_speeds.Tie as tie
 
 -- the points of the code, each from a later one
-abbrev entry : tie.After-on-part-arg → tie.Start
+abbrev entry : tie.After-on_part-arg-1 → tie.Start
 entry c = c.before.before.before.before.before.before.before.before
 
-abbrev fast : tie.After-speeds → tie.Start
+abbrev fast : tie.After-speeds-1 → tie.Start
 fast c = entry c.before
 
 -- the list is long enough
@@ -31,13 +31,13 @@ few s =
     (eqb (length a.links.now % 2) 0) s.requires.0 in
     omega (arith, l.few, l.pairs)
 
-on-part-requires : tie.Need-on-part-requires
+on-part-requires : tie.Need-on_part-requires
 on-part-requires c κs =
     let s = fast c.before in
-    (s.pre.0, s.pre.1, room {A = Float} (length s.args.places.now) (2 * most_particles) 0· (few s))
+    (s.requires.0, s.requires.1, room {A = Float} (length s.args.places.now) (2 * most_particles) 0· (few s))
 
-pub with-speeds-spec : {M : Type 1} → statement M
-with-speeds-spec =
+pub with_speeds_spec : {M : Type 1} → statement M
+with_speeds_spec =
     tie.close
     (tie.spec
     (λ c. few (entry c))

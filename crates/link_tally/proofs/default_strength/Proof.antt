@@ -4,12 +4,12 @@ use borrow.Author.Rules.{rules}
 use Rattle.link_tally.proofs.default_strength.Statement.{statement}
 use Rattle.link_tally.proofs.default_strength.Tie as tie
 
-returns : tie.Need-returns
-returns c = rw (min-eq_left (le_of_lt c.before.if1.true))
+returns : tie.Need-returns-then-source-target
+returns c = rw (min-eq_left (le_of_lt c.before.if-source-target.true))
 
-returns-2 : tie.Need-returns-2
-returns-2 c = rw (min-eq_right c.before.if1.false)
+returns-2 : tie.Need-returns
+returns-2 c = rw (min-eq_right c.before.if-source-target.false)
 
-pub default-strength-spec : {M : Type 1} → statement M
-default-strength-spec =
+pub default_strength_spec : {M : Type 1} → statement M
+default_strength_spec =
     tie.close (tie.spec (λ c. search rules) returns (λ c. search rules) returns-2)

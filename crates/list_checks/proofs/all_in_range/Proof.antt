@@ -8,7 +8,7 @@ use Rattle.list_checks.proofs.all_in_range.Tie as tie
 returns : tie.Need-returns
 returns c =
     let a = c.before.before.args in
-    rw c.range-check.ensures (all_unrefused (in_range a.range) 0 a.l.now)
+    rw c.range_check-r.ensures (all_unrefused (in_range a.range) 0 a.l.now)
 
-pub all-in-range-spec : {M : Type 1} → statement M
-all-in-range-spec = tie.close (tie.spec (λ c κs. search rules) returns)
+pub all_in_range_spec : {M : Type 1} → statement M
+all_in_range_spec = tie.close (tie.spec (λ c κs. search rules) returns)

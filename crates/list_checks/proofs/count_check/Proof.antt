@@ -6,5 +6,5 @@ use Rattle.list_checks.proofs.count_check.Tie as tie
 returns : tie.Need-returns
 returns c = c.unless.ensures
 
-pub count-check-spec : {M : Type 1} → statement M
-count-check-spec = tie.close (tie.spec (λ c κs. search rules) returns)
+pub count_check_spec : {M : Type 1} → statement M
+count_check_spec = tie.close (tie.spec (λ c κs. search rules) returns)

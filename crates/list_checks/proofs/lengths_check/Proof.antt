@@ -6,5 +6,5 @@ use Rattle.list_checks.proofs.lengths_check.Tie as tie
 returns : tie.Need-returns
 returns c = c.unless.ensures
 
-pub lengths-check-spec : {M : Type 1} → statement M
-lengths-check-spec = tie.close (tie.spec (λ c κs. search rules) returns)
+pub lengths_check_spec : {M : Type 1} → statement M
+lengths_check_spec = tie.close (tie.spec (λ c κs. search rules) returns)

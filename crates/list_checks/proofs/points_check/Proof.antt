@@ -14,9 +14,9 @@ returns c =
     let a = c.before.before.before.before.before.args in
     let n = length a.places.now / 2 in
     c.first.ensures
-    ∙ rw (c.before.pairs-check2.ensures, c.before.before.pairs-check.ensures)
+    ∙ rw (c.before.pairs_check-speeds.ensures, c.before.before.pairs_check-places.ensures)
     (first_then (coordinates_check n a.places.now) (velocities_check (length a.speeds.now / 2) a.speeds.now) (pairs-early Place n a.places.now))
 
-pub points-check-spec : {M : Type 1} → statement M
-points-check-spec =
+pub points_check_spec : {M : Type 1} → statement M
+points_check_spec =
     tie.close (tie.spec (λ c κs. search rules) (λ c κs. search rules) (λ c κs. search rules) returns)

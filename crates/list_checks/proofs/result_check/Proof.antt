@@ -4,13 +4,13 @@ use Rattle.rules.specs.Refusal.{result_check}
 use Rattle.list_checks.proofs.result_check.Statement.{statement}
 use Rattle.list_checks.proofs.result_check.Tie as tie
 
-returns : tie.Need-returns
+returns : tie.Need-returns-then-all_in_range
 unfolding result_check
-returns c = rw (← c.before.before.before.all-in-range.ensures, c.before.before.if1.true, ← c.before.all-in-range2.ensures) c.unless.ensures
+returns c = rw (← c.before.before.before.all_in_range.ensures, c.before.before.if-all_in_range.true, ← c.before.all_in_range-then-all_in_range.ensures) c.unless.ensures
 
-returns-2 : tie.Need-returns-2
+returns-2 : tie.Need-returns
 unfolding result_check
-returns-2 c = rw (← c.before.before.all-in-range.ensures, c.before.if1.false) c.at.ensures
+returns-2 c = rw (← c.before.before.all_in_range.ensures, c.before.if-all_in_range.false) c.at.ensures
 
-pub result-check-spec : {M : Type 1} → statement M
-result-check-spec = tie.close (tie.spec (λ c κs. search rules) (λ c κs. search rules) (λ c κs. search rules) returns (λ c κs. search rules) returns-2)
+pub result_check_spec : {M : Type 1} → statement M
+result_check_spec = tie.close (tie.spec (λ c κs. search rules) (λ c κs. search rules) (λ c κs. search rules) returns (λ c κs. search rules) returns-2)

@@ -9,5 +9,5 @@ use Rattle.list_checks.proofs.setting_check.Tie as tie
 returns : tie.Need-returns
 returns c = c.unless.ensures ∙ ap refusal_of (sym (bind_fine (require c.before.within.result 5 0))) ∙ rw c.before.within.ensures
 
-pub setting-check-spec : {M : Type 1} → statement M
-setting-check-spec = tie.close (tie.spec (λ c κs. search rules) (λ c κs. search rules) returns)
+pub setting_check_spec : {M : Type 1} → statement M
+setting_check_spec = tie.close (tie.spec (λ c κs. search rules) (λ c κs. search rules) returns)

@@ -6,11 +6,11 @@ use Rattle.lister.proofs.list_input.Statement.{statement}
 use Rattle.lister.proofs.list_input.Tie as tie
 
 -- what was written lies within the buffer
-slice-aggregate-write-all : tie.Need-slice-aggregate-write-all
-slice-aggregate-write-all c = sym (length-take-le _ _ c.before.before.before.list-sheet.ensures.1)
+slice-aggregate-write-all : tie.Need-slice_bounds-write_all-end-2
+slice-aggregate-write-all c = sym (length-take-le _ _ c.before.before.before.list_sheet-size.ensures.1)
 
-pub list-input-spec : {M : Type 1} → statement M
-list-input-spec =
+pub list_input_spec : {M : Type 1} → statement M
+list_input_spec =
     tie.close
     (tie.spec
     (λ c κs. search rules)

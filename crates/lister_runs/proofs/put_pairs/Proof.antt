@@ -8,14 +8,14 @@ use Rattle.lister_text.specs.Input.{kept_bytes}
 use Rattle.lister_runs.proofs.put_pairs.Statement.{statement}
 use Rattle.lister_runs.proofs.put_pairs.Tie as tie
 
-abbrev invariant-loop : tie.invariant-loop
+abbrev invariant-loop : tie.invariant-loop-i
 invariant-loop sheet₀ x₀ i₀ sheet x i = length sheet ≡ kept_bytes
 
-abbrev decreases-loop : tie.decreases-loop
+abbrev decreases-loop : tie.decreases-loop-i
 decreases-loop sheet₀ x₀ i₀ sheet x i = 22 - i
 
-pub put-pairs-spec : {M : Type 1} → statement M
-put-pairs-spec =
+pub put_pairs_spec : {M : Type 1} → statement M
+put_pairs_spec =
     tie.close
     (tie.spec
     invariant-loop

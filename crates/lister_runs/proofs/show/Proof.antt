@@ -6,11 +6,11 @@ use Rattle.lister_runs.proofs.show.Statement.{statement}
 use Rattle.lister_runs.proofs.show.Tie as tie
 
 -- what was written lies within the buffer
-slice-aggregate-write-all : tie.Need-slice-aggregate-write-all
-slice-aggregate-write-all c = sym (length-take-le _ _ c.before.before.list-sheet.ensures.1)
+slice-aggregate-write-all : tie.Need-slice_bounds-write_all-end
+slice-aggregate-write-all c = sym (length-take-le _ _ c.before.before.list_sheet-size.ensures.1)
 
-pub show-spec : {M : Type 1} → statement M
-show-spec =
+pub show_spec : {M : Type 1} → statement M
+show_spec =
     tie.close
     (tie.spec
     (λ c κs. search rules)

@@ -10,5 +10,5 @@ use Rattle.lister_runs.proofs.show_first.Tie as tie
 show-requires : tie.Need-show-requires
 show-requires c κs = length-take-le _ _ (omega arith) ∙ sym (min-eq_left (omega arith))
 
-pub show-first-spec : {M : Type 1} → statement M
-show-first-spec = tie.close (tie.spec (λ c. sym (length-take-le _ _ (omega arith))) show-requires (λ c. search rules))
+pub show_first_spec : {M : Type 1} → statement M
+show_first_spec = tie.close (tie.spec (λ c. sym (length-take-le _ _ (omega arith))) show-requires (λ c. search rules))

@@ -7,7 +7,7 @@ use Rattle.many_body_call.proofs.lent_check.Statement.{statement}
 use Rattle.many_body_call.proofs.lent_check.Tie as tie
 
 -- the points of the code, each from a later one
-abbrev entry : tie.After-count-check → tie.Start
+abbrev entry : tie.After-count_check → tie.Start
 entry c = c.before.before.before.before
 
 returns : tie.Need-returns
@@ -17,8 +17,8 @@ returns c =
     let many = agree.before in
     let a = (entry many).args in
     lent_answer (lent a.places.now a.buffer.now a.start [] []) a.strengths.now
-    many.count-check.result sizes.lengths-check.result c.first.result agree.lengths-agree.result
-    many.count-check.ensures agree.lengths-agree.ensures sizes.lengths-check.ensures c.first.ensures
+    many.count_check.result sizes.lengths_check.result c.first.result agree.lengths_agree.result
+    many.count_check.ensures agree.lengths_agree.ensures sizes.lengths_check.ensures c.first.ensures
 
-pub lent-check-spec : {M : Type 1} → statement M
-lent-check-spec = tie.close (tie.spec (λ c κs. search rules) (λ c κs. search rules) (λ c κs. search rules) (λ c κs. search rules) returns)
+pub lent_check_spec : {M : Type 1} → statement M
+lent_check_spec = tie.close (tie.spec (λ c κs. search rules) (λ c κs. search rules) (λ c κs. search rules) (λ c κs. search rules) returns)

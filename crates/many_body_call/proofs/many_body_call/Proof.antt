@@ -18,13 +18,13 @@ use Rattle.many_body_call.proofs.many_body_call.Statement.{statement}
 use Rattle.many_body_call.proofs.many_body_call.Tie as tie
 
 -- the points of the code, each from a later one
-abbrev entry : tie.After-lent-check → tie.Start
+abbrev entry : tie.After-lent_check-r → tie.Start
 entry c = c.before.before.before.before.before.before.before
 
-abbrev tested : tie.After-with-lists-arg → tie.Else1
+abbrev tested : tie.After-with_lists-arg-1 → tie.Else-number-ne0
 tested c = c.before.before
 
-abbrev answered : tie.After-slice-known4 → tie.After-with-lists
+abbrev answered : tie.After-slice_known-4-1 → tie.After-with_lists
 answered c = c.before.before.before.before
 
 -- the input, the force, and what 1 and 2 say
@@ -41,21 +41,21 @@ module _ (s : tie.Start) where
   early : Refuses Early checks
   early = lent-early input force no_ends
 
-returns : tie.Need-returns
+returns : tie.Need-returns-then-number-ne0
 returns c =
     let n = c.before.before in
     let s = entry n in
-    let q = n.lent-check.result in
-    let st = stopped (checks s) q (early s) n.lent-check.ensures c.before.if1.true in
+    let q = n.lent_check-r.result in
+    let st = stopped (checks s) q (early s) n.lent_check-r.ensures c.before.if-number-ne0.true in
     answered_refused (input s) _ q c.refused.result (result-lent (input s) (force s) no_ends s.args.alpha q st.0) st.1 c.refused.ensures
 
 -- 1 and 2 are past
-module _ (d : tie.Else1) where
+module _ (d : tie.Else-number-ne0) where
   abbrev start : tie.Start
   start = entry d.before
 
   past : checks start ≡ fine
-  past = passed (checks start) d.before.lent-check.result (early start) d.before.lent-check.ensures d.if1.left
+  past = passed (checks start) d.before.lent_check-r.result (early start) d.before.lent_check-r.ensures d.if-number-ne0.left
 
   passed-lent : Lent (input start) (force start) no_ends
   passed-lent = lent-all (input start) (force start) no_ends past
@@ -67,7 +67,7 @@ module _ (d : tie.Else1) where
   size : bytes ≡ length start.args.places.now / 2 * pair_size
   size = omega arith
 
-with-lists-requires : tie.Need-with-lists-requires
+with-lists-requires : tie.Need-with_lists-requires
 with-lists-requires c κs =
     let d = tested c in
     let s = start d in
@@ -76,20 +76,20 @@ with-lists-requires c κs =
       part-size a.places.now a.buffer.now a.start [] [] (force s) no_ends (bytes d) (size d) (past d) ∙ size d,
     )
 
-returns-2 : tie.Need-returns-2
+returns-2 : tie.Need-returns
 returns-2 c =
     let p = answered c in
     let d = tested p.before in
     let s = start d in
     let a = s.args in
     answered-part a.places.now a.buffer.now a.start a.draws.now a.work.now (force s) no_ends (bytes d) (size d) (past d)
-    _ _ p.with-lists.result p.with-lists.last.1.0 p.with-lists.last.1.1.1.1.1.0
+    _ _ p.with_lists.result p.with_lists.new.part p.with_lists.new.work
     (result-part a.places.now a.buffer.now a.start a.draws.now a.work.now (force s) no_ends (bytes d) (size d) (past d) a.alpha)
-    (p.with-lists.kept.1.0 ∙ part-size a.places.now a.buffer.now a.start [] [] (force s) no_ends (bytes d) (size d) (past d))
-    p.with-lists.ensures
+    (p.with_lists.auto.part ∙ part-size a.places.now a.buffer.now a.start [] [] (force s) no_ends (bytes d) (size d) (past d))
+    p.with_lists.ensures
 
-pub many-body-call-spec : {M : Type 1} → statement M
-many-body-call-spec =
+pub many_body_call_spec : {M : Type 1} → statement M
+many_body_call_spec =
     tie.close
     (tie.spec
     (λ c κs. search rules)

@@ -5,7 +5,7 @@ use Rattle.many_body_call.proofs.numbers_check.Statement.{statement}
 use Rattle.many_body_call.proofs.numbers_check.Tie as tie
 
 -- the points of the code, each from a later one
-abbrev entry : tie.After-points-check → tie.Start
+abbrev entry : tie.After-points_check-points → tie.Start
 entry c = c.before.before.before.before.before
 
 returns : tie.Need-returns
@@ -19,13 +19,13 @@ returns c =
     let s = entry points in
     let a = s.args in
     numbers_answer a.places.now a.speeds.now a.strengths.now a.draws.now a.alpha
-    points.points-check.result some.strengths-check.result both.first.result more.draws-check.result all.first2.result
-    setting.setting-check.result c.first3.result s.pre
-    points.points-check.ensures some.strengths-check.ensures both.first.ensures more.draws-check.ensures all.first2.ensures
-    setting.setting-check.ensures c.first3.ensures
+    points.points_check-points.result some.strengths_check.result both.first.result more.draws_check.result all.first-lists.result
+    setting.setting_check.result c.first-2.result s.requires
+    points.points_check-points.ensures some.strengths_check.ensures both.first.ensures more.draws_check.ensures all.first-lists.ensures
+    setting.setting_check.ensures c.first-2.ensures
 
-pub numbers-check-spec : {M : Type 1} → statement M
-numbers-check-spec =
+pub numbers_check_spec : {M : Type 1} → statement M
+numbers_check_spec =
     tie.close
     (tie.spec
     (λ c κs. search rules)

@@ -28,16 +28,16 @@ use Rattle.many_body_call.proofs.on_part.Tie as tie
 abbrev entry : tie.After-read-pairs-arg2 → tie.Start
 entry c = c.before.before.before.before.before.before.before.before.before.before
 
-abbrev read : tie.After-numbers-check → tie.After-read-pairs
+abbrev read : tie.After-numbers_check-r → tie.After-read_pairs
 read c = c.before.before.before.before
 
-abbrev tuned : tie.After-many-body-arg4 → tie.After-standard
+abbrev tuned : tie.After-many_body-arg-4-1 → tie.After-standard
 tuned c = c.before.before.before.before
 
-abbrev ran : tie.After-settle-arg3 → tie.After-many-body
+abbrev ran : tie.After-settle-arg3 → tie.After-many_body-ran
 ran c = c.before.before.before.before.before.before.before.before.before.before.before
 
-abbrev settled : tie.After-slice-known12 → tie.After-settle
+abbrev settled : tie.After-slice_known-12-1 → tie.After-settle
 settled c = c.before.before.before.before
 
 -- the input, and the force
@@ -51,25 +51,25 @@ force s = many_body s.args.strengths.now
 passed-lent : (s : tie.Start) → Lent (input s) (force s) no_ends
 passed-lent s = lent-all (input s) (force s) no_ends s.requires.0
 
-read-pairs-requires : tie.Need-read-pairs-requires
+read-pairs-requires : tie.Need-read_pairs-requires
 read-pairs-requires c κs =
     let s = entry c in
     let l = passed-lent s in
-    record { even = omega (arith, l.pairs, s.pre.2); reach = omega (arith, l.pairs, s.pre.1, s.pre.2) }
+    record { even = omega (arith, l.pairs, s.requires.2); reach = omega (arith, l.pairs, s.requires.1, s.requires.2) }
 
 -- the velocities that were read, and what 4 and 5 say
-module _ (d : tie.After-read-pairs) where
+module _ (d : tie.After-read_pairs) where
   abbrev start : tie.Start
   start = entry d.before
 
   abbrev vs : List Float
-  vs = d.read_pairs.last.1.1.1.0
+  vs = d.read_pairs.new.out
 
   vs-are : vs ≡ speeds (input start)
-  vs-are = d.read_pairs.ensures ∙ ap (λ (n : ℕ). pairs_from pair_size start.args.part.now 0 (n / 2)) start.pre.2
+  vs-are = d.read_pairs.ensures ∙ ap (λ (n : ℕ). pairs_from pair_size start.args.part.now 0 (n / 2)) start.requires.2
 
   vs-many : length vs ≡ length start.args.places.now
-  vs-many = d.read_pairs.kept.1.1.1.0 ∙ start.pre.2
+  vs-many = d.read_pairs.auto.out ∙ start.requires.2
 
   abbrev numbers : Check
   numbers = numbers_check start.args.places.now vs (force start) start.args.draws.now start.args.alpha
@@ -77,20 +77,20 @@ module _ (d : tie.After-read-pairs) where
   early : Refuses Early numbers
   early = numbers-early start.args.places.now vs (force start) start.args.draws.now start.args.alpha
 
-returns : tie.Need-returns
+returns : tie.Need-returns-then-number-ne0
 returns c =
     let n = c.before.before in
     let d = read n in
     let s = start d in
-    let q = n.numbers-check.result in
-    let st = stopped (numbers d) q (early d) n.numbers-check.ensures c.before.if1.true in
-    answered_refused (input s) _ q c.refused.result (result-numbers (input s) (force s) no_ends s.args.alpha s.pre.0 (vs d) (vs-are d) q st.0) st.1 c.refused.ensures
+    let q = n.numbers_check-r.result in
+    let st = stopped (numbers d) q (early d) n.numbers_check-r.ensures c.before.if-number-ne0.true in
+    answered_refused (input s) _ q c.refused.result (result-numbers (input s) (force s) no_ends s.args.alpha s.requires.0 (vs d) (vs-are d) q st.0) st.1 c.refused.ensures
 
 -- 4 and 5 are past
-past : (e : tie.Else1) → numbers (read e.before) ≡ fine
-past e = let n = e.before in passed (numbers (read n)) n.numbers-check.result (early (read n)) n.numbers-check.ensures e.if1.false
+past : (e : tie.Else-number-ne0) → numbers (read e.before) ≡ fine
+past e = let n = e.before in passed (numbers (read n)) n.numbers_check-r.result (early (read n)) n.numbers_check-r.ensures e.if-number-ne0.false
 
-many-body-requires : tie.Need-many-body-requires
+many-body-requires : tie.Need-many_body-ran-requires
 many-body-requires c κs =
     let e = (tuned c).before in
     let d = read e.before in
@@ -98,32 +98,32 @@ many-body-requires c κs =
     let a = s.args in
     let l = passed-lent s in
     let each = eqb-true (length a.strengths.now) (length a.places.now / 2) l.lengths in (
-      record { ranged = places-within (input s) (force s) (vs d) a.draws.now a.alpha (past e); few = l.few; links = s.pre.3; tails = s.pre.4 },
+      record { ranged = places-within (input s) (force s) (vs d) a.draws.now a.alpha (past e); few = l.few; links = s.requires.3; tails = s.requires.4 },
       (omega (arith, l.pairs, each), omega (arith, l.pairs, each, vs-many d), omega arith, omega arith),
     )
 
 -- where ManyBody has run
-module _ (r : tie.After-many-body) where
+module _ (r : tie.After-many_body-ran) where
   abbrev begun : tie.After-standard
   begun = tuned r.before
 
-  abbrev was : tie.After-read-pairs
+  abbrev was : tie.After-read_pairs
   was = read begun.before.before
 
   -- as many velocities as numbers in the places
-  kept : length r.many_body.last.1.1.0 ≡ length (start was).args.places.now
-  kept = r.many_body.kept.1.1.0 ∙ vs-many was
+  kept : length r.many_body-ran.new.vs ≡ length (start was).args.places.now
+  kept = r.many_body-ran.auto.vs ∙ vs-many was
 
 settle-requires : tie.Need-settle-requires
 settle-requires c κs =
     let s = start (was (ran c)) in
     let l = passed-lent s in
-    (omega (arith, kept (ran c), l.pairs), omega (arith, kept (ran c), l.pairs, s.pre.1))
+    (omega (arith, kept (ran c), l.pairs), omega (arith, kept (ran c), l.pairs, s.requires.1))
 
-same-length-4 : tie.Need-same-length-4
-same-length-4 c = let r = ran (settled c).before in kept r ∙ sym (start (was r)).pre.2
+same-length-4 : tie.Need-shape_of-speeds
+same-length-4 c = let r = ran (settled c).before in kept r ∙ sym (start (was r)).requires.2
 
-returns-2 : tie.Need-returns-2
+returns-2 : tie.Need-returns
 returns-2 c =
     let t = settled c in
     let r = ran t.before in
@@ -131,17 +131,17 @@ returns-2 c =
     let d = was r in
     let s = start d in
     let a = s.args in
-    let m = r.many_body.ensures.0 in
-    let vs' = r.many_body.last.1.1.0 in
-    answered_ran (input s) _ r.many_body.result vs' t.settle.result t.settle.last.1.0 t.settle.last.1.1.1.1.0
-    (result-ran (input s) (force s) no_ends a.alpha s.pre.0 (vs d) (vs-are d) (past g.before) vs' r.many_body.result
-    (many_body_runs (ran_of vs' a.draws.now r.many_body.result) g.standard.result a.places.now a.strengths.now a.alpha (slots_of a.work.now)
+    let m = r.many_body-ran.ensures.0 in
+    let vs' = r.many_body-ran.new.vs in
+    answered_ran (input s) _ r.many_body-ran.result vs' t.settle.result t.settle.new.part t.settle.new.work
+    (result-ran (input s) (force s) no_ends a.alpha s.requires.0 (vs d) (vs-are d) (past g.before) vs' r.many_body-ran.result
+    (many_body_runs (ran_of vs' a.draws.now r.many_body-ran.result) g.standard.result a.places.now a.strengths.now a.alpha (slots_of a.work.now)
     (counted (flow (vs d) a.draws.now) 0) g.standard.ensures m.is))
     m.draws.reach m.late refl
-    (settled_slots r.many_body.kept.1.1.1.1.1.1.1.1.0 t.settle.ensures)
+    (settled_slots r.many_body-ran.auto.m t.settle.ensures)
 
-pub on-part-spec : {M : Type 1} → statement M
-on-part-spec =
+pub on_part_spec : {M : Type 1} → statement M
+on_part_spec =
     tie.close
     (tie.spec
     read-pairs-requires

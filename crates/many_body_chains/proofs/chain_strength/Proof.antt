@@ -12,38 +12,38 @@ use Rattle.many_body_chains.proofs.chain_strength.Statement.{statement}
 use Rattle.many_body_chains.proofs.chain_strength.Tie as tie
 
 -- whatever the chain's rest is, its members up to the link are added
-abbrev invariant-loop : tie.invariant-loop
+abbrev invariant-loop : tie.invariant-loop-link
 invariant-loop strengths next f own link₀ rest₀ link rest =
     (is : List ℕ) → Trails next link₀ is → Few (length strengths) is → Along (added strengths) next (length strengths) (added strengths rest₀ is) link rest
 
-abbrev decreases-loop : tie.decreases-loop
+abbrev decreases-loop : tie.decreases-loop-link
 decreases-loop strengths next f own link₀ rest₀ link rest = links_left next (length strengths) link
 
 -- of the chain that was handed in
-mine : (c : tie.At-loop invariant-loop decreases-loop)
+mine : (c : tie.At-loop-link invariant-loop decreases-loop)
     → let s = c.before.before.before.before.before in
-    Along (added s.args.strengths.now) s.args.next.now (length s.args.strengths.now) (added s.args.strengths.now 0· (rest_of s.requires.0.members)) c.loop.link c.loop.rest
-mine c = let h = c.before.before.before.before.before.requires.0 in c.loop.invariant _ (rest_trails h) (rest-few h)
+    Along (added s.args.strengths.now) s.args.next.now (length s.args.strengths.now) (added s.args.strengths.now 0· (rest_of s.requires.0.members)) c.loop-link.link c.loop-link.rest
+mine c = let h = c.before.before.before.before.before.requires.0 in c.loop-link.invariant _ (rest_trails h) (rest-few h)
 
-strength-of-requires-2 : tie.Need-strength-of-requires-2 invariant-loop decreases-loop
-strength-of-requires-2 c κs = rw c.wide.ensures (in_reach (mine c.before.before) c.before.loop-test.true)
+strength-of-requires-2 : tie.Need-strength_of-rest-requires invariant-loop decreases-loop
+strength-of-requires-2 c κs = rw c.wide-j.ensures (in_reach (mine c.before.before) c.before.loop-link-test.true)
 
-reached : (c : tie.After-wide invariant-loop decreases-loop) → c.wide.result < length c.before.before.before.before.before.before.before.args.next.now
-reached c = omega (arith, c.wide.ensures, in_reach (mine c.before.before) c.before.loop-test.true)
+reached : (c : tie.After-wide-j invariant-loop decreases-loop) → c.wide-j.result < length c.before.before.before.before.before.before.before.args.next.now
+reached c = omega (arith, c.wide-j.ensures, in_reach (mine c.before.before) c.before.loop-link-test.true)
 
-loop-less : tie.Need-loop-smaller invariant-loop decreases-loop
-loop-less c = rw c.before.before.wide.ensures (fewer (mine c.before.before.before.before) c.before.before.before.loop-test.true)
+loop-less : tie.Need-loop-link-smaller invariant-loop decreases-loop
+loop-less c = rw c.before.before.wide-j.ensures (fewer (mine c.before.before.before.before) c.before.before.before.loop-link-test.true)
 
-loop-again : tie.Need-loop-preserved invariant-loop decreases-loop
+loop-again : tie.Need-loop-link-preserved invariant-loop decreases-loop
 loop-again c = λ is t k.
-    rw c.before.before.wide.ensures
-    (along (c.before.before.before.before.loop.invariant is t k) c.before.before.before.loop-test.true _ (λ js. rw (c.before.strength-of2.ensures, c.before.before.wide.ensures)))
+    rw c.before.before.wide-j.ensures
+    (along (c.before.before.before.before.loop-link.invariant is t k) c.before.before.before.loop-link-test.true _ (λ js. rw (c.before.strength_of-rest.ensures, c.before.before.wide-j.ensures)))
 
 returns : tie.Need-returns invariant-loop decreases-loop
-returns c = λ h. chain-sum h _ _ _ c.before.before.before.strength-of.ensures (ends (c.before.loop.invariant _ (rest_trails h) (rest-few h)) (search rules))
+returns c = λ h. chain-sum h _ _ _ c.before.before.before.strength_of-own.ensures (ends (c.before.loop-link.invariant _ (rest_trails h) (rest-few h)) (search rules))
 
-pub chain-strength-spec : {M : Type 1} → statement M
-chain-strength-spec =
+pub chain_strength_spec : {M : Type 1} → statement M
+chain_strength_spec =
     tie.close
     (tie.spec
     invariant-loop

@@ -7,10 +7,10 @@ use Rattle.many_body_charge.proofs.leaf_charge.Statement.{statement}
 use Rattle.many_body_charge.proofs.leaf_charge.Tie as tie
 
 returns : tie.Need-returns
-returns c = λ h. leaf_charge_lem h _ _ _ (c.before.before.chain-strength.ensures h)
+returns c = λ h. leaf_charge_lem h _ _ _ (c.before.before.chain_strength-strength.ensures h)
 
-pub leaf-charge-spec : {M : Type 1} → statement M
-leaf-charge-spec =
+pub leaf_charge_spec : {M : Type 1} → statement M
+leaf_charge_spec =
     tie.close
     (tie.spec
     (λ c κs. search rules)

@@ -11,21 +11,21 @@ returns : tie.Need-returns
 returns c =
     let d = c.before.before in
     let s = d.before.before.before.before.before.before in
-    node_charge_lem (sums_of d.with-link4.result) _
-    (fold_children read_charge with_child _ s.args.m.now s.args.s d.before.before.before.before.children.ensures
-    d.before.before.before.with-link.ensures d.before.before.with-link2.ensures d.before.with-link3.ensures d.with-link4.ensures)
+    node_charge_lem (sums_of d.with_link-s3.result) _
+    (fold_children read_charge with_child _ s.args.m.now s.args.s d.before.before.before.before.children-children.ensures
+    d.before.before.before.with_link-s0.ensures d.before.before.with_link-s1.ensures d.before.with_link-s2.ensures d.with_link-s3.ensures)
 
-pub node-charge-spec : {M : Type 1} → statement M
-node-charge-spec =
+pub node_charge_spec : {M : Type 1} → statement M
+node_charge_spec =
     tie.close
     (tie.spec
     (λ c κs. search rules)
     (λ c. search rules)
-    (λ c κs. rw c.children.ensures c.before.before.requires.1.0)
+    (λ c κs. rw c.children-children.ensures c.before.before.requires.1.0)
     (λ c. search rules)
-    (λ c κs. rw c.before.children.ensures c.before.before.before.requires.1.1)
+    (λ c κs. rw c.before.children-children.ensures c.before.before.before.requires.1.1)
     (λ c. search rules)
-    (λ c κs. rw c.before.before.children.ensures c.before.before.before.before.requires.1.2)
+    (λ c κs. rw c.before.before.children-children.ensures c.before.before.before.before.requires.1.2)
     (λ c. search rules)
-    (λ c κs. rw c.before.before.before.children.ensures c.before.before.before.before.before.requires.1.3)
+    (λ c κs. rw c.before.before.before.children-children.ensures c.before.before.before.before.before.requires.1.3)
     returns)

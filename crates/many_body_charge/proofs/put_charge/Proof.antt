@@ -8,7 +8,7 @@ returns c =
     let third = c.before.before in
     let second = third.before.before.before.before in
     let first = second.before.before.before.before in
-    rw (third.put-value3.ensures, second.put-value2.ensures, first.put-value.ensures)
+    rw (third.put_value-3.ensures, second.put_value-2.ensures, first.put_value.ensures)
 
-pub put-charge-spec : {M : Type 1} → statement M
-put-charge-spec = tie.close (tie.spec (λ c κs. search rules) (λ c κs. search rules) (λ c κs. search rules) (λ c. search rules) returns)
+pub put_charge_spec : {M : Type 1} → statement M
+put_charge_spec = tie.close (tie.spec (λ c κs. search rules) (λ c κs. search rules) (λ c κs. search rules) (λ c. search rules) returns)

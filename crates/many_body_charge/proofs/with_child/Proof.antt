@@ -9,7 +9,7 @@ unfolding with_child
 returns c =
     let y = c.before.before.before.before in
     let x = y.before.before in
-    rw (y.weighed2.ensures, x.weighed.ensures, x.before.abs.ensures)
+    rw (y.weighed-2.ensures, x.weighed.ensures, x.before.abs-c.ensures)
 
-pub with-child-spec : {M : Type 1} → statement M
-with-child-spec = tie.close (tie.spec (λ c κs. search rules) (λ c κs. search rules) (λ c κs. search rules) returns)
+pub with_child_spec : {M : Type 1} → statement M
+with_child_spec = tie.close (tie.spec (λ c κs. search rules) (λ c κs. search rules) (λ c κs. search rules) returns)

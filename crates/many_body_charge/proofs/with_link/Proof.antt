@@ -9,14 +9,14 @@ use Rattle.many_body_charge.proofs.with_link.Tie as tie
 abbrev entry : tie.After-wide → tie.Start
 entry c = c.before.before.before
 
-returns : tie.Need-returns
-returns c = rw (values_none read_charge c.before.before.args.m.now _ c.if1.true)
+returns : tie.Need-returns-then-child-eq0
+returns c = rw (values_none read_charge c.before.before.args.m.now _ c.if-child-eq0.true)
 
-charge-at-requires : tie.Need-charge-at-requires
-charge-at-requires c κs = rw c.wide.ensures (lent-some _ _ (entry c).requires c.before.if1.false)
+charge-at-requires : tie.Need-charge_at-requires
+charge-at-requires c κs = rw c.wide.ensures (lent-some _ _ (entry c).requires c.before.if-child-eq0.false)
 
-returns-2 : tie.Need-returns-2
-returns-2 c = rw (values_some read_charge (entry c.before.before).args.m.now _ c.before.before.before.if1.false, ← c.before.before.wide.ensures, c.with-child.ensures, c.before.charge-at.ensures)
+returns-2 : tie.Need-returns
+returns-2 c = rw (values_some read_charge (entry c.before.before).args.m.now _ c.before.before.before.if-child-eq0.false, ← c.before.before.wide.ensures, c.with_child.ensures, c.before.charge_at.ensures)
 
-pub with-link-spec : {M : Type 1} → statement M
-with-link-spec = tie.close (tie.spec returns (λ c. search rules) (λ c κs. search rules) charge-at-requires (λ c κs. search rules) returns-2)
+pub with_link_spec : {M : Type 1} → statement M
+with_link_spec = tie.close (tie.spec returns (λ c. search rules) (λ c κs. search rules) charge-at-requires (λ c κs. search rules) returns-2)

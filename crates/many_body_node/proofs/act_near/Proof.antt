@@ -9,30 +9,30 @@ use Rattle.many_body_node.proofs.NodePullLaws.{near-alone, near-beyond, near-dry
 use Rattle.many_body_node.proofs.act_near.Statement.{statement}
 use Rattle.many_body_node.proofs.act_near.Tie as tie
 
-returns : tie.Need-returns
+returns : tie.Need-returns-then-is_alone
 unfolding spent_of
 returns c =
     let s = c.before.before.before.before.before.before in
     let a = s.args in
-    (λ h. near-alone a.t a.strengths.now a.alpha a.i (gap a.x a.y) a.l h.members _ (sym (c.before.is-alone.ensures _ h) ∙ c.if1.true), omega (arith, s.requires.4))
+    (λ h. near-alone a.t a.strengths.now a.alpha a.i (gap a.x a.y) a.l h.members _ (sym (c.before.is_alone.ensures _ h) ∙ c.if-is_alone.true), omega (arith, s.requires.4))
 
-returns-2 : tie.Need-returns-2
+returns-2 : tie.Need-returns-then-t-l
 unfolding spent_of
 returns-2 c =
     let s = c.before.before.before.before.before.before.before.before in
     let a = s.args in
-    (λ h. near-beyond a.t a.strengths.now a.alpha a.i (gap a.x a.y) a.l h.members _ c.if2.true, omega (arith, s.requires.4))
+    (λ h. near-beyond a.t a.strengths.now a.alpha a.i (gap a.x a.y) a.l h.members _ c.if-t-l.true, omega (arith, s.requires.4))
 
-returns-3 : tie.Need-returns-3
+returns-3 : tie.Need-returns-then-dry
 unfolding spent_of
 returns-3 c =
     let k = c.before in
     let b = k.before.before.before.before in
     let s = b.before.before.before.before.before in
     let a = s.args in
-    (λ h. near-dry a.t a.strengths.now a.alpha a.i (gap a.x a.y) a.l h.members a.vs.now _ a.draws.now k.take-aim.result (sym (b.is-alone.ensures _ h) ∙ k.before.before.before.if1.false) k.before.if2.false k.take-aim.ensures.0 c.if3.true, k.take-aim.ensures.1)
+    (λ h. near-dry a.t a.strengths.now a.alpha a.i (gap a.x a.y) a.l h.members a.vs.now _ a.draws.now k.take_aim-a.result (sym (b.is_alone.ensures _ h) ∙ k.before.before.before.if-is_alone.false) k.before.if-t-l.false k.take_aim-a.ensures.0 c.if-dry.true, k.take_aim-a.ensures.1)
 
-returns-4 : tie.Need-returns-4
+returns-4 : tie.Need-returns
 unfolding spent_of
 returns-4 c =
     let p = c.before.before in
@@ -40,10 +40,10 @@ returns-4 c =
     let b = k.before.before.before.before in
     let s = b.before.before.before.before.before in
     let a = s.args in
-    (λ h. near_on a.t a.strengths.now a.alpha a.i (gap a.x a.y) a.l h.members a.vs.now _ a.draws.now k.take-aim.result (sym (b.is-alone.ensures _ h) ∙ k.before.before.before.if1.false) k.before.if2.false k.take-aim.ensures.0 p.before.before.if3.false (p.pull-members.ensures h), k.take-aim.ensures.1)
+    (λ h. near_on a.t a.strengths.now a.alpha a.i (gap a.x a.y) a.l h.members a.vs.now _ a.draws.now k.take_aim-a.result (sym (b.is_alone.ensures _ h) ∙ k.before.before.before.if-is_alone.false) k.before.if-t-l.false k.take_aim-a.ensures.0 p.before.before.if-dry.false (p.pull_members.ensures h), k.take_aim-a.ensures.1)
 
-pub act-near-spec : {M : Type 1} → statement M
-act-near-spec =
+pub act_near_spec : {M : Type 1} → statement M
+act_near_spec =
     tie.close
     (tie.spec
     (λ c κs. omega (arith, chain_first c.before.before.before.before.requires.1, c.before.before.before.before.requires.2))

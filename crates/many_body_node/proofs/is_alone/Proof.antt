@@ -4,11 +4,11 @@ use Rattle.many_body_node.proofs.NodePullLaws.{alone-own, alone-other}
 use Rattle.many_body_node.proofs.is_alone.Statement.{statement}
 use Rattle.many_body_node.proofs.is_alone.Tie as tie
 
-returns : tie.Need-returns
-returns c = λ n h. alone-own _ h c.before.if1.true
+returns : tie.Need-returns-then-f-i
+returns c = λ n h. alone-own _ h c.before.if-f-i.true
 
-returns-2 : tie.Need-returns-2
-returns-2 c = λ n h. alone-other _ h c.if1.false
+returns-2 : tie.Need-returns
+returns-2 c = λ n h. alone-other _ h c.if-f-i.false
 
-pub is-alone-spec : {M : Type 1} → statement M
-is-alone-spec = tie.close (tie.spec (λ c. search rules) (λ c. search rules) returns returns-2)
+pub is_alone_spec : {M : Type 1} → statement M
+is_alone_spec = tie.close (tie.spec (λ c. search rules) (λ c. search rules) returns returns-2)

@@ -8,5 +8,5 @@ returns : tie.Need-returns
 unfolding far
 returns c = refl
 
-pub is-far-spec : {M : Type 1} → statement M
-is-far-spec = tie.close (tie.spec returns)
+pub is_far_spec : {M : Type 1} → statement M
+is_far_spec = tie.close (tie.spec returns)

@@ -17,8 +17,8 @@ returns : tie.Need-returns
 returns c =
     let a = c.before.before.before.args in
     c.first.ensures
-    ∙ ap₂ first_of c.before.before.count-check.ensures (c.before.lengths-check.ensures ∙ rw (fits_whole a.n a.bytes))
+    ∙ ap₂ first_of c.before.before.count_check-count.ensures (c.before.lengths_check-lengths.ensures ∙ rw (fits_whole a.n a.bytes))
     ∙ first_then (count_check most_particles a.n) (lengths_check (leb (a.n * record_size) a.bytes)) (count-early most_particles a.n)
 
-pub room-check-spec : {M : Type 1} → statement M
-room-check-spec = tie.close (tie.spec (λ c κs. search rules) (λ c κs. search rules) (λ c κs. search rules) returns)
+pub room_check_spec : {M : Type 1} → statement M
+room_check_spec = tie.close (tie.spec (λ c κs. search rules) (λ c κs. search rules) (λ c κs. search rules) returns)

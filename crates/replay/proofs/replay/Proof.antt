@@ -3,14 +3,14 @@ use Rattle.std.proofs.Common.{◌≡◌, length, sym, arith, length-take-le, rul
 use Rattle.replay.proofs.replay.Statement.{statement}
 use Rattle.replay.proofs.replay.Tie as tie
 
-abbrev invariant-loop : tie.invariant-loop
+abbrev invariant-loop : tie.invariant-loop-turns
 invariant-loop space₀ right₀ all₀ turns₀ space right all turns = length space ≡ length space₀
 
-abbrev decreases-loop : tie.decreases-loop
+abbrev decreases-loop : tie.decreases-loop-turns
 decreases-loop space₀ right₀ all₀ turns₀ space right all turns = turns
 
-pub replay-spec : {M : Type 1} → statement M
-replay-spec =
+pub replay_spec : {M : Type 1} → statement M
+replay_spec =
     tie.close
     (tie.spec
     invariant-loop

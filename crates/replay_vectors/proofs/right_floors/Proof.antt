@@ -7,14 +7,14 @@ use lib.ListN.{length}
 use Rattle.replay_vectors.proofs.right_floors.Statement.{statement}
 use Rattle.replay_vectors.proofs.right_floors.Tie as tie
 
-abbrev invariant-loop : tie.invariant-loop
+abbrev invariant-loop : tie.invariant-loop-i
 invariant-loop numbers refusals floors right₀ i₀ right i = (right ≤ i) × (i ≤ length numbers)
 
-abbrev decreases-loop : tie.decreases-loop
+abbrev decreases-loop : tie.decreases-loop-i
 decreases-loop numbers refusals floors right₀ i₀ right i = length numbers - i
 
-pub right-floors-spec : {M : Type 1} → statement M
-right-floors-spec =
+pub right_floors_spec : {M : Type 1} → statement M
+right_floors_spec =
     tie.close
     (tie.spec
     invariant-loop
@@ -30,5 +30,5 @@ right-floors-spec =
     (λ c. omega arith)
     (λ c. omega arith)
     (λ c. omega arith)
-    (λ c. ⊎_elim (λ w. omega arith) (λ w. omega arith) c.if1.branch)
+    (λ c. ⊎_elim (λ w. omega arith) (λ w. omega arith) c.if-answers.branch)
     (λ c. omega arith))

@@ -7,14 +7,14 @@ use lib.ListN.{length}
 use Rattle.replay_vectors.proofs.right_roots.Statement.{statement}
 use Rattle.replay_vectors.proofs.right_roots.Tie as tie
 
-abbrev invariant-loop : tie.invariant-loop
+abbrev invariant-loop : tie.invariant-loop-i
 invariant-loop values roots right₀ i₀ right i = (right ≤ i) × (i ≤ length values)
 
-abbrev decreases-loop : tie.decreases-loop
+abbrev decreases-loop : tie.decreases-loop-i
 decreases-loop values roots right₀ i₀ right i = length values - i
 
-pub right-roots-spec : {M : Type 1} → statement M
-right-roots-spec =
+pub right_roots_spec : {M : Type 1} → statement M
+right_roots_spec =
     tie.close
     (tie.spec
     invariant-loop
@@ -28,5 +28,5 @@ right-roots-spec =
     (λ c. omega arith)
     (λ c. omega arith)
     (λ c. omega arith)
-    (λ c. ⊎_elim (λ w. omega arith) (λ w. omega arith) c.if1.branch)
+    (λ c. ⊎_elim (λ w. omega arith) (λ w. omega arith) c.if-root_bits-roots.branch)
     (λ c. omega arith))

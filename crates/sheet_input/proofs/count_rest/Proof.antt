@@ -5,14 +5,14 @@ use native.Mathlib.Omega.{arith}
 use Rattle.sheet_input.proofs.count_rest.Statement.{statement}
 use Rattle.sheet_input.proofs.count_rest.Tie as tie
 
-abbrev invariant-loop : tie.invariant-loop
+abbrev invariant-loop : tie.invariant-loop-turns
 invariant-loop rest₀ turns₀ rest turns = rest + 65536 * turns ≤ 2 ^ 40
 
-abbrev decreases-loop : tie.decreases-loop
+abbrev decreases-loop : tie.decreases-loop-turns
 decreases-loop rest₀ turns₀ rest turns = turns
 
-pub count-rest-spec : {M : Type 1} → statement M
-count-rest-spec =
+pub count_rest_spec : {M : Type 1} → statement M
+count_rest_spec =
     tie.close
     (tie.spec
     invariant-loop

@@ -17,7 +17,7 @@ use Rattle.step.proofs.Stepping.{ticks_left, ticks_first, ticks_end, ticks-low, 
 use Rattle.step.proofs.step_on.Statement.{statement}
 use Rattle.step.proofs.step_on.Tie as tie
 
-abbrev invariant-loop : tie.invariant-loop
+abbrev invariant-loop : tie.invariant-loop-t
 invariant-loop words numbers links places₀ speeds₀ flags draws kept₀ next₀ tail₀ work₀ settings alpha_min budget n p₀ t₀ places speeds kept next tail work p t =
     ColumnsFit places speeds draws (length flags) p.used
     × Chains (length flags) next tail
@@ -32,100 +32,100 @@ invariant-loop words numbers links places₀ speeds₀ flags draws kept₀ next�
     × (let ticks = ticks_left settings alpha_min (forces_from (length flags) (entries_of words) numbers links) (slots_of work₀) budget in
     ticks 0 (state_of (columns places₀ speeds₀ flags) draws p₀) ≡ ticks t (state_of (columns places speeds flags) draws p))
 
-abbrev decreases-loop : tie.decreases-loop
+abbrev decreases-loop : tie.decreases-loop-t
 decreases-loop words numbers links places₀ speeds₀ flags draws kept₀ next₀ tail₀ work₀ settings alpha_min budget n p₀ t₀ places speeds kept next tail work p t = budget - t
 
 -- the points of the code, each from a later one
-abbrev put : tie.After-slice-known14 invariant-loop decreases-loop → tie.After-put-back invariant-loop decreases-loop
+abbrev put : tie.After-slice_known-then-number-ne0-2-1 invariant-loop decreases-loop → tie.After-put_back invariant-loop decreases-loop
 put c = c.before.before.before.before
 
-abbrev stopped : tie.After-put-back invariant-loop decreases-loop → tie.Then2 invariant-loop decreases-loop
+abbrev stopped : tie.After-put_back invariant-loop decreases-loop → tie.Then-number-ne0 invariant-loop decreases-loop
 stopped c = c.before.before.before.before
 
-abbrev after-refusal : tie.After-put-back-arg invariant-loop decreases-loop → tie.After-refusal invariant-loop decreases-loop
+abbrev after-refusal : tie.After-put_back-arg-1 invariant-loop decreases-loop → tie.After-refusal-1 invariant-loop decreases-loop
 after-refusal c = c.before.before
 
-abbrev ticked : tie.After-refusal invariant-loop decreases-loop → tie.After-tick-on invariant-loop decreases-loop
+abbrev ticked : tie.After-refusal-1 invariant-loop decreases-loop → tie.After-tick_on-r invariant-loop decreases-loop
 ticked c = c.before.before.before.before.before.before.before.before.before.before.before
 
-abbrev lent : tie.After-tick-on-arg5 invariant-loop decreases-loop → tie.After-keep invariant-loop decreases-loop
+abbrev lent : tie.After-tick_on-arg-in-loop-t-4-1 invariant-loop decreases-loop → tie.After-keep invariant-loop decreases-loop
 lent c = c.before.before.before.before.before.before.before.before
 
-abbrev begun : tie.After-keep invariant-loop decreases-loop → tie.Then1 invariant-loop decreases-loop
+abbrev begun : tie.After-keep invariant-loop decreases-loop → tie.Then-alpha_min-p invariant-loop decreases-loop
 begun c = c.before.before.before.before
 
-abbrev turn : tie.Then1 invariant-loop decreases-loop → tie.At-loop invariant-loop decreases-loop
+abbrev turn : tie.Then-alpha_min-p invariant-loop decreases-loop → tie.At-loop-t invariant-loop decreases-loop
 turn c = c.before.before.before
 
-abbrev start : tie.After-settings invariant-loop decreases-loop → tie.Start invariant-loop decreases-loop
+abbrev start : tie.After-settings-1 invariant-loop decreases-loop → tie.Start invariant-loop decreases-loop
 start c = c.before.before.before.before.before.before.before.before.before.before.before
 
-abbrev entry : tie.At-loop invariant-loop decreases-loop → tie.Start invariant-loop decreases-loop
+abbrev entry : tie.At-loop-t invariant-loop decreases-loop → tie.Start invariant-loop decreases-loop
 entry c = start c.before
 
 -- the forces
 abbrev fs : tie.Start invariant-loop decreases-loop → List Force
 fs s = forces_from (length s.args.flags.now) (entries_of s.args.words.now) s.args.numbers.now s.args.links.now
 
-loop-holds : tie.Need-loop-init invariant-loop decreases-loop
+loop-holds : tie.Need-loop-t-init invariant-loop decreases-loop
 loop-holds c = let p = (start c).requires in (p.1.0, p.1.1, refl, refl, refl, refl, refl, refl, omega arith, omega arith, refl)
 
 -- as many places and velocities as are kept
-room : (k : tie.At-loop invariant-loop decreases-loop) → length k.loop.auto ≡ length k.loop.places + length k.loop.speeds
-room k = omega (arith, k.loop.invariant.4, (entry k).requires.0.2, k.loop.invariant.0.places, k.loop.invariant.0.speeds)
+room : (k : tie.At-loop-t invariant-loop decreases-loop) → length k.loop-t.auto ≡ length k.loop-t.places + length k.loop-t.speeds
+room k = omega (arith, k.loop-t.invariant.4, (entry k).requires.0.2, k.loop-t.invariant.0.places, k.loop-t.invariant.0.speeds)
 
 -- of one turn, in which places and velocities were kept
 module _ (c : tie.After-keep invariant-loop decreases-loop) where
   abbrev kept : List Float
-  kept = c.keep.new.1.1.0
+  kept = c.keep.new.kept
 
   abbrev before : Columns
-  before = let l = (turn (begun c)).loop in columns l.places l.speeds (entry (turn (begun c))).args.flags.now
+  before = let l = (turn (begun c)).loop-t in columns l.places l.speeds (entry (turn (begun c))).args.flags.now
 
   long : length kept ≡ length before.places + length before.speeds
-  long = c.keep.auto.1.1.0 ∙ room (turn (begun c))
+  long = c.keep.auto.kept ∙ room (turn (begun c))
 
   half : (n : ℕ) → n ≡ length (entry (turn (begun c))).args.places.now → n ≤ length kept
-  half n e = omega (arith, e, (turn (begun c)).loop.inv.2, long)
+  half n e = omega (arith, e, (turn (begun c)).loop-t.invariant.2, long)
 
   home-long : (n : ℕ) → n ≡ length (entry (turn (begun c))).args.places.now → length (take n kept) ≡ n
   home-long n e = length-take-le n kept (half n e)
 
-tick-on-requires : tie.Need-tick-on-requires invariant-loop decreases-loop
+tick-on-requires : tie.Need-tick_on-r-requires invariant-loop decreases-loop
 tick-on-requires c κs =
     let g = lent c in
     let k = turn (begun g) in
-    let l = k.loop in
-    let p = (entry k).pre in (
-      (p.0.0, omega (arith, home-long g _ refl, l.inv.2, l.inv.0.places)),
-      (l.inv.0, l.inv.1, omega (arith, l.inv.8, l.inv.9, p.0.1)),
+    let l = k.loop-t in
+    let p = (entry k).requires in (
+      (p.0.0, omega (arith, home-long g _ refl, l.invariant.2, l.invariant.0.places)),
+      (l.invariant.0, l.invariant.1, omega (arith, l.invariant.8, l.invariant.9, p.0.1)),
     )
 
 -- the columns that the tick of this turn left
-abbrev after : tie.After-tick-on invariant-loop decreases-loop → Columns
-after c = columns c.tick-on.new.1.1.1.1.0 c.tick-on.new.1.1.1.1.1.0 (entry (turn (begun (lent c.before)))).args.flags.now
+abbrev after : tie.After-tick_on-r invariant-loop decreases-loop → Columns
+after c = columns c.tick_on-r.new.places c.tick_on-r.new.speeds (entry (turn (begun (lent c.before)))).args.flags.now
 
 -- how it ended
-staged : (c : tie.After-tick-on invariant-loop decreases-loop) → let g = lent c.before in let k = turn (begun g) in let l = k.loop in let s = entry k in let a = s.args in
-    staged_of (after c) a.draws.now c.tick-on.result ≡ tick_home a.plan.settings (take (length a.places.now) (kept g)) (fs s) (slots_of a.work.now) (state_of (before g) a.draws.now l.p)
+staged : (c : tie.After-tick_on-r invariant-loop decreases-loop) → let g = lent c.before in let k = turn (begun g) in let l = k.loop-t in let s = entry k in let a = s.args in
+    staged_of (after c) a.draws.now c.tick_on-r.result ≡ tick_home a.plan.settings (take (length a.places.now) (kept g)) (fs s) (slots_of a.work.now) (state_of (before g) a.draws.now l.p)
 staged c =
     let g = lent c.before in
     let k = turn (begun g) in
-    let l = k.loop in
+    let l = k.loop-t in
     let s = entry k in
     let a = s.args in
-    c.tick-on.ensures.is ∙ ap (λ (w : ℕ). tick_home a.plan.settings (take (length a.places.now) (kept g)) (fs s) (w / slot_words) (state_of (before g) a.draws.now l.p)) l.inv.7
+    c.tick_on-r.ensures.is ∙ ap (λ (w : ℕ). tick_home a.plan.settings (take (length a.places.now) (kept g)) (fs s) (w / slot_words) (state_of (before g) a.draws.now l.p)) l.invariant.7
 
 -- held axes return to the places of this turn
 home : (g : tie.After-keep invariant-loop decreases-loop) → take (length (entry (turn (begun g))).args.places.now) (kept g) ≡ (before g).places
-home g = first_part (kept g) (before g).places (before g).speeds _ g.keep.ensures (sym (turn (begun g)).loop.inv.2)
+home g = first_part (kept g) (before g).places (before g).speeds _ g.keep.ensures (sym (turn (begun g)).loop-t.invariant.2)
 
-put-back-requires : tie.Need-put-back-requires invariant-loop decreases-loop
+put-back-requires : tie.Need-put_back-requires invariant-loop decreases-loop
 put-back-requires c κs =
     let m = ticked (after-refusal c.before.before) in
-    omega (arith, long (lent m.before), m.tick-on.kept.1.1.1.1.0, m.tick-on.kept.1.1.1.1.1.0)
+    omega (arith, long (lent m.before), m.tick_on-r.auto.places, m.tick_on-r.auto.speeds)
 
-returns : tie.Need-returns invariant-loop decreases-loop
+returns : tie.Need-returns-then-number-ne0 invariant-loop decreases-loop
 returns c =
     let b = put c in
     let w = stopped b in
@@ -133,60 +133,60 @@ returns c =
     let g = lent m.before in
     let i = begun g in
     let k = turn i in
-    let l = k.loop in
+    let l = k.loop-t in
     let s = entry k in
     let a = s.args in
-    let r = m.tick-on.result in
+    let r = m.tick_on-r.result in
     let q = a.plan in
-    stopped_steps (before g) a.draws.now l.p _ q.budget l.t _ l.inv.0 l.inv.8 l.inv.9 b.put_back.last.1.0 b.put_back.last.1.1.0 r.refusal
-    (b.put_back.ensures.0 ∙ first_part (kept g) (before g).places (before g).speeds _ g.keep.ensures m.tick-on.kept.1.1.1.1.0)
-    (b.put_back.ensures.1 ∙ second_part (kept g) (before g).places (before g).speeds _ _ g.keep.ensures m.tick-on.kept.1.1.1.1.0 m.tick-on.kept.1.1.1.1.1.0)
-    m.tick-on.ensures.late
-    (ticks_stop q.settings q.alpha_min (fs s) (slots_of a.work.now) q.budget l.t (state_of (before g) a.draws.now l.p) i.before.before.loop-test.taken i.if1.taken r.refusal
-    (tick-stops q.settings (fs s) (slots_of a.work.now) (before g) (after m) a.draws.now l.p r _ (home g) l.inv.0.places (staged m) w.if2.taken)
-    ∙ sym l.inv.10 ∙ sym (ticks_first q.settings q.alpha_min (fs s) (slots_of a.work.now) q.budget _))
+    stopped_steps (before g) a.draws.now l.p _ q.budget l.t _ l.invariant.0 l.invariant.8 l.invariant.9 b.put_back.new.places b.put_back.new.speeds r.refusal
+    (b.put_back.ensures.0 ∙ first_part (kept g) (before g).places (before g).speeds _ g.keep.ensures m.tick_on-r.auto.places)
+    (b.put_back.ensures.1 ∙ second_part (kept g) (before g).places (before g).speeds _ _ g.keep.ensures m.tick_on-r.auto.places m.tick_on-r.auto.speeds)
+    m.tick_on-r.ensures.late
+    (ticks_stop q.settings q.alpha_min (fs s) (slots_of a.work.now) q.budget l.t (state_of (before g) a.draws.now l.p) i.before.before.loop-t-test.taken i.if-alpha_min-p.taken r.refusal
+    (tick-stops q.settings (fs s) (slots_of a.work.now) (before g) (after m) a.draws.now l.p r _ (home g) l.invariant.0.places (staged m) w.if-number-ne0.taken)
+    ∙ sym l.invariant.10 ∙ sym (ticks_first q.settings q.alpha_min (fs s) (slots_of a.work.now) q.budget _))
 
-loop-again : tie.Need-loop-preserved invariant-loop decreases-loop
+loop-again : tie.Need-loop-t-preserved invariant-loop decreases-loop
 loop-again c =
     let w = c.before in
     let m = ticked w.before in
     let g = lent m.before in
     let i = begun g in
     let k = turn i in
-    let l = k.loop in
+    let l = k.loop-t in
     let s = entry k in
     let a = s.args in
-    let r = m.tick-on.result in
+    let r = m.tick_on-r.result in
     let q = a.plan in
-    let e = m.tick-on.kept in
-    let t = m.tick-on.ensures in
-    let z = w.if2.false in (
+    let e = m.tick_on-r.auto in
+    let t = m.tick_on-r.ensures in
+    let z = w.if-number-ne0.false in (
       record {
-        few = l.inv.0.few;
-        places = e.1.1.1.1.0 ∙ l.inv.0.places;
-        speeds = e.1.1.1.1.1.0 ∙ l.inv.0.speeds;
+        few = l.invariant.0.few;
+        places = e.1.1.1.1.0 ∙ l.invariant.0.places;
+        speeds = e.1.1.1.1.1.0 ∙ l.invariant.0.speeds;
         ranged = t.ranged z;
         drawn = t.draws.reach;
       },
-      record { links = e.1.1.1.1.1.1.1.1.1.0 ∙ l.inv.1.links; tails = e.1.1.1.1.1.1.1.1.1.1.0 ∙ l.inv.1.tails },
-      e.1.1.1.1.0 ∙ l.inv.2,
-      e.1.1.1.1.1.0 ∙ l.inv.3,
-      g.keep.kept.1.1.0 ∙ l.inv.4,
-      e.1.1.1.1.1.1.1.1.1.0 ∙ l.inv.5,
-      e.1.1.1.1.1.1.1.1.1.1.0 ∙ l.inv.6,
-      e.1.1.1.1.1.1.1.1.1.1.1.0 ∙ l.inv.7,
-      omega (arith, i.before.before.loop-test.taken),
-      omega (arith, t.few z, l.inv.9),
-      l.inv.10
-          ∙ ticks-on q.settings q.alpha_min (fs s) (slots_of a.work.now) q.budget l.t (state_of (before g) a.draws.now l.p) i.before.before.loop-test.taken i.if1.taken
+      record { links = e.1.1.1.1.1.1.1.1.1.0 ∙ l.invariant.1.links; tails = e.1.1.1.1.1.1.1.1.1.1.0 ∙ l.invariant.1.tails },
+      e.1.1.1.1.0 ∙ l.invariant.2,
+      e.1.1.1.1.1.0 ∙ l.invariant.3,
+      g.keep.auto.kept ∙ l.invariant.4,
+      e.1.1.1.1.1.1.1.1.1.0 ∙ l.invariant.5,
+      e.1.1.1.1.1.1.1.1.1.1.0 ∙ l.invariant.6,
+      e.1.1.1.1.1.1.1.1.1.1.1.0 ∙ l.invariant.7,
+      omega (arith, i.before.before.loop-t-test.taken),
+      omega (arith, t.few z, l.invariant.9),
+      l.invariant.10
+          ∙ ticks-on q.settings q.alpha_min (fs s) (slots_of a.work.now) q.budget l.t (state_of (before g) a.draws.now l.p) i.before.before.loop-t-test.taken i.if-alpha_min-p.taken
           (state_of (after m) a.draws.now r.progress)
-          (tick_goes q.settings (fs s) (slots_of a.work.now) (before g) (after m) a.draws.now l.p r _ (home g) l.inv.0.places (staged m) z),
+          (tick_goes q.settings (fs s) (slots_of a.work.now) (before g) (after m) a.draws.now l.p r _ (home g) l.invariant.0.places (staged m) z),
     )
 
-returns-2 : tie.Need-returns-2 invariant-loop decreases-loop
+returns-2 : tie.Need-returns invariant-loop decreases-loop
 returns-2 c =
     let k = c.before.before in
-    let l = k.loop in
+    let l = k.loop-t in
     let s = entry k in
     let a = s.args in
     let q = a.plan in
@@ -194,11 +194,11 @@ returns-2 c =
     let m = state_of now a.draws.now l.p in
     ended_steps now a.draws.now l.p _ q.budget l.t _ l.invariant.0 l.invariant.8 l.invariant.9 c.unrefused.result c.unrefused.ensures
     (⊎_elim (λ w. ticks-low q.settings q.alpha_min (fs s) (slots_of a.work.now) q.budget l.t m w.0.taken w.2.left)
-    (λ w. ticks_end q.settings q.alpha_min (fs s) (slots_of a.work.now) q.budget l.t m w.left) c.before.loop-test.branch
+    (λ w. ticks_end q.settings q.alpha_min (fs s) (slots_of a.work.now) q.budget l.t m w.left) c.before.loop-t-test.branch
     ∙ sym l.invariant.10 ∙ sym (ticks_first q.settings q.alpha_min (fs s) (slots_of a.work.now) q.budget _))
 
-pub step-on-spec : {M : Type 1} → statement M
-step-on-spec =
+pub step_on_spec : {M : Type 1} → statement M
+step_on_spec =
     tie.close
     (tie.spec
     invariant-loop
@@ -209,21 +209,21 @@ step-on-spec =
     (λ c. sym (home-long c.before.before.before _ refl))
     tick-on-requires
     put-back-requires
-    (λ c. let b = put c in let m = ticked (stopped b).before in b.put_back.kept.1.0 ∙ m.tick-on.kept.1.1.1.1.0 ∙ (turn (begun (lent m.before))).loop.inv.2)
-    (λ c. let b = put c in let m = ticked (stopped b).before in b.put_back.kept.1.1.0 ∙ m.tick-on.kept.1.1.1.1.1.0 ∙ (turn (begun (lent m.before))).loop.inv.3)
-    (λ c. let b = put c in let m = ticked (stopped b).before in (lent m.before).keep.kept.1.1.0 ∙ (turn (begun (lent m.before))).loop.inv.4)
-    (λ c. let b = put c in let m = ticked (stopped b).before in m.tick-on.kept.1.1.1.1.1.1.1.1.1.0 ∙ (turn (begun (lent m.before))).loop.inv.5)
-    (λ c. let b = put c in let m = ticked (stopped b).before in m.tick-on.kept.1.1.1.1.1.1.1.1.1.1.0 ∙ (turn (begun (lent m.before))).loop.inv.6)
-    (λ c. let b = put c in let m = ticked (stopped b).before in m.tick-on.kept.1.1.1.1.1.1.1.1.1.1.1.0 ∙ (turn (begun (lent m.before))).loop.inv.7)
+    (λ c. let b = put c in let m = ticked (stopped b).before in b.put_back.auto.places ∙ m.tick_on-r.auto.places ∙ (turn (begun (lent m.before))).loop-t.invariant.2)
+    (λ c. let b = put c in let m = ticked (stopped b).before in b.put_back.auto.speeds ∙ m.tick_on-r.auto.speeds ∙ (turn (begun (lent m.before))).loop-t.invariant.3)
+    (λ c. let b = put c in let m = ticked (stopped b).before in (lent m.before).keep.auto.kept ∙ (turn (begun (lent m.before))).loop-t.invariant.4)
+    (λ c. let b = put c in let m = ticked (stopped b).before in m.tick_on-r.auto.next ∙ (turn (begun (lent m.before))).loop-t.invariant.5)
+    (λ c. let b = put c in let m = ticked (stopped b).before in m.tick_on-r.auto.tail ∙ (turn (begun (lent m.before))).loop-t.invariant.6)
+    (λ c. let b = put c in let m = ticked (stopped b).before in m.tick_on-r.auto.work ∙ (turn (begun (lent m.before))).loop-t.invariant.7)
     returns
-    (λ c. let i = begun (lent (ticked c.before.before).before) in omega (arith, i.before.before.loop-test.taken, (entry (turn i)).pre.0.1))
-    (λ c. let i = begun (lent (ticked c.before.before).before) in omega (arith, i.before.before.loop-test.taken))
+    (λ c. let i = begun (lent (ticked c.before.before).before) in omega (arith, i.before.before.loop-t-test.taken, (entry (turn i)).requires.0.1))
+    (λ c. let i = begun (lent (ticked c.before.before).before) in omega (arith, i.before.before.loop-t-test.taken))
     loop-again
     (λ c κs. search rules)
-    (λ c. c.before.before.loop.invariant.2)
-    (λ c. c.before.before.loop.invariant.3)
-    (λ c. c.before.before.loop.invariant.4)
-    (λ c. c.before.before.loop.invariant.5)
-    (λ c. c.before.before.loop.invariant.6)
-    (λ c. c.before.before.loop.invariant.7)
+    (λ c. c.before.before.loop-t.invariant.2)
+    (λ c. c.before.before.loop-t.invariant.3)
+    (λ c. c.before.before.loop-t.invariant.4)
+    (λ c. c.before.before.loop-t.invariant.5)
+    (λ c. c.before.before.loop-t.invariant.6)
+    (λ c. c.before.before.loop-t.invariant.7)
     returns-2)

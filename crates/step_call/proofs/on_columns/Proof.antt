@@ -15,25 +15,25 @@ use Rattle.step_call.proofs.on_columns.Statement.{statement}
 use Rattle.step_call.proofs.on_columns.Tie as tie
 
 -- the points of the code, each from a later one
-abbrev settled : tie.After-slice-known15 → tie.After-settle-step
+abbrev settled : tie.After-slice_known-15-1 → tie.After-settle_step
 settled c = c.before.before.before.before
 
-abbrev ran : tie.After-settle-step-arg5 → tie.After-step-on
+abbrev ran : tie.After-settle-step-arg5 → tie.After-step_on-stepped
 ran c = c.before.before.before.before.before.before.before.before.before.before.before.before.before.before.before
 
-abbrev columns-read : tie.After-step-on-arg4 → tie.After-read-columns
+abbrev columns-read : tie.After-step_on-arg-4-1 → tie.After-read_columns
 columns-read c = c.before.before.before.before.before.before.before.before.before.before
 
 abbrev start : tie.After-read-columns-arg4 → tie.Start
 start c = c.before.before.before.before.before.before.before.before.before.before.before.before.before
 
-abbrev step : tie.After-slice-known15 → tie.After-step-on
+abbrev step : tie.After-slice_known-15-1 → tie.After-step_on-stepped
 step c = ran (settled c).before
 
-abbrev read : tie.After-step-on-arg5 → tie.After-read-columns
+abbrev read : tie.After-step-on-arg5 → tie.After-read_columns
 read c = columns-read c.before.before.before
 
-abbrev entry : tie.After-read-columns → tie.Start
+abbrev entry : tie.After-read_columns → tie.Start
 entry c = start c.before
 
 -- what is lent
@@ -44,26 +44,26 @@ known : (s : tie.Start) → Checked (input s) s.args.plan.budget
 known s = let p = s.args.plan in checked (input s) p.budget (tick_settings (input s) p.settings ++ (p.alpha_min ∷ [])) s.requires.0.0
 
 -- the lists, with the columns in them
-lists : (d : tie.After-read-columns) → ColumnsLent (count (input (entry d))) d.read-columns.new.1.0 d.read-columns.new.1.1.0 d.read-columns.new.1.1.1.0
-lists d = lists-kept (entry d).requires.1.0 d.read-columns.auto.1.0 d.read-columns.auto.1.1.0 d.read-columns.auto.1.1.1.0
+lists : (d : tie.After-read_columns) → ColumnsLent (count (input (entry d))) d.read_columns.new.places d.read_columns.new.speeds d.read_columns.new.flags
+lists d = lists-kept (entry d).requires.1.0 d.read_columns.auto.places d.read_columns.auto.speeds d.read_columns.auto.flags
 
-step-on-requires : tie.Need-step-on-requires
+step-on-requires : tie.Need-step_on-stepped-requires
 step-on-requires c κs =
     let d = read c in
     let s = entry d in
     let n = lists d in
-    let r = d.read-columns.ensures in
+    let r = d.read_columns.ensures in
     let k = known s in
     let few = k.fits.few in (
-      (fits-columns (input s) _ _ _ r _ k n, k.few, omega (arith, s.pre.1.1, n.flag_each)),
+      (fits-columns (input s) _ _ _ r _ k n, k.few, omega (arith, s.requires.1.1, n.flag_each)),
       (columns-fit (input s) _ _ _ r _ k n, chains (input s) _ _ _ r _ k n _ _ (room {A = ℕ} _ most_particles 0 few) (room {A = ℕ} _ most_particles 0 few)),
     )
 
-settle-step-requires : tie.Need-settle-step-requires
+settle-step-requires : tie.Need-settle_step-requires
 settle-step-requires c κs =
     let t = ran c in
     let d = read t.before in
-    record { whole = (known (entry d)).whole; place_each = t.step-on.kept.1.1.1.0 ∙ (lists d).place_each; speed_each = t.step-on.kept.1.1.1.1.0 ∙ (lists d).speed_each }
+    record { whole = (known (entry d)).whole; place_each = t.step_on-stepped.auto.places ∙ (lists d).place_each; speed_each = t.step_on-stepped.auto.speeds ∙ (lists d).speed_each }
 
 returns : tie.Need-returns
 returns c =
@@ -72,11 +72,11 @@ returns c =
     let d = read t.before in
     let s = entry d in
     let p = s.args.plan in
-    step-ran (input s) p.settings p.alpha_min p.budget s.pre.0.0 _ _ _ _ _ _ _ d.read-columns.ensures (lists d).flag_each s.pre.0.1 t.step-on.ensures
-    _ _ _ _ _ t.step-on.kept.1.1.1.1.1.1.1.1.1.1.1.0 e.settle_step.ensures
+    step-ran (input s) p.settings p.alpha_min p.budget s.requires.0.0 _ _ _ _ _ _ _ d.read_columns.ensures (lists d).flag_each s.requires.0.1 t.step_on-stepped.ensures
+    _ _ _ _ _ t.step_on-stepped.auto.work e.settle_step.ensures
 
-pub on-columns-spec : {M : Type 1} → statement M
-on-columns-spec =
+pub on_columns_spec : {M : Type 1} → statement M
+on_columns_spec =
     tie.close
     (tie.spec
     (λ c κs. let p = (start c).requires.1.0 in (p.place_each, p.speed_each, p.flag_each))
@@ -87,9 +87,9 @@ on-columns-spec =
     step-on-requires
     settle-step-requires
     (λ c. search rules)
-    (λ c. (step c).step-on.auto.1.1.1.0 ∙ (read (step c).before).read-columns.auto.1.0)
-    (λ c. (step c).step-on.auto.1.1.1.1.0 ∙ (read (step c).before).read-columns.auto.1.1.0)
-    (λ c. (read (step c).before).read-columns.auto.1.1.1.0)
-    (λ c. (step c).step-on.auto.1.1.1.1.1.1.1.1.0)
+    (λ c. (step c).step_on-stepped.auto.places ∙ (read (step c).before).read_columns.auto.places)
+    (λ c. (step c).step_on-stepped.auto.speeds ∙ (read (step c).before).read_columns.auto.speeds)
+    (λ c. (read (step c).before).read_columns.auto.flags)
+    (λ c. (step c).step_on-stepped.auto.kept)
     (λ c. search rules)
     returns)

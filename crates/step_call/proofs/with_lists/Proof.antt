@@ -24,7 +24,7 @@ few : (s : tie.Start) → count_of s.args.sheet.now ≤ most_particles
 few s = let p = s.args.plan in (checked (input s) p.budget (tick_settings (input s) p.settings ++ (p.alpha_min ∷ [])) s.requires.0).fits.few
 
 -- the point of the code from which each list is lent
-abbrev entry : tie.After-on-columns-arg2 → tie.Start
+abbrev entry : tie.After-on_columns-arg-2-1 → tie.Start
 entry c = c.before.before.before.before.before.before.before
 
 pairs : (s : tie.Start) → count_of s.args.sheet.now * 2 ≤ 2 * most_particles
@@ -33,10 +33,10 @@ pairs s = omega (arith, few s)
 both : (s : tie.Start) → count_of s.args.sheet.now * 4 ≤ 4 * most_particles
 both s = omega (arith, few s)
 
-on-columns-requires : tie.Need-on-columns-requires
+on-columns-requires : tie.Need-on_columns-requires
 on-columns-requires c κs =
     let s = entry c.before.before.before.before.before in (
-      s.pre,
+      s.requires,
       (
         record {
           place_each = room {A = Float} _ (2 * most_particles) 0· (pairs s);
@@ -47,8 +47,8 @@ on-columns-requires c κs =
       ),
     )
 
-pub with-lists-spec : {M : Type 1} → statement M
-with-lists-spec =
+pub with_lists_spec : {M : Type 1} → statement M
+with_lists_spec =
     tie.close
     (tie.spec
     (λ c. search rules)

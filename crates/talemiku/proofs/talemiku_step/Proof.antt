@@ -7,8 +7,8 @@ use Rattle.talemiku.proofs.talemiku_step.Tie as tie
 returns : tie.Need-returns
 returns c =
     let stepped = c.before.before.before.before in
-    rw stepped.before.before.before.before.settings-of.ensures at stepped.step.ensures
+    rw stepped.before.before.before.before.settings_of-s.ensures at stepped.step.ensures
 
-pub talemiku-step-spec : {M : Type 1} → statement M
-talemiku-step-spec =
+pub talemiku_step_spec : {M : Type 1} → statement M
+talemiku_step_spec =
     tie.close (tie.spec (λ c κs. search rules) (λ c κs. search rules) (λ c. search rules) (λ c. search rules) returns)

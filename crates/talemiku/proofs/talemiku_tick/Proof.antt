@@ -7,8 +7,8 @@ use Rattle.talemiku.proofs.talemiku_tick.Tie as tie
 returns : tie.Need-returns
 returns c =
     let ticked = c.before.before.before.before in
-    rw ticked.before.before.before.before.settings-of.ensures at ticked.tick.ensures
+    rw ticked.before.before.before.before.settings_of-s.ensures at ticked.tick.ensures
 
-pub talemiku-tick-spec : {M : Type 1} → statement M
-talemiku-tick-spec =
+pub talemiku_tick_spec : {M : Type 1} → statement M
+talemiku_tick_spec =
     tie.close (tie.spec (λ c κs. search rules) (λ c κs. search rules) (λ c. search rules) (λ c. search rules) returns)

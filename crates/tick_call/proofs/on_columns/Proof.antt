@@ -15,37 +15,37 @@ use Rattle.tick_call.proofs.on_columns.Statement.{statement}
 use Rattle.tick_call.proofs.on_columns.Tie as tie
 
 -- the points of the code, each from a later one
-abbrev settled : tie.After-slice-known15 → tie.After-settle-tick
+abbrev settled : tie.After-slice_known-15-1 → tie.After-settle_tick
 settled c = c.before.before.before.before
 
-abbrev ran : tie.After-settle-tick-arg5 → tie.After-tick-on
+abbrev ran : tie.After-settle-tick-arg5 → tie.After-tick_on-ran
 ran c = c.before.before.before.before.before.before.before.before.before.before.before.before.before
 
-abbrev float_read : tie.After-tick-on-arg4 → tie.After-float-of
+abbrev float_read : tie.After-tick-on-arg4 → tie.After-float_of
 float_read c = c.before.before.before.before
 
-abbrev copied : tie.After-float-of → tie.After-copy-to
+abbrev copied : tie.After-float_of → tie.After-copy_to
 copied c = c.before.before.before.before
 
-abbrev columns-read : tie.After-copy-to-arg2 → tie.After-read-columns
+abbrev columns-read : tie.After-copy-to-arg2 → tie.After-read_columns
 columns-read c = c.before.before.before.before.before.before.before.before
 
 abbrev start : tie.After-read-columns-arg4 → tie.Start
 start c = c.before.before.before.before.before.before.before.before.before.before.before.before.before
 
-abbrev tick : tie.After-slice-known15 → tie.After-tick-on
+abbrev tick : tie.After-slice_known-15-1 → tie.After-tick_on-ran
 tick c = ran (settled c).before
 
-abbrev lent : tie.After-tick-on-arg5 → tie.After-float-of
+abbrev lent : tie.After-tick-on-arg5 → tie.After-float_of
 lent c = float_read c.before.before.before
 
-abbrev read : tie.After-copy-to → tie.After-read-columns
+abbrev read : tie.After-copy_to → tie.After-read_columns
 read c = columns-read c.before
 
-abbrev columns : tie.After-slice-known15 → tie.After-read-columns
+abbrev columns : tie.After-slice_known-15-1 → tie.After-read_columns
 columns c = read (copied (lent (tick c).before))
 
-abbrev entry : tie.After-read-columns → tie.Start
+abbrev entry : tie.After-read_columns → tie.Start
 entry c = start c.before
 
 -- what is lent
@@ -56,29 +56,29 @@ known : (s : tie.Start) → Checked (input s) 0
 known s = checked (input s) 0 (tick_settings (input s) s.args.s) s.requires.0
 
 -- the lists, with the columns in them
-lists : (d : tie.After-read-columns) → ColumnsLent (count (input (entry d))) d.read-columns.new.1.0 d.read-columns.new.1.1.0 d.read-columns.new.1.1.1.0
-lists d = lists-kept (entry d).requires.1.0 d.read-columns.auto.1.0 d.read-columns.auto.1.1.0 d.read-columns.auto.1.1.1.0
+lists : (d : tie.After-read_columns) → ColumnsLent (count (input (entry d))) d.read_columns.new.places d.read_columns.new.speeds d.read_columns.new.flags
+lists d = lists-kept (entry d).requires.1.0 d.read_columns.auto.places d.read_columns.auto.speeds d.read_columns.auto.flags
 
 small : 0 < 2 ^ 62
 small = omega arith
 
-tick-on-requires : tie.Need-tick-on-requires
+tick-on-requires : tie.Need-tick_on-ran-requires
 tick-on-requires c κs =
     let h = copied (lent c) in
     let d = read h in
     let s = entry d in
     let n = lists d in
-    let r = d.read-columns.ensures in
+    let r = d.read_columns.ensures in
     let few = (known s).fits.few in (
-      (fits-columns (input s) _ _ _ r 0 (known s) n, h.copy-to.kept.1.0 ∙ pairs (input s) _ _ _ r 0 (known s) n _ s.pre.1.1),
+      (fits-columns (input s) _ _ _ r 0 (known s) n, h.copy_to.auto.to ∙ pairs (input s) _ _ _ r 0 (known s) n _ s.requires.1.1),
       (columns-fit (input s) _ _ _ r 0 (known s) n, chains (input s) _ _ _ r 0 (known s) n _ _ (room {A = ℕ} _ most_particles 0 few) (room {A = ℕ} _ most_particles 0 few), small),
     )
 
-settle-tick-requires : tie.Need-settle-tick-requires
+settle-tick-requires : tie.Need-settle_tick-requires
 settle-tick-requires c κs =
     let t = ran c in
     let d = read (copied (lent t.before)) in
-    record { whole = (known (entry d)).whole; place_each = t.tick-on.kept.1.1.1.1.0 ∙ (lists d).place_each; speed_each = t.tick-on.kept.1.1.1.1.1.0 ∙ (lists d).speed_each }
+    record { whole = (known (entry d)).whole; place_each = t.tick_on-ran.auto.places ∙ (lists d).place_each; speed_each = t.tick_on-ran.auto.speeds ∙ (lists d).speed_each }
 
 returns : tie.Need-returns
 returns c =
@@ -88,15 +88,15 @@ returns c =
     let h = copied x in
     let d = read h in
     let s = entry d in
-    tick_ran (input s) s.args.s s.pre.0 _ _ _ _ _ _ _ _ _ d.read-columns.ensures (lists d).flag_each x.float_of.ensures
-    (h.copy-to.ensures ∙ overwritten-all _ _ (s.pre.1.1 ∙ sym (lists d).place_each)) t.tick-on.ensures _ _ _ _ _ t.tick-on.kept.1.1.1.1.1.1.1.1.1.1.1.0 e.settle-tick.ensures
+    tick_ran (input s) s.args.s s.requires.0 _ _ _ _ _ _ _ _ _ d.read_columns.ensures (lists d).flag_each x.float_of.ensures
+    (h.copy_to.ensures ∙ overwritten-all _ _ (s.requires.1.1 ∙ sym (lists d).place_each)) t.tick_on-ran.ensures _ _ _ _ _ t.tick_on-ran.auto.work e.settle_tick.ensures
 
-pub on-columns-spec : {M : Type 1} → statement M
-on-columns-spec =
+pub on_columns_spec : {M : Type 1} → statement M
+on_columns_spec =
     tie.close
     (tie.spec
     (λ c κs. let p = (start c).requires.1.0 in (p.place_each, p.speed_each, p.flag_each))
-    (λ c κs. let d = columns-read c in omega (arith, (lists d).place_each, (entry d).pre.1.1))
+    (λ c κs. let d = columns-read c in omega (arith, (lists d).place_each, (entry d).requires.1.1))
     (λ c κs. search rules)
     (λ c. (known (entry (read (copied (float_read c))))).fits.few)
     (λ c. sym (room {A = ℕ} _ most_particles 0 (known (entry (read (copied (float_read c.before))))).fits.few))
@@ -105,9 +105,9 @@ on-columns-spec =
     tick-on-requires
     settle-tick-requires
     (λ c. search rules)
-    (λ c. (tick c).tick-on.auto.1.1.1.1.0 ∙ (columns c).read-columns.auto.1.0)
-    (λ c. (tick c).tick-on.auto.1.1.1.1.1.0 ∙ (columns c).read-columns.auto.1.1.0)
-    (λ c. (columns c).read-columns.auto.1.1.1.0)
-    (λ c. (copied (lent (tick c).before)).copy-to.auto.1.0)
+    (λ c. (tick c).tick_on-ran.auto.places ∙ (columns c).read_columns.auto.places)
+    (λ c. (tick c).tick_on-ran.auto.speeds ∙ (columns c).read_columns.auto.speeds)
+    (λ c. (columns c).read_columns.auto.flags)
+    (λ c. (copied (lent (tick c).before)).copy_to.auto.to)
     (λ c. search rules)
     returns)

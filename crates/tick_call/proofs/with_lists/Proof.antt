@@ -23,13 +23,13 @@ few : (s : tie.Start) → (count_of s.args.sheet.now * 2 ≤ 2 * most_particles)
 few s = let k = checked (input s) 0 (tick_settings (input s) s.args.s) s.requires in (omega (arith, k.fits.few), k.fits.few)
 
 -- the point of the code from which each list is lent
-abbrev entry : tie.After-on-columns-arg2 → tie.Start
+abbrev entry : tie.After-on_columns-arg-2-1 → tie.Start
 entry c = c.before.before.before.before.before.before.before
 
-on-columns-requires : tie.Need-on-columns-requires
+on-columns-requires : tie.Need-on_columns-requires
 on-columns-requires c κs =
     let s = entry c.before.before.before.before.before in (
-      s.pre,
+      s.requires,
       (
         record {
           place_each = room {A = Float} _ (2 * most_particles) 0· (few s).0;
@@ -40,8 +40,8 @@ on-columns-requires c κs =
       ),
     )
 
-pub with-lists-spec : {M : Type 1} → statement M
-with-lists-spec =
+pub with_lists_spec : {M : Type 1} → statement M
+with_lists_spec =
     tie.close
     (tie.spec
     (λ c. search rules)

@@ -10,15 +10,15 @@ use Rattle.tick_close.proofs.copy_from.Statement.{statement}
 use Rattle.tick_close.proofs.copy_from.Tie as tie
 
 -- the first i are filled
-abbrev invariant-loop : tie.invariant-loop
+abbrev invariant-loop : tie.invariant-loop-i
 invariant-loop from at to₀ i₀ to i = (i ≤ length to₀) × (length to ≡ length to₀) × (take i to ≡ take i (drop at from))
 
-abbrev decreases-loop : tie.decreases-loop
+abbrev decreases-loop : tie.decreases-loop-i
 decreases-loop from at to₀ i₀ to i = length to₀ - i
 
-loop-again : tie.Need-loop-preserved invariant-loop decreases-loop
+loop-again : tie.Need-loop-i-preserved invariant-loop decreases-loop
 loop-again c =
-    let l = c.before.before.loop in
+    let l = c.before.before.loop-i in
     let s = c.before.before.before in
     let part = drop s.args.at s.args.from.now in
     let long : l.i < length part = simp length-drop (omega (arith, s.requires)) in (
@@ -29,13 +29,13 @@ loop-again c =
 
 returns : tie.Need-returns invariant-loop decreases-loop
 returns c =
-    let l = c.before.loop in
+    let l = c.before.loop-i in
     let s = c.before.before in
     let all : l.i ≡ length s.args.to.now = omega (arith, l.invariant.1, l.invariant.0) in
     sym (take_all l.i l.to (omega (arith, l.invariant.1))) ∙ l.invariant.2 ∙ ap (λ (k : ℕ). take k (drop s.args.at s.args.from.now)) all
 
-pub copy-from-spec : {M : Type 1} → statement M
-copy-from-spec =
+pub copy_from_spec : {M : Type 1} → statement M
+copy_from_spec =
     tie.close
     (tie.spec
     invariant-loop
@@ -43,11 +43,11 @@ copy-from-spec =
     (λ c. (omega arith, refl, refl))
     (λ c. omega (arith, c.before.before.requires))
     (λ c. omega (arith, c.before.before.requires))
-    (λ c. omega (arith, c.before.before.before.requires, c.before.before.loop.invariant.1))
+    (λ c. omega (arith, c.before.before.before.requires, c.before.before.loop-i.invariant.1))
     (λ c. omega arith)
     (λ c. omega arith)
     (λ c. omega arith)
-    (λ c. omega (arith, c.before.before.loop.invariant.1))
+    (λ c. omega (arith, c.before.before.loop-i.invariant.1))
     loop-again
-    (λ c. omega (arith, c.before.loop.invariant.1))
+    (λ c. omega (arith, c.before.loop-i.invariant.1))
     returns)

@@ -14,15 +14,15 @@ use Rattle.tick_close.proofs.copy_to.Statement.{statement}
 use Rattle.tick_close.proofs.copy_to.Tie as tie
 
 -- the first i are written
-abbrev invariant-loop : tie.invariant-loop
+abbrev invariant-loop : tie.invariant-loop-i
 invariant-loop from to₀ at i₀ to i = (i ≤ length from) × (length to ≡ length to₀) × (overwritten to₀ at from ≡ overwritten to (at + i) (drop i from))
 
-abbrev decreases-loop : tie.decreases-loop
+abbrev decreases-loop : tie.decreases-loop-i
 decreases-loop from to₀ at i₀ to i = length from - i
 
-loop-again : tie.Need-loop-preserved invariant-loop decreases-loop
+loop-again : tie.Need-loop-i-preserved invariant-loop decreases-loop
 loop-again c =
-    let l = c.before.before.loop in
+    let l = c.before.before.loop-i in
     let s = c.before.before.before in
     let from = s.args.from.now in
     let rest = drop (l.i + 1) from in
@@ -38,13 +38,13 @@ loop-again c =
 
 returns : tie.Need-returns invariant-loop decreases-loop
 returns c =
-    let l = c.before.loop in
+    let l = c.before.loop-i in
     let s = c.before.before in
     let from = s.args.from.now in
     sym (l.invariant.2 ∙ ap (overwritten l.to (s.args.at + l.i)) (drop_of_length-le from {i = l.i} (omega arith)) ∙ overwritten-none l.to (s.args.at + l.i))
 
-pub copy-to-spec : {M : Type 1} → statement M
-copy-to-spec =
+pub copy_to_spec : {M : Type 1} → statement M
+copy_to_spec =
     tie.close
     (tie.spec
     invariant-loop
@@ -54,9 +54,9 @@ copy-to-spec =
     (λ c. omega arith)
     (λ c. omega (arith, c.before.before.before.requires))
     (λ c. omega (arith, c.before.before.before.requires))
-    (λ c. omega (arith, c.before.before.before.requires, c.before.before.loop.invariant.1))
+    (λ c. omega (arith, c.before.before.before.requires, c.before.before.loop-i.invariant.1))
     (λ c. omega arith)
     (λ c. omega arith)
     loop-again
-    (λ c. omega (arith, c.before.loop.invariant.1))
+    (λ c. omega (arith, c.before.loop-i.invariant.1))
     returns)

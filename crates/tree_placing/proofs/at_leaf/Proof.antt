@@ -8,7 +8,7 @@ use Rattle.tree_placing.proofs.at_leaf.Statement.{statement}
 use Rattle.tree_placing.proofs.at_leaf.Tie as tie
 
 -- where the function begins
-abbrev start : tie.After-shared-levels → tie.Start
+abbrev start : tie.After-shared_levels-g → tie.Start
 start c = c.before.before.before
 
 before-p : (s : tie.Start) → s.args.f < s.args.p
@@ -20,31 +20,31 @@ level-most s = leaf-most _ _ _ _ _ s.requires.1 _ _ _ _ s.requires.2
 nodes-few : (s : tie.Start) → s.args.q.nodes ≤ 262144
 nodes-few s = few _ _ _ _ _ s.requires.1
 
-shared-few : (c : tie.After-shared-levels) → c.shared-levels.result ≤ 64
-shared-few c = let s = start c in shared-most _ _ _ _ _ s.pre.1 _ _ _ _ s.pre.2 s.pre.3 c.shared-levels.result c.shared-levels.ensures
+shared-few : (c : tie.After-shared_levels-g) → c.shared_levels-g.result ≤ 64
+shared-few c = let s = start c in shared-most _ _ _ _ _ s.requires.1 _ _ _ _ s.requires.2 s.requires.3 c.shared_levels-g.result c.shared_levels-g.ensures
 
-shared-levels-requires : tie.Need-shared-levels-requires
+shared-levels-requires : tie.Need-shared_levels-g-requires
 shared-levels-requires c κs =
     let s = c.before.before in
     let l = before-p s in
     let r = s.requires.1.read in
     omega arith
 
-returns : tie.Need-returns
+returns : tie.Need-returns-then-g-left
 returns c is g h =
     let k = c.before in
     let s = start k in
-    grown-deep _ _ _ _ _ g _ _ _ _ h s.pre.3 k.shared-levels.result k.shared-levels.ensures c.if1.true s.args.m.now
+    grown-deep _ _ _ _ _ g _ _ _ _ h s.requires.3 k.shared_levels-g.result k.shared_levels-g.ensures c.if-g-left.true s.args.m.now
 
-returns-2 : tie.Need-returns-2
+returns-2 : tie.Need-returns-then-slots-q
 returns-2 c is g h =
     let b = c.before.before.before.before in
     let k = b.before in
-    grown-split-full _ _ _ _ _ g _ _ _ _ h (start k).requires.3 k.shared-levels.result k.shared-levels.ensures b.if1.false (omega (arith, c.before.before.slots.ensures, c.if2.true))
+    grown-split-full _ _ _ _ _ g _ _ _ _ h (start k).requires.3 k.shared_levels-g.result k.shared_levels-g.ensures b.if-g-left.false (omega (arith, c.before.before.slots.ensures, c.if-slots-q.true))
 
 -- there is room
-fits : (c : tie.Else2) → let k = c.before.before.before.before.before in (start k).args.q.nodes + k.shared-levels.result + 2 ≤ slots_of (start k).args.m.now
-fits c = omega (arith, c.before.before.slots.ensures, c.if2.false)
+fits : (c : tie.Else-slots-q) → let k = c.before.before.before.before.before in (start k).args.q.nodes + k.shared_levels-g.result + 2 ≤ slots_of (start k).args.m.now
+fits c = omega (arith, c.before.before.slots.ensures, c.if-slots-q.false)
 
 split-requires : tie.Need-split-requires
 split-requires c κs =
@@ -52,22 +52,22 @@ split-requires c κs =
     let b = e.before.before.before.before in
     let k = b.before in
     let s = start k in
-    split-asks _ _ _ _ _ s.pre.1 _ _ _ _ s.pre.2 s.pre.3 k.shared-levels.result k.shared-levels.ensures b.if1.false (fits e)
+    split-asks _ _ _ _ _ s.requires.1 _ _ _ _ s.requires.2 s.requires.3 k.shared_levels-g.result k.shared_levels-g.ensures b.if-g-left.false (fits e)
 
-returns-3 : tie.Need-returns-3
+returns-3 : tie.Need-returns
 returns-3 c is g h =
     let w = c.before.before.before in
     let e = w.before.before in
     let b = e.before.before.before.before in
     let k = b.before in
-    grown-split _ _ _ _ _ g _ _ _ _ h (start k).requires.3 k.shared-levels.result k.shared-levels.ensures b.if1.false (fits e) w.split.new.0 c.more.result w.split.ensures c.more.ensures
+    grown-split _ _ _ _ _ g _ _ _ _ h (start k).requires.3 k.shared_levels-g.result k.shared_levels-g.ensures b.if-g-left.false (fits e) w.split.new.m c.more.result w.split.ensures c.more.ensures
 
 -- from after the split back to the count
-abbrev shared : tie.After-slice-known2 → tie.After-shared-levels
+abbrev shared : tie.After-slice_known-2-1 → tie.After-shared_levels-g
 shared c = c.before.before.before.before.before.before.before.before.before
 
-pub at-leaf-spec : {M : Type 1} → statement M
-at-leaf-spec =
+pub at_leaf_spec : {M : Type 1} → statement M
+at_leaf_spec =
     tie.close
     (tie.spec
     (λ c. level-most c.before.before)

@@ -12,5 +12,5 @@ returns c =
     let q : Quadtree = s.args.q in
     ap (λ (d : ℕ). record { extent = q.extent; root = q.root; nodes = q.nodes + s.args.nodes; deepest = d }) c.greater.ensures
 
-pub more-spec : {M : Type 1} → statement M
-more-spec = tie.close (tie.spec (λ c. search rules) (λ c κs. search rules) returns)
+pub more_spec : {M : Type 1} → statement M
+more_spec = tie.close (tie.spec (λ c. search rules) (λ c κs. search rules) returns)

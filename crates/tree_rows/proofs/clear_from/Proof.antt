@@ -7,14 +7,14 @@ use Rattle.tree_rows.proofs.ListWhole.{Clearing, clearing_turn, clearing_end}
 use Rattle.tree_rows.proofs.clear_from.Statement.{statement}
 use Rattle.tree_rows.proofs.clear_from.Tie as tie
 
-abbrev invariant-loop : tie.invariant-loop
+abbrev invariant-loop : tie.invariant-loop-i
 invariant-loop list₀ from i₀ list i = Clearing list₀ from list i
 
-abbrev decreases-loop : tie.decreases-loop
+abbrev decreases-loop : tie.decreases-loop-i
 decreases-loop list₀ from i₀ list i = length list₀ - i
 
-pub clear-from-spec : {M : Type 1} → statement M
-clear-from-spec =
+pub clear_from_spec : {M : Type 1} → statement M
+clear_from_spec =
     tie.close
     (tie.spec
     invariant-loop
@@ -24,6 +24,6 @@ clear-from-spec =
     (λ c. omega arith)
     (λ c. omega arith)
     (λ c. omega arith)
-    (λ c. clearing_turn _ _ _ _ c.before.loop.invariant c.loop-test.true)
-    (λ c. c.before.loop.invariant.size)
-    (λ c. clearing_end _ _ _ _ c.before.loop.invariant c.loop-test.false))
+    (λ c. clearing_turn _ _ _ _ c.before.loop-i.invariant c.loop-i-test.true)
+    (λ c. c.before.loop-i.invariant.size)
+    (λ c. clearing_end _ _ _ _ c.before.loop-i.invariant c.loop-i-test.false))

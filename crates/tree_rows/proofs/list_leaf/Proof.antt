@@ -5,7 +5,7 @@ use Rattle.tree_rows.proofs.ListRows.{wrote_leaf}
 use Rattle.tree_rows.proofs.list_leaf.Statement.{statement}
 use Rattle.tree_rows.proofs.list_leaf.Tie as tie
 
-put-chain-requires : tie.Need-put-chain-requires
+put-chain-requires : tie.Need-put_chain-end-requires
 put-chain-requires c κs = let p = c.before.before.before.before.requires in (p.0, p.1.chain)
 
 -- the chain's length
@@ -13,22 +13,22 @@ sub-put-row : tie.Need-overflow-sub-put-row
 sub-put-row c =
     let d = c.before.before.before in
     let p = d.before.before.before.before.before.requires in
-    omega (arith, d.put-chain.ensures p.0 p.1.chain)
+    omega (arith, d.put_chain-end.ensures p.0 p.1.chain)
 
 cast-put-row : tie.Need-overflow-cast-put-row
 cast-put-row c =
     let d = c.before.before.before in
     let p = d.before.before.before.before.before.requires in
-    omega (arith, d.put-chain.ensures p.0 p.1.chain, p.1.chain.room, p.1.few)
+    omega (arith, d.put_chain-end.ensures p.0 p.1.chain, p.1.chain.room, p.1.few)
 
 returns : tie.Need-returns
 returns c is w =
     let d = c.before.before.before.before.before.before in
-    let e = d.put-chain.ensures is w.chain in
-    wrote_leaf e.0 e.1 c.before.before.put-row.ensures
+    let e = d.put_chain-end.ensures is w.chain in
+    wrote_leaf e.0 e.1 c.before.before.put_row.ensures
 
-pub list-leaf-spec : {M : Type 1} → statement M
-list-leaf-spec =
+pub list_leaf_spec : {M : Type 1} → statement M
+list_leaf_spec =
     tie.close
     (tie.spec
     put-chain-requires

@@ -6,19 +6,19 @@ use Rattle.tree_rows.proofs.ListChain.{Here, Chaining, chaining_start, chaining_
 use Rattle.tree_rows.proofs.put_chain.Statement.{statement}
 use Rattle.tree_rows.proofs.put_chain.Tie as tie
 
-abbrev invariant-loop : tie.invariant-loop
+abbrev invariant-loop : tie.invariant-loop-link
 invariant-loop next p chains₀ at link₀ end₀ chains link end = Chaining next chains₀ p at chains link end
 
-abbrev decreases-loop : tie.decreases-loop
+abbrev decreases-loop : tie.decreases-loop-link
 decreases-loop next p chains₀ at link₀ end₀ chains link end = length chains₀ - end
 
-here : (c : tie.In-loop invariant-loop decreases-loop)
+here : (c : tie.In-loop-link invariant-loop decreases-loop)
     → let a = c.before.before.args in
-    Here a.next.now a.chains.now a.p a.at c.before.loop.link c.before.loop.end
-here c = chaining_here _ _ _ _ _ _ _ c.before.loop.invariant c.loop-test.true
+    Here a.next.now a.chains.now a.p a.at c.before.loop-link.link c.before.loop-link.end
+here c = chaining_here _ _ _ _ _ _ _ c.before.loop-link.invariant c.loop-link-test.true
 
-pub put-chain-spec : {M : Type 1} → statement M
-put-chain-spec =
+pub put_chain_spec : {M : Type 1} → statement M
+put_chain_spec =
     tie.close
     (tie.spec
     invariant-loop
@@ -32,6 +32,6 @@ put-chain-spec =
     (λ c. omega (arith, here c))
     (λ c. (here c.before).inside)
     (λ c. omega (arith, here c.before))
-    (λ c. chaining_turn _ _ _ _ _ _ _ c.before.before.loop.invariant c.before.loop-test.true)
-    (λ c. c.before.loop.invariant.size)
-    (λ c. chaining_end _ _ _ _ _ _ _ c.before.loop.invariant c.loop-test.false))
+    (λ c. chaining_turn _ _ _ _ _ _ _ c.before.before.loop-link.invariant c.before.loop-link-test.true)
+    (λ c. c.before.loop-link.invariant.size)
+    (λ c. chaining_end _ _ _ _ _ _ _ c.before.loop-link.invariant c.loop-link-test.false))

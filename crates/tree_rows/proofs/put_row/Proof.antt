@@ -9,8 +9,8 @@ use Rattle.tree_rows.proofs.put_row.Tie as tie
 returns : tie.Need-returns
 returns c = stores _ _ _ _ _ _ c.requires
 
-pub put-row-spec : {M : Type 1} → statement M
-put-row-spec =
+pub put_row_spec : {M : Type 1} → statement M
+put_row_spec =
     tie.close
     (tie.spec
     (λ c. search rules)

@@ -5,15 +5,15 @@ use Rattle.words.proofs.word_at.Statement.{statement}
 use Rattle.words.proofs.word_at.Tie as tie
 
 -- the points of the code, each from a later one
-abbrev entry : tie.After-wide8 → tie.Start
+abbrev entry : tie.After-wide-b7 → tie.Start
 entry c = c.before.before.before.before.before.before.before.before.before.before.before.before.before.before.before.before.before
 
 returns : tie.Need-returns
 returns c =
-    let e = entry c in rw (word_sum _ _ e.pre) (search rules)
+    let e = entry c in rw (word_sum _ _ e.requires) (search rules)
 
-pub word-at-spec : {M : Type 1} → statement M
-word-at-spec =
+pub word_at_spec : {M : Type 1} → statement M
+word_at_spec =
     tie.close
     (tie.spec
     (λ c. search rules)

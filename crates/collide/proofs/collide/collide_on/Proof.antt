@@ -9,7 +9,7 @@ use Rattle.collide.proofs.collide.collide_on.Tie as tie
 -- the tree has its radii
 rounded : (c : tie.After-prepare)
     → let a = c.before.before.before.before.before.before.before.args in
-    Rounded a.at.now a.radii.now c.prepare.new.1.1.0 a.q
+    Rounded a.at.now a.radii.now c.prepare.new.m a.q
 rounded c =
     let f = c.before.before.before.before.before.before.before in
     let s = f.requires.1 in
@@ -28,5 +28,5 @@ returns c =
     let f = p.before.before.before.before.before.before.before in
     (i.iterate.ensures.0, omega (arith, i.iterate.ensures.1, few_visits (rounded p) f.requires.2))
 
-pub collide-on-spec : {M : Type 1} → statement M
-collide-on-spec = tie.close (tie.spec (λ c κs. search rules) iterate-requires (λ c. search rules) (λ c. search rules) returns)
+pub collide_on_spec : {M : Type 1} → statement M
+collide_on_spec = tie.close (tie.spec (λ c κs. search rules) iterate-requires (λ c. search rules) (λ c. search rules) returns)

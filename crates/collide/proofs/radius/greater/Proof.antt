@@ -5,16 +5,16 @@ use Rattle.collide.proofs.RadiusLaws.{child_greater, child_less}
 use Rattle.collide.proofs.radius.greater.Statement.{statement}
 use Rattle.collide.proofs.radius.greater.Tie as tie
 
-node-value-requires : tie.Need-node-value-requires
-node-value-requires c κs = (rw c.wide.ensures (lent-some _ _ c.before.before.before.requires c.before.if1.false), search rules)
+node-value-requires : tie.Need-node_value-below-requires
+node-value-requires c κs = (rw c.wide.ensures (lent-some _ _ c.before.before.before.requires c.before.if-child-eq0.false), search rules)
 
-returns-2 : tie.Need-returns-2
-returns-2 c = child_greater _ _ _ _ _ c.before.before.before.if1.false c.before.before.wide.ensures c.before.node-value.ensures c.if2.true
+returns-2 : tie.Need-returns-then-r-below
+returns-2 c = child_greater _ _ _ _ _ c.before.before.before.if-child-eq0.false c.before.before.wide.ensures c.before.node_value-below.ensures c.if-r-below.true
 
-returns-3 : tie.Need-returns-3
-returns-3 c = child_less _ _ _ _ _ c.before.before.before.if1.false c.before.before.wide.ensures c.before.node-value.ensures c.if2.false
+returns-3 : tie.Need-returns
+returns-3 c = child_less _ _ _ _ _ c.before.before.before.if-child-eq0.false c.before.before.wide.ensures c.before.node_value-below.ensures c.if-r-below.false
 
-pub greater-spec : {M : Type 1} → statement M
-greater-spec =
+pub greater_spec : {M : Type 1} → statement M
+greater_spec =
     tie.close
     (tie.spec (λ c. search rules) (λ c. search rules) (λ c κs. search rules) node-value-requires returns-2 returns-3)

@@ -12,15 +12,15 @@ use Rattle.edits_call.proofs.call.edits_passed.Statement.{statement}
 use Rattle.edits_call.proofs.call.edits_passed.Tie as tie
 
 -- not too many insertions
-few : (c : tie.After-insertions) → c.insertions.result ≤ most_edits
-few c = let s = c.before.before.before.before.before in omega (arith, c.insertions.ensures, (passing (lent s.args.edits.now s.args.rows.now s.args.chains.now s.args.work.now) s.requires).made)
+few : (c : tie.After-insertions-made) → c.insertions-made.result ≤ most_edits
+few c = let s = c.before.before.before.before.before in omega (arith, c.insertions-made.ensures, (passing (lent s.args.edits.now s.args.rows.now s.args.chains.now s.args.work.now) s.requires).made)
 
-edits-with-requires : tie.Need-edits-with-requires
+edits-with-requires : tie.Need-edits_with-requires
 edits-with-requires c κs =
     let i = c.before.before.before.before.before.before.before in
     let s = i.before.before.before.before.before in
-    let e = i.insertions.ensures in
-    let n = i.insertions.result in
+    let e = i.insertions-made.ensures in
+    let n = i.insertions-made.result in
     record {
       passed = s.requires;
       pairs = room (n * 2) (2 * most_edits) 0· (omega (arith, few i)) ∙ ap (λ (k : ℕ). k * 2) e;
@@ -29,8 +29,8 @@ edits-with-requires c κs =
       tails = room {A = ℕ} n most_edits 0 (few i) ∙ e;
     }
 
-pub edits-passed-spec : {M : Type 1} → statement M
-edits-passed-spec =
+pub edits_passed_spec : {M : Type 1} → statement M
+edits_passed_spec =
     tie.close
     (tie.spec
     (λ c κs. search rules)

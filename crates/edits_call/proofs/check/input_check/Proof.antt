@@ -6,16 +6,16 @@ use Rattle.edits_call.proofs.check.input_check.Statement.{statement}
 use Rattle.edits_call.proofs.check.input_check.Tie as tie
 
 -- where the function begins
-abbrev start : tie.After-count-check → tie.Start
+abbrev start : tie.After-count_check-many → tie.Start
 start c = c.before.before.before.before.before
 
-returns : tie.Need-returns
+returns : tie.Need-returns-then-number-ne0
 returns c =
     let k = c.before in
     let a = (start k).args in
-    stopped (lent a.edits.now a.rows.now a.chains.now a.work.now) _ k.count-check.ensures c.if1.true
+    stopped (lent a.edits.now a.rows.now a.chains.now a.work.now) _ k.count_check-many.ensures c.if-number-ne0.true
 
-returns-2 : tie.Need-returns-2
+returns-2 : tie.Need-returns
 returns-2 c =
     let w = c.before in
     let l = w.before in
@@ -23,10 +23,10 @@ returns-2 c =
     let e = g.before.before in
     let k = e.before in
     let a = (start k).args in
-    went_on (lent a.edits.now a.rows.now a.chains.now a.work.now) _ _ _ _ g.agree.result k.count-check.ensures e.if1.false (rw g.before.insertions.ensures at g.agree.ensures) l.lengths-check.ensures w.words-check.ensures c.first.ensures
+    went_on (lent a.edits.now a.rows.now a.chains.now a.work.now) _ _ _ _ g.agree-agreed.result k.count_check-many.ensures e.if-number-ne0.false (rw g.before.insertions.ensures at g.agree-agreed.ensures) l.lengths_check-lengths.ensures w.words_check-bad.ensures c.first.ensures
 
-pub input-check-spec : {M : Type 1} → statement M
-input-check-spec =
+pub input_check_spec : {M : Type 1} → statement M
+input_check_spec =
     tie.close
     (tie.spec
     (λ c κs. search rules)

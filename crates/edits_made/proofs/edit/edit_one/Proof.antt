@@ -11,40 +11,40 @@ use Rattle.edits_made.proofs.edit.edit_one.Statement.{statement}
 use Rattle.edits_made.proofs.edit.edit_one.Tie as tie
 
 -- where the function begins
-abbrev start : tie.After-slice-known4 → tie.Start
+abbrev start : tie.After-slice_known-4-1 → tie.Start
 start c = c.before.before.before.before.before
 
-returns : tie.Need-returns
+returns : tie.Need-returns-then-kind-eq0
 returns c is w h =
     let i = c.before.before.before.before.before.before.before.before in
     let t = i.before.before.before.before.before in
     let a = (start t.before).args in
-    subst (λ (n : ℕ). Changed a.at.now (slots_of a.m.now) a.k (present a.made is) (edit_of n a.number w) i.insert-next.new.1.0 i.insert-next.new.1.1.1.1.0 i.insert-next.new.1.1.0 i.insert-next.new.1.1.1.0 i.insert-next.result)
-    (sym t.if1.true) (i.insert-next.ensures is (float_of a.number) (float_of w) h)
+    subst (λ (n : ℕ). Changed a.at.now (slots_of a.m.now) a.k (present a.made is) (edit_of n a.number w) i.insert_next.new.there i.insert_next.new.m i.insert_next.new.next i.insert_next.new.tail i.insert_next.result)
+    (sym t.if-kind-eq0.true) (i.insert_next.ensures is (float_of a.number) (float_of w) h)
 
 -- a known kind that isn't 0
-removes : (c : tie.Else1) → (start c.before).args.kind ≡ 1
-removes c = let s = start c.before in let n = c.if1.false in omega (arith, s.pre.4)
+removes : (c : tie.Else-kind-eq0) → (start c.before).args.kind ≡ 1
+removes c = let s = start c.before in let n = c.if-kind-eq0.false in omega (arith, s.requires.4)
 
-returns-2 : tie.Need-returns-2
+returns-2 : tie.Need-returns
 returns-2 c is w h =
     let i = c.before.before.before.before.before.before.before.before in
     let t = i.before.before.before.before.before in
     let a = (start t.before).args in
-    subst (λ (n : ℕ). Changed a.at.now (slots_of a.m.now) a.k (present a.made is) (edit_of n a.number w) i.remove-one.new.1.0 i.remove-one.new.1.1.1.1.0 i.remove-one.new.1.1.0 i.remove-one.new.1.1.1.0 i.remove-one.result)
-    (sym (removes t)) (i.remove-one.ensures is h)
+    subst (λ (n : ℕ). Changed a.at.now (slots_of a.m.now) a.k (present a.made is) (edit_of n a.number w) i.remove_one.new.there i.remove_one.new.m i.remove_one.new.next i.remove_one.new.tail i.remove_one.result)
+    (sym (removes t)) (i.remove_one.ensures is h)
 
-pub edit-one-spec : {M : Type 1} → statement M
-edit-one-spec =
+pub edit_one_spec : {M : Type 1} → statement M
+edit_one_spec =
     tie.close
     (tie.spec
-    (λ c κs. let t = c.before.before.before.before in let s = start t.before in (_, s.pre.1, s.pre.2, s.pre.5 t.if1.true))
+    (λ c κs. let t = c.before.before.before.before in let s = start t.before in (_, s.requires.1, s.requires.2, s.requires.5 t.if-kind-eq0.true))
     (λ c. search rules)
     (λ c. search rules)
     (λ c. search rules)
     (λ c. search rules)
     returns
-    (λ c κs. let s = start c.before.before.before.before.before in (_, s.pre.1, s.pre.2, s.pre.3))
+    (λ c κs. let s = start c.before.before.before.before.before in (_, s.requires.1, s.requires.2, s.requires.3))
     (λ c. search rules)
     (λ c. search rules)
     (λ c. search rules)

@@ -14,40 +14,40 @@ use Rattle.edits_words.proofs.Turns.{kind_refused, kind-passed}
 use Rattle.edits_words.proofs.check.kinds_check.Statement.{statement}
 use Rattle.edits_words.proofs.check.kinds_check.Tie as tie
 
-abbrev invariant-loop : tie.invariant-loop
+abbrev invariant-loop : tie.invariant-loop-k
 invariant-loop edits n k₀ k =
     (k ≤ n) × (check_each (λ k e. require (known e) 5 k) (edits_of edits) ≡ check_from (λ k e. require (known e) 5 k) k (edits_of (drop (k * edit_words) edits)))
 
-abbrev decreases-loop : tie.decreases-loop
+abbrev decreases-loop : tie.decreases-loop-k
 decreases-loop edits n k₀ k = n - k
 
-returns : tie.Need-returns invariant-loop decreases-loop
+returns : tie.Need-returns-then-edits-k-gt1 invariant-loop decreases-loop
 returns c =
-    let o = c.before.before.before.before.loop in
+    let o = c.before.before.before.before.loop-k in
     let w = c.before.before.before.before.before.before.args.edits.now in
     c.at.ensures
     ∙ rw o.invariant.1
     (answer_stop (λ k e. require (known e) 5 k) (λ k. edits_of (drop (k * edit_words) w)) o.k (edit_at w o.k) (edits-next w o.k (omega arith)) (refusal 5 o.k)
-    (kind_refused o.k (get_or w (o.k * edit_words) 0) _ _ (omega (arith, c.before.if1.true))) (λ z. omega arith))
+    (kind_refused o.k (get_or w (o.k * edit_words) 0) _ _ (omega (arith, c.before.if-edits-k-gt1.true))) (λ z. omega arith))
 
-loop-again : tie.Need-loop-preserved invariant-loop decreases-loop
+loop-again : tie.Need-loop-k-preserved invariant-loop decreases-loop
 loop-again c =
-    let o = c.before.before.before.loop in
+    let o = c.before.before.before.loop-k in
     let w = c.before.before.before.before.before.args.edits.now in (
       omega arith,
       o.invariant.1
           ∙ answer_on (λ k e. require (known e) 5 k) (λ k. edits_of (drop (k * edit_words) w)) o.k (edit_at w o.k) (edits-next w o.k (omega arith)) no_refusal
-          (kind-passed o.k (get_or w (o.k * edit_words) 0) _ _ (omega (arith, c.if1.false))) (of_require (known (edit_at w o.k)) 5 o.k (five o.k)) refl,
+          (kind-passed o.k (get_or w (o.k * edit_words) 0) _ _ (omega (arith, c.if-edits-k-gt1.false))) (of_require (known (edit_at w o.k)) 5 o.k (five o.k)) refl,
     )
 
-returns-2 : tie.Need-returns-2 invariant-loop decreases-loop
+returns-2 : tie.Need-returns invariant-loop decreases-loop
 returns-2 c =
-    let o = c.before.before.loop in
+    let o = c.before.before.loop-k in
     let w = c.before.before.before.before.args.edits.now in
     c.none.ensures ∙ rw (o.invariant.1, edits_end w o.k (omega arith))
 
-pub kinds-check-spec : {M : Type 1} → statement M
-kinds-check-spec =
+pub kinds_check_spec : {M : Type 1} → statement M
+kinds_check_spec =
     tie.close
     (tie.spec
     invariant-loop

@@ -11,39 +11,39 @@ use Rattle.edits_words.proofs.Words.{edit_at, edits-next, edits_end, point_early
 use Rattle.edits_words.proofs.check.points_check.Statement.{statement}
 use Rattle.edits_words.proofs.check.points_check.Tie as tie
 
-abbrev invariant-loop : tie.invariant-loop
+abbrev invariant-loop : tie.invariant-loop-k
 invariant-loop edits n k₀ k = (k ≤ n) × (check_each point_check (edits_of edits) ≡ check_from point_check k (edits_of (drop (k * edit_words) edits)))
 
-abbrev decreases-loop : tie.decreases-loop
+abbrev decreases-loop : tie.decreases-loop-k
 decreases-loop edits n k₀ k = n - k
 
-returns : tie.Need-returns invariant-loop decreases-loop
+returns : tie.Need-returns-then-number-ne0 invariant-loop decreases-loop
 returns c =
     let p = c.before in
-    let o = p.before.before.before.before.before.loop in
+    let o = p.before.before.before.before.before.loop-k in
     let w = p.before.before.before.before.before.before.before.args.edits.now in
     rw o.invariant.1
-    (answer_stop point_check (λ k. edits_of (drop (k * edit_words) w)) o.k (edit_at w o.k) (edits-next w o.k (omega arith)) p.point-check.result p.point-check.ensures c.if1.true)
+    (answer_stop point_check (λ k. edits_of (drop (k * edit_words) w)) o.k (edit_at w o.k) (edits-next w o.k (omega arith)) p.point_check-r.result p.point_check-r.ensures c.if-number-ne0.true)
 
-loop-again : tie.Need-loop-preserved invariant-loop decreases-loop
+loop-again : tie.Need-loop-k-preserved invariant-loop decreases-loop
 loop-again c =
     let p = c.before in
-    let o = p.before.before.before.before.before.loop in
+    let o = p.before.before.before.before.before.loop-k in
     let w = p.before.before.before.before.before.before.before.args.edits.now in (
       omega arith,
       o.invariant.1
-          ∙ answer_on point_check (λ k. edits_of (drop (k * edit_words) w)) o.k (edit_at w o.k) (edits-next w o.k (omega arith)) p.point-check.result p.point-check.ensures
-          (point_early o.k (edit_at w o.k)) c.if1.false,
+          ∙ answer_on point_check (λ k. edits_of (drop (k * edit_words) w)) o.k (edit_at w o.k) (edits-next w o.k (omega arith)) p.point_check-r.result p.point_check-r.ensures
+          (point_early o.k (edit_at w o.k)) c.if-number-ne0.false,
     )
 
-returns-2 : tie.Need-returns-2 invariant-loop decreases-loop
+returns-2 : tie.Need-returns invariant-loop decreases-loop
 returns-2 c =
-    let o = c.before.before.loop in
+    let o = c.before.before.loop-k in
     let w = c.before.before.before.before.args.edits.now in
     c.none.ensures ∙ rw (o.invariant.1, edits_end w o.k (omega arith))
 
-pub points-check-spec : {M : Type 1} → statement M
-points-check-spec =
+pub points_check_spec : {M : Type 1} → statement M
+points_check_spec =
     tie.close
     (tie.spec
     invariant-loop

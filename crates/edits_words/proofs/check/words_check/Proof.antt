@@ -13,8 +13,8 @@ returns : tie.Need-returns
 returns c =
     let es = edits_of c.before.before.before.before.args.edits.now in
     c.first.ensures
-    ∙ rw (c.before.kinds-check.ensures, c.before.before.points-check.ensures)
+    ∙ rw (c.before.kinds_check-kinds.ensures, c.before.before.points_check-points.ensures)
     (first_then (check_each point_check es) (check_each (λ k e. require (known e) 5 k) es) (of_each point_early es))
 
-pub words-check-spec : {M : Type 1} → statement M
-words-check-spec = tie.close (tie.spec (λ c κs. search rules) (λ c κs. search rules) (λ c κs. search rules) returns)
+pub words_check_spec : {M : Type 1} → statement M
+words_check_spec = tie.close (tie.spec (λ c κs. search rules) (λ c κs. search rules) (λ c κs. search rules) returns)

@@ -10,29 +10,29 @@ use Rattle.edits_words.proofs.Turns.{count-here, count_past}
 use Rattle.edits_words.proofs.count.insertions.Statement.{statement}
 use Rattle.edits_words.proofs.count.insertions.Tie as tie
 
-abbrev invariant-loop : tie.invariant-loop
+abbrev invariant-loop : tie.invariant-loop-k
 invariant-loop edits n made₀ k₀ made k = (k ≤ n) × (made ≤ k) × (made + insertions (edits_of (drop (k * edit_words) edits)) ≡ insertions (edits_of edits))
 
-abbrev decreases-loop : tie.decreases-loop
+abbrev decreases-loop : tie.decreases-loop-k
 decreases-loop edits n made₀ k₀ made k = n - k
 
-loop-again : tie.Need-loop-preserved invariant-loop decreases-loop
+loop-again : tie.Need-loop-k-preserved invariant-loop decreases-loop
 loop-again c =
-    let o = c.before.before.before.loop in
+    let o = c.before.before.before.loop-k in
     let w = c.before.before.before.before.args.edits.now in
     ⊎_elim
     (λ a. omega (arith, a.1, o.invariant, count-here w o.k (omega arith) (omega (arith, a.0.taken))))
     (λ a. omega (arith, a.1, o.invariant, count_past w o.k (omega arith) (λ z. omega (arith, a.0.left))))
-    c.if1.branch
+    c.if-edits-k-eq0.branch
 
 returns : tie.Need-returns invariant-loop decreases-loop
 returns c =
-    let o = c.before.loop in
+    let o = c.before.loop-k in
     let w = c.before.before.args.edits.now in
     omega (arith, o.invariant, ap insertions (edits_end w o.k (omega arith)))
 
-pub insertions-spec : {M : Type 1} → statement M
-insertions-spec =
+pub insertions_spec : {M : Type 1} → statement M
+insertions_spec =
     tie.close
     (tie.spec
     invariant-loop

@@ -12,26 +12,26 @@ use Rattle.edits_words.proofs.Turns.{count-here, count_past, read_here, read_pas
 use Rattle.edits_words.proofs.read.read_points.Statement.{statement}
 use Rattle.edits_words.proofs.read.read_points.Tie as tie
 
-abbrev invariant-loop : tie.invariant-loop
+abbrev invariant-loop : tie.invariant-loop-k
 invariant-loop edits places₀ n i₀ k₀ places i k =
     (k ≤ n)
     × (length places ≡ length places₀)
     × (i + insertions (edits_of (drop (k * edit_words) edits)) * 2 ≡ length places₀)
     × (take i places ++ points_of (edits_of (drop (k * edit_words) edits)) ≡ points_of (edits_of edits))
 
-abbrev decreases-loop : tie.decreases-loop
+abbrev decreases-loop : tie.decreases-loop-k
 decreases-loop edits places₀ n i₀ k₀ places i k = n - k
 
 -- an insertion has room for its point
-fits : (c : tie.Then1 invariant-loop decreases-loop) → let o = c.before.before.before.loop in o.i + 2 ≤ length o.places
+fits : (c : tie.Then-edits-j-eq0 invariant-loop decreases-loop) → let o = c.before.before.before.loop-k in o.i + 2 ≤ length o.places
 fits c =
-    let o = c.before.before.before.loop in
+    let o = c.before.before.before.loop-k in
     let w = c.before.before.before.before.before.before.args.edits.now in
-    omega (arith, o.invariant, count-here w o.k (omega arith) c.if1.true)
+    omega (arith, o.invariant, count-here w o.k (omega arith) c.if-edits-j-eq0.true)
 
-loop-again : tie.Need-loop-preserved invariant-loop decreases-loop
+loop-again : tie.Need-loop-k-preserved invariant-loop decreases-loop
 loop-again c =
-    let o = c.before.before.before.loop in
+    let o = c.before.before.before.loop-k in
     let w = c.before.before.before.before.before.before.args.edits.now in
     ⊎_elim
     (λ a. (
@@ -46,16 +46,16 @@ loop-again c =
       omega (arith, a.2, o.invariant, count_past w o.k (omega arith) a.0.left),
       rw (a.1, a.2) (read_past w o.k (omega arith) o.places o.i a.0.left) ∙ o.invariant.3,
     ))
-    c.if1.branch
+    c.if-edits-j-eq0.branch
 
 returns : tie.Need-returns invariant-loop decreases-loop
 returns c =
-    let o = c.before.loop in
+    let o = c.before.loop-k in
     let w = c.before.before.before.before.args.edits.now in
     sym (read_end w o.k o.places o.i (omega arith) (omega (arith, o.invariant, ap insertions (edits_end w o.k (omega arith))))) ∙ o.invariant.3
 
-pub read-points-spec : {M : Type 1} → statement M
-read-points-spec =
+pub read_points_spec : {M : Type 1} → statement M
+read_points_spec =
     tie.close
     (tie.spec
     invariant-loop
@@ -81,5 +81,5 @@ read-points-spec =
     (λ c. omega arith)
     (λ c. omega arith)
     loop-again
-    (λ c. c.before.loop.invariant.1)
+    (λ c. c.before.loop-k.invariant.1)
     returns)

@@ -6,5 +6,5 @@ use Rattle.force.proofs.Ran.done.Tie as tie
 returns : tie.Need-returns
 returns c = rw (c.refused.ensures, c.before.none.ensures)
 
-pub done-spec : {M : Type 1} → statement M
-done-spec = tie.close (tie.spec (λ c κs. search rules) (λ c κs. search rules) returns)
+pub done_spec : {M : Type 1} → statement M
+done_spec = tie.close (tie.spec (λ c κs. search rules) (λ c κs. search rules) returns)

@@ -6,5 +6,5 @@ use Rattle.force.proofs.Ran.dry.Tie as tie
 returns : tie.Need-returns
 returns c = rw (c.refused.ensures, c.before.at.ensures)
 
-pub dry-spec : {M : Type 1} → statement M
-dry-spec = tie.close (tie.spec (λ c κs. search rules) (λ c κs. search rules) returns)
+pub dry_spec : {M : Type 1} → statement M
+dry_spec = tie.close (tie.spec (λ c κs. search rules) (λ c κs. search rules) returns)

@@ -6,17 +6,17 @@ use Rattle.force.proofs.Drawing.{zero-next, zero_dry, kept}
 use Rattle.force.proofs.draws.nonzero.Statement.{statement}
 use Rattle.force.proofs.draws.nonzero.Tie as tie
 
-returns : tie.Need-returns
+returns : tie.Need-returns-then-used-draws
 unfolding drawn_of
-returns c = (zero-next _ _ _ c.before.before.if1.true c.before.if2.true, omega arith)
+returns c = (zero-next _ _ _ c.before.before.if-x.true c.before.if-used-draws.true, omega arith)
 
-returns-2 : tie.Need-returns-2
+returns-2 : tie.Need-returns-then-x
 unfolding drawn_of
-returns-2 c = (zero_dry _ _ _ c.before.if1.true c.if2.false, omega arith)
+returns-2 c = (zero_dry _ _ _ c.before.if-x.true c.if-used-draws.false, omega arith)
 
-returns-3 : tie.Need-returns-3
+returns-3 : tie.Need-returns
 unfolding drawn_of
-returns-3 c = let a = c.before.args in (kept a.x a.draws.now a.used c.if1.false, omega arith)
+returns-3 c = let a = c.before.args in (kept a.x a.draws.now a.used c.if-x.false, omega arith)
 
-pub nonzero-spec : {M : Type 1} → statement M
-nonzero-spec = tie.close (tie.spec (λ c. search rules) (λ c. search rules) (λ c. search rules) returns returns-2 returns-3)
+pub nonzero_spec : {M : Type 1} → statement M
+nonzero_spec = tie.close (tie.spec (λ c. search rules) (λ c. search rules) (λ c. search rules) returns returns-2 returns-3)

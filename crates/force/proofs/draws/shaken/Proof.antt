@@ -6,12 +6,12 @@ use Rattle.force.proofs.Drawing.{shaken_dry, shaken-on}
 use Rattle.force.proofs.draws.shaken.Statement.{statement}
 use Rattle.force.proofs.draws.shaken.Tie as tie
 
-returns : tie.Need-returns
+returns : tie.Need-returns-then-dry
 unfolding shaken_of
-returns c = (shaken_dry _ _ _ _ _ c.before.nonzero.ensures.0 c.if1.true, omega arith)
+returns c = (shaken_dry _ _ _ _ _ c.before.nonzero-first.ensures.0 c.if-dry.true, omega arith)
 
-returns-2 : tie.Need-returns-2
-returns-2 c = (shaken-on _ _ _ _ _ c.before.before.nonzero.ensures.0 c.before.if1.false _ c.nonzero2.ensures.0, omega arith)
+returns-2 : tie.Need-returns
+returns-2 c = (shaken-on _ _ _ _ _ c.before.before.nonzero-first.ensures.0 c.before.if-dry.false _ c.nonzero-second.ensures.0, omega arith)
 
-pub shaken-spec : {M : Type 1} → statement M
-shaken-spec = tie.close (tie.spec (λ c κs. search rules) returns (λ c κs. search rules) returns-2)
+pub shaken_spec : {M : Type 1} → statement M
+shaken_spec = tie.close (tie.spec (λ c κs. search rules) returns (λ c κs. search rules) returns-2)

@@ -8,8 +8,8 @@ returns : tie.Need-returns
 unfolding Rattle.rules.specs.Flow.pushed Rattle.rules.specs.Number.set_pair
 returns c = refl
 
-pub push-back-spec : {M : Type 1} → statement M
-push-back-spec =
+pub push_back_spec : {M : Type 1} → statement M
+push_back_spec =
     tie.close
     (tie.spec
     (λ c. search rules)

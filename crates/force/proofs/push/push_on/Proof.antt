@@ -8,8 +8,8 @@ returns : tie.Need-returns
 unfolding Rattle.rules.specs.Flow.pushed Rattle.rules.specs.Number.set_pair
 returns c = refl
 
-pub push-on-spec : {M : Type 1} → statement M
-push-on-spec =
+pub push_on_spec : {M : Type 1} → statement M
+push_on_spec =
     tie.close
     (tie.spec
     (λ c. search rules)

@@ -10,43 +10,43 @@ use Rattle.link.proofs.Tallies.{count_room, count_turn}
 use Rattle.link.proofs.link.count_ends.Statement.{statement}
 use Rattle.link.proofs.link.count_ends.Tie as tie
 
-abbrev invariant-loop : tie.invariant-loop
+abbrev invariant-loop : tie.invariant-loop-k
 invariant-loop links counts₀ n k₀ counts k =
     (k ≤ n)
     × (length counts ≡ length counts₀)
     × (counts ≡ tallies (length counts₀) (ends_from links k))
 
-abbrev decreases-loop : tie.decreases-loop
+abbrev decreases-loop : tie.decreases-loop-k
 decreases-loop links counts₀ n k₀ counts k = n - k
 
-count-link-requires : tie.Need-count-link-requires invariant-loop decreases-loop
+count-link-requires : tie.Need-count_link-requires invariant-loop decreases-loop
 count-link-requires c κs =
     let b = c.before.before.before.before.before in
-    let l = b.before.loop in
-    count_room b.before.before.before.before.requires.0 l.k b.loop-test.true l.counts l.invariant.2 c.before.before.wide.result c.wide2.result
-    c.before.before.wide.ensures c.wide2.ensures
+    let l = b.before.loop-k in
+    count_room b.before.before.before.before.requires.0 l.k b.loop-k-test.true l.counts l.invariant.2 c.before.before.wide.result c.wide-in-loop-k.result
+    c.before.before.wide.ensures c.wide-in-loop-k.ensures
 
-loop-again : tie.Need-loop-preserved invariant-loop decreases-loop
+loop-again : tie.Need-loop-k-preserved invariant-loop decreases-loop
 loop-again c =
     let d = c.before.before in
     let i = d.before in
     let b = i.before.before.before.before.before in
-    let l = b.before.loop in (
+    let l = b.before.loop-k in (
       omega arith,
-      d.count-link.auto.0 ∙ l.invariant.1,
-      count_turn b.before.before.before.before.requires.0 l.k b.loop-test.true l.counts l.invariant.2 i.before.before.wide.result i.wide2.result
-          i.before.before.wide.ensures i.wide2.ensures d.count-link.new.0 d.count-link.ensures,
+      d.count_link.auto.counts ∙ l.invariant.1,
+      count_turn b.before.before.before.before.requires.0 l.k b.loop-k-test.true l.counts l.invariant.2 i.before.before.wide.result i.wide-in-loop-k.result
+          i.before.before.wide.ensures i.wide-in-loop-k.ensures d.count_link.new.counts d.count_link.ensures,
     )
 
 returns : tie.Need-returns invariant-loop decreases-loop
 returns c =
-    let l = c.before.loop in
+    let l = c.before.loop-k in
     let s = c.before.before.before.before in
     let e : l.k ≡ length s.args.links.now / 2 = omega arith in
     l.invariant.2 ∙ ap (λ k. tallies (length s.args.counts.now) (ends_from s.args.links.now k)) e
 
-pub count-ends-spec : {M : Type 1} → statement M
-count-ends-spec =
+pub count_ends_spec : {M : Type 1} → statement M
+count_ends_spec =
     tie.close
     (tie.spec
     invariant-loop

@@ -24,8 +24,8 @@ iterate-requires c κs =
       s.requires.5,
     )
 
-pub link-spec : {M : Type 1} → statement M
-link-spec =
+pub link_spec : {M : Type 1} → statement M
+link_spec =
     tie.close
     (tie.spec
     (λ c. search rules)

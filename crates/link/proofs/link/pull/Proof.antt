@@ -13,36 +13,36 @@ use Rattle.link.proofs.link.pull.Statement.{statement}
 use Rattle.link.proofs.link.pull.Tie as tie
 
 -- the points of the code, each from a later one
-abbrev else1 : tie.After-shaken → tie.Else1
+abbrev else1 : tie.After-shaken-g → tie.Else-source-target
 else1 c = c.before.before.before.before.before
 
-abbrev widened2 : tie.After-between-arg2 → tie.After-wide2
+abbrev widened2 : tie.After-between-arg2 → tie.After-wide-target
 widened2 c = c.before.before.before.before
 
-abbrev entry : tie.After-wide2 → tie.Start
+abbrev entry : tie.After-wide-target → tie.Start
 entry c = c.before.before.before.before.before.before.before.before.before.before.before
 
 -- both ends are particles
-both : (c : tie.After-wide2)
+both : (c : tie.After-wide-target)
     → let n = length (entry c).args.counts.now in
-    (c.before.before.wide.result < n) × (c.wide2.result < n)
+    (c.before.before.wide-source.result < n) × (c.wide-target.result < n)
 both c =
     let s = entry c in
-    let b = ready-ends s.pre.0 s.args.k s.pre.3 in
-    (rw (entry, c.before.before.wide.ensures) b.0, rw (entry, c.wide2.ensures) b.1)
+    let b = ready-ends s.requires.0 s.args.k s.requires.3 in
+    (rw (entry, c.before.before.wide-source.ensures) b.0, rw (entry, c.wide-target.ensures) b.1)
 
-returns : tie.Need-returns
+returns : tie.Need-returns-then-source-target
 unfolding spent_of
 returns c =
     let d = c.before in
     let s = entry d in
     let a = s.args in (
       pull_self a.at.now (ends_of a.links.now) a.strengths.now a.distances.now a.alpha a.k (ends_at a.links.now a.k) _
-          (sym d.before.before.wide.ensures ∙ c.if1.true ∙ d.wide2.ensures),
-      omega (arith, s.pre),
+          (sym d.before.before.wide-source.ensures ∙ c.if-source-target.true ∙ d.wide-target.ensures),
+      omega (arith, s.requires),
     )
 
-returns-2 : tie.Need-returns-2
+returns-2 : tie.Need-returns-then-dry
 unfolding spent_of
 returns-2 c =
     let g = c.before in
@@ -50,13 +50,13 @@ returns-2 c =
     let s = entry d in
     let a = s.args in (
       pull-dry a.at.now (ends_of a.links.now) a.strengths.now a.distances.now a.alpha a.k (ends_at a.links.now a.k)
-          a.vs.now a.draws.now a.used d.before.before.wide.result d.wide2.result _ _ g.shaken.result
-          d.before.before.wide.ensures d.wide2.ensures (else1 g).if1.false
-          g.before.before.before.between.ensures g.before.between2.ensures g.shaken.ensures.0 c.if2.true,
-      g.shaken.ensures.1,
+          a.vs.now a.draws.now a.used d.before.before.wide-source.result d.wide-target.result _ _ g.shaken-g.result
+          d.before.before.wide-source.ensures d.wide-target.ensures (else1 g).if-source-target.false
+          g.before.before.before.between-x.ensures g.before.between-y.ensures g.shaken-g.ensures.0 c.if-dry.true,
+      g.shaken-g.ensures.1,
     )
 
-returns-3 : tie.Need-returns-3
+returns-3 : tie.Need-returns
 unfolding spent_of
 returns-3 c =
     let e = c.before.before in
@@ -65,15 +65,15 @@ returns-3 c =
     let s = entry d in
     let a = s.args in (
       pull-tied a.at.now (ends_of a.links.now) a.strengths.now a.distances.now a.alpha a.k (ends_at a.links.now a.k)
-          a.vs.now a.draws.now a.used d.before.before.wide.result d.wide2.result _ _ g.shaken.result
-          d.before.before.wide.ensures d.wide2.ensures (else1 g).if1.false
-          g.before.before.before.between.ensures g.before.between2.ensures g.shaken.ensures.0 e.before.before.if2.false
-          e.tie.new.0 e.tie.ensures,
-      g.shaken.ensures.1,
+          a.vs.now a.draws.now a.used d.before.before.wide-source.result d.wide-target.result _ _ g.shaken-g.result
+          d.before.before.wide-source.ensures d.wide-target.ensures (else1 g).if-source-target.false
+          g.before.before.before.between-x.ensures g.before.between-y.ensures g.shaken-g.ensures.0 e.before.before.if-dry.false
+          e.tie.new.vs e.tie.ensures,
+      g.shaken-g.ensures.1,
     )
 
-pub pull-spec : {M : Type 1} → statement M
-pull-spec =
+pub pull_spec : {M : Type 1} → statement M
+pull_spec =
     tie.close
     (tie.spec
     (λ c. search rules)

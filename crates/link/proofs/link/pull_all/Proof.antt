@@ -9,62 +9,62 @@ use Rattle.link.proofs.Linked.{pull_left, pull-first, all-dry, all-on, all_end}
 use Rattle.link.proofs.link.pull_all.Statement.{statement}
 use Rattle.link.proofs.link.pull_all.Tie as tie
 
-abbrev invariant-loop : tie.invariant-loop
+abbrev invariant-loop : tie.invariant-loop-k
 invariant-loop at vs₀ links counts strengths distances alpha draws used n spent₀ k₀ vs spent k =
     (k ≤ n)
     × (length vs ≡ length vs₀)
     × From draws used spent
     × (pull_left at links strengths distances alpha 0 (flow vs₀ (drop used draws)) ≡ pull_left at links strengths distances alpha k (flow vs (drop spent draws)))
 
-abbrev decreases-loop : tie.decreases-loop
+abbrev decreases-loop : tie.decreases-loop-k
 decreases-loop at vs₀ links counts strengths distances alpha draws used n spent₀ k₀ vs spent k = n - k
 
 -- the points of the code, each from a later one
-abbrev entry : tie.At-loop invariant-loop decreases-loop → tie.Start invariant-loop decreases-loop
+abbrev entry : tie.At-loop-k invariant-loop decreases-loop → tie.Start invariant-loop decreases-loop
 entry c = c.before.before.before.before.before.before.before.before
 
-pull-requires : tie.Need-pull-requires invariant-loop decreases-loop
+pull-requires : tie.Need-pull-s-requires invariant-loop decreases-loop
 pull-requires c κs =
     let s = entry c.before.before in (
-      record { lent = s.pre.0.lent; tallied = s.pre.0.tallied; speeds = omega (arith, s.pre.0.speeds) },
-      s.pre.1,
+      record { lent = s.requires.0.lent; tallied = s.requires.0.tallied; speeds = omega (arith, s.requires.0.speeds) },
+      s.requires.1,
       omega arith,
       omega arith,
       omega arith,
     )
 
-returns : tie.Need-returns invariant-loop decreases-loop
+returns : tie.Need-returns-then-dry invariant-loop decreases-loop
 unfolding spent_of
 returns c =
     let p = c.before.before.before in
-    let l = p.before.before.before.loop in
+    let l = p.before.before.before.loop-k in
     let s = entry p.before.before.before in
     let a = s.args in (
       all-dry a.at.now a.links.now a.strengths.now a.distances.now a.alpha l.k (omega arith) (flow l.vs (drop l.spent a.draws.now))
-          p.pull.new.1.0 a.draws.now p.pull.result p.pull.ensures.0 c.if1.true
+          p.pull-s.new.vs a.draws.now p.pull-s.result p.pull-s.ensures.0 c.if-dry.true
           ∙ sym l.invariant.3
           ∙ sym (pull-first a.at.now a.links.now a.strengths.now a.distances.now a.alpha (flow a.vs.now (drop a.used a.draws.now))),
-      omega (arith, p.pull.ensures.1, l.invariant.2),
+      omega (arith, p.pull-s.ensures.1, l.invariant.2),
     )
 
-loop-again : tie.Need-loop-preserved invariant-loop decreases-loop
+loop-again : tie.Need-loop-k-preserved invariant-loop decreases-loop
 loop-again c =
     let p = c.before.before.before in
-    let l = p.before.before.before.loop in
+    let l = p.before.before.before.loop-k in
     let s = entry p.before.before.before in
     let a = s.args in (
       omega arith,
-      p.pull.auto.1.0 ∙ l.invariant.1,
-      omega (arith, p.pull.ensures.1, l.invariant.2),
+      p.pull-s.auto.vs ∙ l.invariant.1,
+      omega (arith, p.pull-s.ensures.1, l.invariant.2),
       l.invariant.3
           ∙ all-on a.at.now a.links.now a.strengths.now a.distances.now a.alpha l.k (omega arith) (flow l.vs (drop l.spent a.draws.now))
-          p.pull.new.1.0 a.draws.now p.pull.result p.pull.ensures.0 c.if1.false,
+          p.pull-s.new.vs a.draws.now p.pull-s.result p.pull-s.ensures.0 c.if-dry.false,
     )
 
-returns-2 : tie.Need-returns-2 invariant-loop decreases-loop
+returns-2 : tie.Need-returns invariant-loop decreases-loop
 unfolding spent_of
 returns-2 c =
-    let l = c.before.loop in
+    let l = c.before.loop-k in
     let s = entry c.before in
     let a = s.args in (
       all_end a.at.now a.links.now a.strengths.now a.distances.now a.alpha l.k (flow l.vs (drop l.spent a.draws.now)) (omega arith)
@@ -73,8 +73,8 @@ returns-2 c =
       l.invariant.2,
     )
 
-pub pull-all-spec : {M : Type 1} → statement M
-pull-all-spec =
+pub pull_all_spec : {M : Type 1} → statement M
+pull_all_spec =
     tie.close
     (tie.spec
     invariant-loop

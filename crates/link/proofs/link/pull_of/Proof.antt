@@ -4,7 +4,7 @@ use Rattle.link.proofs.link.pull_of.Statement.{statement}
 use Rattle.link.proofs.link.pull_of.Tie as tie
 
 returns : tie.Need-returns
-returns c = rw c.root.ensures
+returns c = rw c.root-l.ensures
 
-pub pull-of-spec : {M : Type 1} → statement M
-pull-of-spec = tie.close (tie.spec (λ c κs. search rules) returns)
+pub pull_of_spec : {M : Type 1} → statement M
+pull_of_spec = tie.close (tie.spec (λ c κs. search rules) returns)

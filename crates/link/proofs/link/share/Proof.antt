@@ -6,5 +6,5 @@ use Rattle.link.proofs.link.share.Tie as tie
 returns : tie.Need-returns
 returns c = cc
 
-pub share-spec : {M : Type 1} → statement M
-share-spec = tie.close (tie.spec (λ c κs. search rules) (λ c κs. search rules) (λ c. search rules) returns)
+pub share_spec : {M : Type 1} → statement M
+share_spec = tie.close (tie.spec (λ c κs. search rules) (λ c κs. search rules) (λ c. search rules) returns)

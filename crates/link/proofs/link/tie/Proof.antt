@@ -12,34 +12,34 @@ use Rattle.link.proofs.link.tie.Statement.{statement}
 use Rattle.link.proofs.link.tie.Tie as tie
 
 -- the points of the code, each from a later one
-abbrev strength-read : tie.After-share → tie.After-strength-at
+abbrev strength-read : tie.After-share → tie.After-strength_at
 strength-read c = c.before.before.before.before
 
-abbrev widened2 : tie.After-share-arg → tie.After-wide2
+abbrev widened2 : tie.After-share-arg-1 → tie.After-wide-target
 widened2 c = c.before.before.before.before.before.before
 
-abbrev entry : tie.After-wide2 → tie.Start
+abbrev entry : tie.After-wide-target → tie.Start
 entry c = c.before.before.before.before.before.before.before.before.before
 
 -- both ends are particles
-both : (c : tie.After-wide2)
+both : (c : tie.After-wide-target)
     → let n = length (entry c).args.counts.now in
-    (c.before.before.wide.result < n) × (c.wide2.result < n)
+    (c.before.before.wide-source.result < n) × (c.wide-target.result < n)
 both c =
     let s = entry c in
-    let b = ready-ends s.pre.0 s.args.k s.pre.2 in
-    (rw (entry, c.before.before.wide.ensures) b.0, rw (entry, c.wide2.ensures) b.1)
+    let b = ready-ends s.requires.0 s.args.k s.requires.2 in
+    (rw (entry, c.before.before.wide-source.ensures) b.0, rw (entry, c.wide-target.ensures) b.1)
 
-strength-at-requires : tie.Need-strength-at-requires
+strength-at-requires : tie.Need-strength_at-requires
 strength-at-requires c κs h =
     let s = entry c.before.before.before in
-    omega (arith, s.pre.1.strength_each h)
+    omega (arith, s.requires.1.strength_each h)
 
 bias-requires : tie.Need-bias-requires
 bias-requires c κs =
     let d = widened2 c in
     let s = entry d in
-    omega (arith, ready-small s.pre.0 d.before.before.wide.result (both d).0, ready-small s.pre.0 d.wide2.result (both d).1)
+    omega (arith, ready-small s.requires.0 d.before.before.wide-source.result (both d).0, ready-small s.requires.0 d.wide-target.result (both d).1)
 
 returns : tie.Need-returns
 returns c =
@@ -48,17 +48,17 @@ returns c =
     let s = entry d in
     let a = s.args in
     tied_is (ends_of a.links.now) a.strengths.now a.distances.now a.alpha a.k (ends_at a.links.now a.k)
-    a.x a.y a.vs.now e.share.new.0 d.before.before.wide.result d.wide2.result _ _ _ _ _
-    d.before.before.wide.ensures d.wide2.ensures
-    (ready-count s.pre.0 d.before.before.wide.result (both d).0 ∙ rw (entry, widened2, strength-read, d.before.before.wide.ensures))
-    (ready-count s.pre.0 d.wide2.result (both d).1 ∙ rw (entry, widened2, strength-read, d.wide2.ensures))
-    (strength-read e).strength-at.ensures
-    e.before.before.before.pull-of.ensures
+    a.x a.y a.vs.now e.share.new.vs d.before.before.wide-source.result d.wide-target.result _ _ _ _ _
+    d.before.before.wide-source.ensures d.wide-target.ensures
+    (ready-count s.requires.0 d.before.before.wide-source.result (both d).0 ∙ rw (entry, widened2, strength-read, d.before.before.wide-source.ensures))
+    (ready-count s.requires.0 d.wide-target.result (both d).1 ∙ rw (entry, widened2, strength-read, d.wide-target.ensures))
+    (strength-read e).strength_at.ensures
+    e.before.before.before.pull_of-l.ensures
     e.before.bias.ensures
     e.share.ensures
 
-pub tie-spec : {M : Type 1} → statement M
-tie-spec =
+pub tie_spec : {M : Type 1} → statement M
+tie_spec =
     tie.close
     (tie.spec
     (λ c. search rules)

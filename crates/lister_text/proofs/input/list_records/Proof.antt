@@ -5,11 +5,11 @@ use Rattle.lister_text.proofs.Inputs.{first-chains}
 use Rattle.lister_text.proofs.input.list_records.Statement.{statement}
 use Rattle.lister_text.proofs.input.list_records.Tie as tie
 
-list-tree-requires : tie.Need-list-tree-requires
+list-tree-requires : tie.Need-list_tree-requires
 list-tree-requires c κs = let s = c.before.before.before.before.before.before in ((refl, first-chains _ s.requires.0, refl), s.requires.1)
 
-pub list-records-spec : {M : Type 1} → statement M
-list-records-spec =
+pub list_records_spec : {M : Type 1} → statement M
+list_records_spec =
     tie.close
     (tie.spec
     (λ c. search rules)

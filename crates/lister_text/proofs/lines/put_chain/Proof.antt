@@ -12,46 +12,46 @@ use Rattle.lister_text.proofs.lines.put_chain.Statement.{statement}
 use Rattle.lister_text.proofs.lines.put_chain.Tie as tie
 
 -- what is left are the chain's numbers from i on, and the line's end
-abbrev invariant-loop : tie.invariant-loop
+abbrev invariant-loop : tie.invariant-loop-i
 invariant-loop out₀ at chain next₀ i₀ out next i = Left out₀ at (other_words (map decimal chain)) out next (other_words (map decimal (drop i chain)))
 
-abbrev decreases-loop : tie.decreases-loop
+abbrev decreases-loop : tie.decreases-loop-i
 decreases-loop out₀ at chain next₀ i₀ out next i = length chain - i
 
-loop-holds : tie.Need-loop-init invariant-loop decreases-loop
+loop-holds : tie.Need-loop-i-init invariant-loop decreases-loop
 loop-holds c = left-all _ _ _ c.before.before.requires
 
-number-left : (c : tie.In-loop invariant-loop decreases-loop)
+number-left : (c : tie.In-loop-i invariant-loop decreases-loop)
     → let e = c.before.before.before.before.args in
-    let i = c.before.loop.i in
-    Next e.out.now e.at (other_words (map decimal e.chain.now)) c.before.loop.out c.before.loop.next (32 ∷ decimal (get_or e.chain.now i 0)) (other_words (map decimal (drop (i + 1) e.chain.now)))
-number-left c = left-next _ _ (rw (from_index _ _ c.loop-test.true) at c.before.loop.invariant)
+    let i = c.before.loop-i.i in
+    Next e.out.now e.at (other_words (map decimal e.chain.now)) c.before.loop-i.out c.before.loop-i.next (32 ∷ decimal (get_or e.chain.now i 0)) (other_words (map decimal (drop (i + 1) e.chain.now)))
+number-left c = left-next _ _ (rw (from_index _ _ c.loop-i-test.true) at c.before.loop-i.invariant)
 
 cast-put-number : tie.Need-overflow-cast-put-number invariant-loop decreases-loop
-cast-put-number c = omega (arith, c.shared-slice-known2.given c.before.before.before.loop.i)
+cast-put-number c = omega (arith, c.shared_slice_known-in-loop-i-1.given c.before.before.before.loop-i.i)
 
-put-number-requires : tie.Need-put-number-requires invariant-loop decreases-loop
-put-number-requires c κs = (omega (arith, c.shared-slice-known2.given c.before.before.before.loop.i), (number-left c.before.before).room)
+put-number-requires : tie.Need-put_number-next-requires invariant-loop decreases-loop
+put-number-requires c κs = (omega (arith, c.shared_slice_known-in-loop-i-1.given c.before.before.before.loop-i.i), (number-left c.before.before).room)
 
-loop-again : tie.Need-loop-preserved invariant-loop decreases-loop
-loop-again c = (number-left c.before.before.before.before.before).after c.before.before.put-number.ensures
+loop-again : tie.Need-loop-i-preserved invariant-loop decreases-loop
+loop-again c = (number-left c.before.before.before.before.before).after c.before.before.put_number-next.ensures
 
-end-left : (c : tie.After-loop invariant-loop decreases-loop)
+end-left : (c : tie.After-loop-i invariant-loop decreases-loop)
     → let e = c.before.before.before.before.args in
-    Left e.out.now e.at (other_words (map decimal e.chain.now)) c.before.loop.out c.before.loop.next (10 ∷ [])
-end-left c = rw (drop_of_length-le _ c.loop-test.false) at c.before.loop.invariant
+    Left e.out.now e.at (other_words (map decimal e.chain.now)) c.before.loop-i.out c.before.loop-i.next (10 ∷ [])
+end-left c = rw (drop_of_length-le _ c.loop-i-test.false) at c.before.loop-i.invariant
 
-put-byte-requires : tie.Need-put-byte-requires invariant-loop decreases-loop
+put-byte-requires : tie.Need-put_byte-requires invariant-loop decreases-loop
 put-byte-requires c κs = (end-left c.before).fits
 
-same_length : tie.Need-same-length invariant-loop decreases-loop
-same_length c = c.before.before.put_byte.auto.0 ∙ c.before.before.before.before.before.loop.invariant.same
+same_length : tie.Need-shape_of-out invariant-loop decreases-loop
+same_length c = c.before.before.put_byte.auto.out ∙ c.before.before.before.before.before.loop-i.invariant.same
 
 returns : tie.Need-returns invariant-loop decreases-loop
 returns c = left-last (end-left c.before.before.before.before) c.before.before.put_byte.ensures
 
-pub put-chain-spec : {M : Type 1} → statement M
-put-chain-spec =
+pub put_chain_spec : {M : Type 1} → statement M
+put_chain_spec =
     tie.close
     (tie.spec
     invariant-loop

@@ -9,7 +9,7 @@ use Rattle.lister_text.proofs.lines.put_end.Tie as tie
 returns : tie.Need-returns
 returns c =
     let e = c.before.before.before.before.before.before.before.before.before in
-    wrote_both e.args.out.now _ (32 ∷ []) _ _ _ _ _ (omega (arith, e.requires.1)) c.before.before.before.before.before.before.put_byte.ensures c.before.before.put_whole.ensures
+    wrote_both e.args.out.now _ (32 ∷ []) _ _ _ _ _ (omega (arith, e.requires.1)) c.before.before.before.before.before.before.put_byte-next.ensures c.before.before.put_whole.ensures
 
-pub put-end-spec : {M : Type 1} → statement M
-put-end-spec = tie.close (tie.spec (λ c κs. search rules) (λ c κs. search rules) (λ c. search rules) returns)
+pub put_end_spec : {M : Type 1} → statement M
+put_end_spec = tie.close (tie.spec (λ c κs. search rules) (λ c κs. search rules) (λ c. search rules) returns)

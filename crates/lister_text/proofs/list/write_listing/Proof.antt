@@ -24,37 +24,37 @@ text cov t = extent_line cov ++ row_lines (rows_of t) (chains_of t)
 fits : (s : tie.Start) (cov : Covered) (t : Tree Extent) → IsTold s cov t → 0 + length (text cov t) ≤ length s.args.out.now
 fits s cov t h = omega (arith, listing-length cov t h.listed, s.requires.1)
 
-returns : tie.Need-returns
+returns : tie.Need-returns-then-nodes-eq0
 returns c = λ cov t h.
     let s = c.before.before.before.before.before.before.before.before in
-    left-last (left_as s.args.out.now 0 _ _ (none_told cov t _ _ _ _ h c.before.before.before.before.if1.true) (fits s cov t h)) c.before.before.put-empty.ensures
+    left-last (left_as s.args.out.now 0 _ _ (none_told cov t _ _ _ _ h c.before.before.before.before.if-nodes-eq0.true) (fits s cov t h)) c.before.before.put_empty.ensures
 
-extent-ahead : (c : tie.Else1)
+extent-ahead : (c : tie.Else-nodes-eq0)
     → let s = c.before.before.before.before in
     (cov : Covered) (t : Tree Extent) → IsTold s cov t
     → Next s.args.out.now 0 (text cov t) s.args.out.now 0 (extent_line (holds (integer_square s.args.extent))) (row_lines (rows_at s.args.nodes s.args.rows.now) s.args.chains.now)
-extent-ahead c cov t h = let s = c.before.before.before.before in left-next _ _ (left_as s.args.out.now 0 _ _ (some-told cov t _ _ _ _ h c.if1.false) (fits s cov t h))
+extent-ahead c cov t h = let s = c.before.before.before.before in left-next _ _ (left_as s.args.out.now 0 _ _ (some-told cov t _ _ _ _ h c.if-nodes-eq0.false) (fits s cov t h))
 
-put-extent-requires : tie.Need-put-extent-requires
+put-extent-requires : tie.Need-put_extent-next-requires
 put-extent-requires c κs =
     let given = c.before.before.before.before.before.requires.0 in
-    (some_extent _ _ _ _ _ _ given.told c.before.if1.false, (extent-ahead c.before _ _ given.told).room)
+    (some_extent _ _ _ _ _ _ given.told c.before.if-nodes-eq0.false, (extent-ahead c.before _ _ given.told).room)
 
-rows_left : (c : tie.After-put-extent)
+rows_left : (c : tie.After-put_extent-next)
     → let s = c.before.before.before.before.before.before in
     (cov : Covered) (t : Tree Extent) → IsTold s cov t
-    → Left s.args.out.now 0 (text cov t) c.put-extent.new.0 c.put-extent.result (row_lines (rows_at s.args.nodes s.args.rows.now) s.args.chains.now)
-rows_left c cov t h = (extent-ahead c.before.before cov t h).after c.put-extent.ensures
+    → Left s.args.out.now 0 (text cov t) c.put_extent-next.new.out c.put_extent-next.result (row_lines (rows_at s.args.nodes s.args.rows.now) s.args.chains.now)
+rows_left c cov t h = (extent-ahead c.before.before cov t h).after c.put_extent-next.ensures
 
-put-rows-requires : tie.Need-put-rows-requires
+put-rows-requires : tie.Need-put_rows-requires
 put-rows-requires c κs =
     let given = c.before.before.before.before.before.before.before.before.before.requires.0 in
     (rows_room _ _ _ _ _ _ given.told, (chains-room _ _ _ _ _ _ given.told, (rows_left c.before.before.before _ _ given.told).fits))
 
-returns-2 : tie.Need-returns-2
-returns-2 c = λ cov t h. left-last (rows_left c.before.before.before.before.before.before cov t h) c.before.before.put-rows.ensures
+returns-2 : tie.Need-returns
+returns-2 c = λ cov t h. left-last (rows_left c.before.before.before.before.before.before cov t h) c.before.before.put_rows.ensures
 
-pub write-listing-spec : {M : Type 1} → statement M
-write-listing-spec =
+pub write_listing_spec : {M : Type 1} → statement M
+write_listing_spec =
     tie.close
     (tie.spec (λ c κs. search rules) (λ c. search rules) returns put-extent-requires put-rows-requires (λ c. search rules) returns-2)

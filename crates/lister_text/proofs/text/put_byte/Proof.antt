@@ -8,5 +8,5 @@ use Rattle.lister_text.proofs.text.put_byte.Tie as tie
 returns : tie.Need-returns
 returns c = wrote_byte c.args.out.now c.args.at c.args.b (omega arith)
 
-pub put-byte-spec : {M : Type 1} → statement M
-put-byte-spec = tie.close (tie.spec (λ c. search rules) (λ c. search rules) (λ c. search rules) returns)
+pub put_byte_spec : {M : Type 1} → statement M
+put_byte_spec = tie.close (tie.spec (λ c. search rules) (λ c. search rules) (λ c. search rules) returns)

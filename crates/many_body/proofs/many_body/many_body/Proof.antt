@@ -14,13 +14,13 @@ use Rattle.many_body.proofs.many_body.many_body.Statement.{statement}
 use Rattle.many_body.proofs.many_body.many_body.Tie as tie
 
 -- the points of the code, each from a later one
-abbrev force-run : tie.After-slice-known9 → tie.After-many-body-on
+abbrev force-run : tie.After-slice_known-in-Tree-2-1 → tie.After-many_body_on
 force-run c = c.before.before.before.before
 
-abbrev tree-taken : tie.After-many-body-on-arg3 → tie.After-q
+abbrev tree-taken : tie.After-many-body-on-arg3 → tie.In-Tree-2
 tree-taken c = c.before.before.before.before
 
-abbrev built : tie.After-slice-known7 → tie.After-build
+abbrev built : tie.After-slice_known-7-1 → tie.After-build
 built c = c.before.before.before.before.before.before
 
 abbrev start : tie.After-build → tie.Start
@@ -32,52 +32,52 @@ start c = c.before.before.before.before.before.before.before.before.before.befor
 abbrev found : tie.Start → Counted Flow
 found s = flow_at s.args.vs.now s.args.draws.now s.args.p
 
-many-body-on-requires : tie.Need-many-body-on-requires
+many-body-on-requires : tie.Need-many_body_on-requires
 many-body-on-requires c κs =
     let g = tree-taken c in
     let b = built g.before.before in
     let s = start b in
     let a = s.args in
-    let p = s.pre in (
-      told_stands a.at.now (length a.strengths.now) b.build.last.1.1.1.0 b.build.last.1.0 (slots_of a.m.now) b.build.result p.1.0 (ap (λ (n : ℕ). n / slot_words) b.build.kept.1.1.1.0) b.build.ensures g.q.given.1,
-      (record { few = omega (arith, p.0.few, p.1.0); places = p.1.0; speeds = p.1.1; links = omega (arith, b.build.kept.1.0, p.0.links, p.1.0) }, p.1.2, p.1.3),
+    let p = s.requires in (
+      told_stands a.at.now (length a.strengths.now) b.build.new.m b.build.new.next (slots_of a.m.now) b.build.result p.1.0 (ap (λ (n : ℕ). n / slot_words) b.build.auto.m) b.build.ensures g.q.given.1,
+      (record { few = omega (arith, p.0.few, p.1.0); places = p.1.0; speeds = p.1.1; links = omega (arith, b.build.auto.next, p.0.links, p.1.0) }, p.1.2, p.1.3),
     )
 
-returns : tie.Need-returns
+returns : tie.Need-returns-in-Refused
 returns c =
     let g = c.before.before in
     let b = built g.before.before in
     let s = start b in
     let a = s.args in
-    let p = s.pre in
+    let p = s.requires in
     rw c.refused.ensures (
       refused_runs a.t a.at.now a.strengths.now a.p.alpha (slots_of a.m.now) (found s) a.vs.now a.draws.now a.p _ p.1.2
-          (told_refused a.at.now (length a.strengths.now) b.build.last.1.1.1.0 b.build.last.1.0 (slots_of a.m.now) b.build.result p.1.0 (ap (λ (n : ℕ). n / slot_words) b.build.kept.1.1.1.0) b.build.ensures g.refusal.given.1),
+          (told_refused a.at.now (length a.strengths.now) b.build.new.m b.build.new.next (slots_of a.m.now) b.build.result p.1.0 (ap (λ (n : ℕ). n / slot_words) b.build.auto.m) b.build.ensures g.refusal.given.1),
       omega arith,
     )
 
-returns-2 : tie.Need-returns-2
+returns-2 : tie.Need-returns-in-Tree
 returns-2 c =
     let o = force-run c in
     let g = tree-taken o.before in
     let b = built g.before.before in
     let s = start b in
     let a = s.args in
-    let p = s.pre in
-    let r = o.many-body-on.ensures.0 in (
+    let p = s.requires in
+    let r = o.many_body_on.ensures.0 in (
       record {
         is = r.is
             ∙ stands_runs a.t a.at.now a.strengths.now a.p.alpha (slots_of a.m.now) (found s)
-            (told-fine a.at.now (length a.strengths.now) b.build.last.1.1.1.0 b.build.last.1.0 (slots_of a.m.now) b.build.result p.1.0 (ap (λ (n : ℕ). n / slot_words) b.build.kept.1.1.1.0) b.build.ensures g.q.given.1);
+            (told-fine a.at.now (length a.strengths.now) b.build.new.m b.build.new.next (slots_of a.m.now) b.build.result p.1.0 (ap (λ (n : ℕ). n / slot_words) b.build.auto.m) b.build.ensures g.q.given.1);
         alpha = r.alpha;
         draws = r.draws;
         late = r.late;
       },
-      o.many-body-on.ensures.1,
+      o.many_body_on.ensures.1,
     )
 
-pub many-body-spec : {M : Type 1} → statement M
-many-body-spec =
+pub many_body_spec : {M : Type 1} → statement M
+many_body_spec =
     tie.close
     (tie.spec
     (λ c κs. search rules)

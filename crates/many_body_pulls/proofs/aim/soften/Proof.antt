@@ -4,13 +4,13 @@ use Rattle.rules.specs.ManyBody.{softened}
 use Rattle.many_body_pulls.proofs.aim.soften.Statement.{statement}
 use Rattle.many_body_pulls.proofs.aim.soften.Tie as tie
 
-returns : tie.Need-returns
+returns : tie.Need-returns-then-l-t
 unfolding softened
-returns c = rw (c.before.before.if1.true, c.root.ensures)
+returns c = rw (c.before.before.if-l-t.true, c.root.ensures)
 
-returns-2 : tie.Need-returns-2
+returns-2 : tie.Need-returns
 unfolding softened
-returns-2 c = rw c.if1.false
+returns-2 c = rw c.if-l-t.false
 
-pub soften-spec : {M : Type 1} → statement M
-soften-spec = tie.close (tie.spec (λ c κs. search rules) returns returns-2)
+pub soften_spec : {M : Type 1} → statement M
+soften_spec = tie.close (tie.spec (λ c κs. search rules) returns returns-2)

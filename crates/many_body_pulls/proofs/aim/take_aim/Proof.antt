@@ -7,7 +7,7 @@ use Rattle.many_body_pulls.proofs.aim.take_aim.Statement.{statement}
 use Rattle.many_body_pulls.proofs.aim.take_aim.Tie as tie
 
 returns : tie.Need-returns
-returns c = (aim_is _ _ _ _ _ c.before.before.shaken.result _ c.before.before.shaken.ensures.0 (c.soften.ensures ∙ ap (softened _) c.before.lengthen.ensures), c.before.before.shaken.ensures.1)
+returns c = (aim_is _ _ _ _ _ c.before.before.shaken-g.result _ c.before.before.shaken-g.ensures.0 (c.soften-longer.ensures ∙ ap (softened _) c.before.lengthen.ensures), c.before.before.shaken-g.ensures.1)
 
-pub take-aim-spec : {M : Type 1} → statement M
-take-aim-spec = tie.close (tie.spec (λ c κs. search rules) (λ c κs. search rules) (λ c κs. search rules) returns)
+pub take_aim_spec : {M : Type 1} → statement M
+take_aim_spec = tie.close (tie.spec (λ c κs. search rules) (λ c κs. search rules) (λ c κs. search rules) returns)

@@ -4,5 +4,5 @@ use Rattle.number.proofs.Tests.{nan_of, no_nan_of}
 use Rattle.number.proofs.bits.float_of.Statement.{statement}
 use Rattle.number.proofs.bits.float_of.Tie as tie
 
-pub float-of-spec : {M : Type 1} → statement M
-float-of-spec = tie.close (tie.spec (λ c. nan_of c.before.args.b c.if1.true) (λ c. no_nan_of c.before.args.b c.if1.false) (λ c. search rules))
+pub float_of_spec : {M : Type 1} → statement M
+float_of_spec = tie.close (tie.spec (λ c. nan_of c.before.args.b c.if-b-gt9218868437227405312.true) (λ c. no_nan_of c.before.args.b c.if-b-gt9218868437227405312.false) (λ c. search rules))

@@ -4,16 +4,16 @@ use Rattle.number.proofs.Tests.{abs-below, abs-rest}
 use Rattle.number.proofs.plain.abs.Statement.{statement}
 use Rattle.number.proofs.plain.abs.Tie as tie
 
-returns : tie.Need-returns
-returns c = abs-below c.before.args.x c.if1.true
+returns : tie.Need-returns-then-x
+returns c = abs-below c.before.args.x c.if-x.true
 
-plain-zero-requires : tie.Need-plain-zero-requires
+plain-zero-requires : tie.Need-plain_zero-requires
 plain-zero-requires c κs = search rules
 
-returns-2 : tie.Need-returns-2
+returns-2 : tie.Need-returns
 returns-2 c =
     let s = c.before.before in
-    c.plain-zero.ensures ∙ abs-rest s.args.x (subst T (sym s.well-formed.0.1) tt) c.before.if1.false
+    c.plain_zero.ensures ∙ abs-rest s.args.x (subst T (sym s.well_formed.0.1) tt) c.before.if-x.false
 
-pub abs-spec : {M : Type 1} → statement M
-abs-spec = tie.close (tie.spec returns plain-zero-requires returns-2)
+pub abs_spec : {M : Type 1} → statement M
+abs_spec = tie.close (tie.spec returns plain-zero-requires returns-2)

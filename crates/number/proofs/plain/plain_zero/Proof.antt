@@ -3,6 +3,6 @@ use Rattle.rules.specs.Number.{plain_zero}
 use Rattle.number.proofs.plain.plain_zero.Statement.{statement}
 use Rattle.number.proofs.plain.plain_zero.Tie as tie
 
-pub plain-zero-spec : {M : Type 1} → statement M
+pub plain_zero_spec : {M : Type 1} → statement M
 unfolding plain_zero
-plain-zero-spec = tie.close (tie.spec (λ c. rw c.if1.true) (λ c. rw c.if1.false))
+plain_zero_spec = tie.close (tie.spec (λ c. rw c.if-x.true) (λ c. rw c.if-x.false))

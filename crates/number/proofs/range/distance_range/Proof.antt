@@ -3,6 +3,6 @@ use Rattle.rules.specs.Number.{between}
 use Rattle.number.proofs.range.distance_range.Statement.{statement}
 use Rattle.number.proofs.range.distance_range.Tie as tie
 
-pub distance-range-spec : {M : Type 1} → statement M
+pub distance_range_spec : {M : Type 1} → statement M
 unfolding between
-distance-range-spec = tie.close (tie.spec (λ c. rw c.if1.true) (λ c. rw c.if1.false))
+distance_range_spec = tie.close (tie.spec (λ c. rw c.if-x.true) (λ c. rw c.if-x.false))

@@ -3,6 +3,6 @@ use Rattle.rules.specs.Number.{between}
 use Rattle.number.proofs.range.draw_range.Statement.{statement}
 use Rattle.number.proofs.range.draw_range.Tie as tie
 
-pub draw-range-spec : {M : Type 1} → statement M
+pub draw_range_spec : {M : Type 1} → statement M
 unfolding between
-draw-range-spec = tie.close (tie.spec (λ c. rw c.if1.true) (λ c. rw c.if1.false))
+draw_range_spec = tie.close (tie.spec (λ c. rw c.if-x.true) (λ c. rw c.if-x.false))

@@ -5,6 +5,6 @@ use Rattle.number.proofs.Tests.{finite-yes, finite_no}
 use Rattle.number.proofs.range.is_finite.Statement.{statement}
 use Rattle.number.proofs.range.is_finite.Tie as tie
 
-pub is-finite-spec : {M : Type 1} → statement M
+pub is_finite_spec : {M : Type 1} → statement M
 unfolding div of_bits neg
-is-finite-spec = tie.close (tie.spec (λ c. finite-yes c.before.args.x c.if1.true) (λ c. c.if1.false ∙ finite_no c.before.args.x c.if1.false))
+is_finite_spec = tie.close (tie.spec (λ c. finite-yes c.before.args.x c.if-x-infinity.true) (λ c. c.if-x-infinity.false ∙ finite_no c.before.args.x c.if-x-infinity.false))

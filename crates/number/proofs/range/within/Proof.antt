@@ -3,6 +3,6 @@ use Rattle.rules.specs.Number.{between}
 use Rattle.number.proofs.range.within.Statement.{statement}
 use Rattle.number.proofs.range.within.Tie as tie
 
-pub within-spec : {M : Type 1} → statement M
+pub within_spec : {M : Type 1} → statement M
 unfolding between
-within-spec = tie.close (tie.spec (λ c. rw c.if1.true) (λ c. rw c.if1.false))
+within_spec = tie.close (tie.spec (λ c. rw c.if-x.true) (λ c. rw c.if-x.false))

@@ -21,23 +21,23 @@ refused : (x : Float) → within x ≡ false → answer (refusal 4 0) (pos 0) �
 unfolding floor_answer floor_result
 refused x h = rw h
 
-is_within : (c : tie.Then1) → within c.before.before.args.x ≡ true
-is_within c = sym c.before.within.ensures ∙ c.if1.true
+is_within : (c : tie.Then-within) → within c.before.before.args.x ≡ true
+is_within c = sym c.before.within.ensures ∙ c.if-within.true
 
 floor-requires : tie.Need-floor-requires
 floor-requires c κs = subst T (sym (is_within c.before)) tt
 
-returns : tie.Need-returns
+returns : tie.Need-returns-then-within
 returns c =
     let n = c.before in
-    ap₂ answer n.none.ensures (to_z-of_z w64 c.floor.result (record { sfits = c.floor.type-inv }) ∙ c.floor.ensures)
+    ap₂ answer n.none.ensures (to_z-of_z w64 c.floor.result (record { sfits = c.floor.type_inv }) ∙ c.floor.ensures)
     ∙ accepted n.before.before.before.args.x (is_within n.before)
 
-returns-2 : tie.Need-returns-2
+returns-2 : tie.Need-returns
 returns-2 c =
     let e = c.before in
     ap (λ (r : Refusal). answer r (pos 0)) c.at.ensures
-    ∙ refused e.before.before.args.x (sym e.before.within.ensures ∙ e.if1.false)
+    ∙ refused e.before.before.args.x (sym e.before.within.ensures ∙ e.if-within.false)
 
-pub try-floor-spec : {M : Type 1} → statement M
-try-floor-spec = tie.close (tie.spec (λ c κs. search rules) (λ c κs. search rules) floor-requires returns (λ c κs. search rules) returns-2)
+pub try_floor_spec : {M : Type 1} → statement M
+try_floor_spec = tie.close (tie.spec (λ c κs. search rules) (λ c κs. search rules) floor-requires returns (λ c κs. search rules) returns-2)

@@ -11,8 +11,8 @@ use Rattle.outline.proofs.check.centre_check.Tie as tie
 returns : tie.Need-returns
 returns c =
     let s = c.before.before in
-    let e = rw (to_z-of_z w64 s.args.centre s.ranges.centre) at c.before.longitude-range.ensures in
+    let e = rw (to_z-of_z w64 s.args.centre s.ranges.centre) at c.before.longitude_range.ensures in
     c.unless.ensures ∙ ap (λ (so : Bool). refusal_of (require so 5 0)) e
 
-pub centre-check-spec : {M : Type 1} → statement M
-centre-check-spec = tie.close (tie.spec (λ c κs. search rules) (λ c κs. search rules) returns)
+pub centre_check_spec : {M : Type 1} → statement M
+centre_check_spec = tie.close (tie.spec (λ c κs. search rules) (λ c κs. search rules) returns)

@@ -14,5 +14,5 @@ returns c =
     let e = rw (to_z-of_z w64 s.args.centre s.ranges.centre) at c.before.closes.ensures in
     c.unless.ensures ∙ ap (λ (so : Bool). refusal_of (require so 16 0)) e
 
-pub closing-check-spec : {M : Type 1} → statement M
-closing-check-spec = tie.close (tie.spec (λ c κs. search rules) (λ c κs. search rules) returns)
+pub closing_check_spec : {M : Type 1} → statement M
+closing_check_spec = tie.close (tie.spec (λ c κs. search rules) (λ c κs. search rules) returns)

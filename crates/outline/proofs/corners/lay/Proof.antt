@@ -15,33 +15,33 @@ use Rattle.outline.proofs.Turns.{corner_at, at_centre, asked, nearer, lay-turn, 
 use Rattle.outline.proofs.corners.lay.Statement.{statement}
 use Rattle.outline.proofs.corners.lay.Tie as tie
 
-abbrev invariant-loop : tie.invariant-loop
+abbrev invariant-loop : tie.invariant-loop-i
 invariant-loop corners centre unwrapped₀ at₀ i₀ unwrapped at i =
     (i ≤ length corners)
     × (nat_abs (to_z w64 at) ≤ half_turn * (i + 1))
     × (length unwrapped ≡ length unwrapped₀)
     × (overwritten unwrapped₀ 0 (outline (to_z w64 centre) corners) ≡ overwritten unwrapped i (outline (to_z w64 at) (drop i corners)))
 
-abbrev decreases-loop : tie.decreases-loop
+abbrev decreases-loop : tie.decreases-loop-i
 decreases-loop corners centre unwrapped₀ at₀ i₀ unwrapped at i = length corners - i
 
-loop-holds : tie.Need-loop-init invariant-loop decreases-loop
+loop-holds : tie.Need-loop-i-init invariant-loop decreases-loop
 loop-holds c = (omega arith, rw (to_z-of_z w64 c.args.centre c.ranges.centre) (at_centre c.args.corners.now c.args.centre c.requires.0), refl, refl)
 
-short-way-requires : tie.Need-short-way-requires invariant-loop decreases-loop
+short-way-requires : tie.Need-short_way-at-requires invariant-loop decreases-loop
 short-way-requires c κs =
-    let o = c.before.before.loop in
+    let o = c.before.before.loop-i in
     let s = c.before.before.before in
     let l = s.args.corners.now in
     rw (to_z-of_z w64 (corner_at l o.i) (sfits_of c.short-way-arg.given)) (asked l s.args.centre s.requires.0 o.i (to_z w64 o.at) (omega arith) o.invariant.1)
 
-loop-again : tie.Need-loop-preserved invariant-loop decreases-loop
+loop-again : tie.Need-loop-i-preserved invariant-loop decreases-loop
 loop-again c =
-    let o = c.before.before.before.loop in
+    let o = c.before.before.before.loop-i in
     let l = c.before.before.before.before.args.corners.now in
     let at = to_z w64 o.at in
-    let v = to_z w64 (of_z w64 c.short-way.result) in
-    let e = step-read at (corner_at l o.i) c.short-way.result c.before.short-way-arg.given c.short-way.type-inv c.short-way.ensures in (
+    let v = to_z w64 (of_z w64 c.short_way-at.result) in
+    let e = step-read at (corner_at l o.i) c.short_way-at.result c.before.short-way-arg.given c.short_way-at.type_inv c.short_way-at.ensures in (
       omega arith,
       nearer l o.i at v (omega arith) e o.invariant.1,
       length-set o.unwrapped o.i v ∙ o.invariant.2,
@@ -51,13 +51,13 @@ loop-again c =
 returns : tie.Need-returns invariant-loop decreases-loop
 unfolding outline
 returns c =
-    let o = c.before.loop in
+    let o = c.before.loop-i in
     let s = c.before.before in
     let e = rw (to_z-of_z w64 s.args.centre s.ranges.centre, drop_of_length-le s.args.corners.now {i = o.i} (omega arith)) at o.invariant.3 in
     sym (e ∙ overwritten-none o.unwrapped o.i)
 
-pub lay-spec : {M : Type 1} → statement M
-lay-spec =
+pub lay_spec : {M : Type 1} → statement M
+lay_spec =
     tie.close
     (tie.spec
     invariant-loop
@@ -71,5 +71,5 @@ lay-spec =
     (λ c. omega arith)
     (λ c. omega arith)
     loop-again
-    (λ c. c.before.loop.invariant.2)
+    (λ c. c.before.loop-i.invariant.2)
     returns)

@@ -6,13 +6,13 @@ use Rattle.rules.specs.Outline.{longitude_range}
 use Rattle.outline.proofs.way.longitude_range.Statement.{statement}
 use Rattle.outline.proofs.way.longitude_range.Tie as tie
 
-returns : tie.Need-returns
+returns : tie.Need-returns-then-a
 unfolding longitude_range
-returns c = let e = to_z-of_z w64 c.before.args.a c.before.ranges.a in let t = rw e at c.if1.true in rw (e, t)
+returns c = let e = to_z-of_z w64 c.before.args.a c.before.ranges.a in let t = rw e at c.if-a.true in rw (e, t)
 
-returns-2 : tie.Need-returns-2
+returns-2 : tie.Need-returns-else-a
 unfolding longitude_range
-returns-2 c = let e = to_z-of_z w64 c.before.args.a c.before.ranges.a in let t = rw e at c.if1.false in rw (e, t)
+returns-2 c = let e = to_z-of_z w64 c.before.args.a c.before.ranges.a in let t = rw e at c.if-a.false in rw (e, t)
 
-pub longitude-range-spec : {M : Type 1} → statement M
-longitude-range-spec = tie.close (tie.spec (λ c. search rules) returns returns-2)
+pub longitude_range_spec : {M : Type 1} → statement M
+longitude_range_spec = tie.close (tie.spec (λ c. search rules) returns returns-2)

@@ -5,8 +5,8 @@ use lib.Seq.{length-take-le}
 use Rattle.replay_sample.proofs.input.read_case.Statement.{statement}
 use Rattle.replay_sample.proofs.input.read_case.Tie as tie
 
-pub read-case-spec : {M : Type 1} → statement M
-read-case-spec =
+pub read_case_spec : {M : Type 1} → statement M
+read_case_spec =
     tie.close
     (tie.spec
     (λ c. search rules)

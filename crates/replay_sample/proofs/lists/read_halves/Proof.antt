@@ -9,14 +9,14 @@ use Rattle.replay_sample.proofs.lists.read_halves.Statement.{statement}
 use Rattle.replay_sample.proofs.lists.read_halves.Tie as tie
 
 -- there is room for all that are lent
-abbrev invariant-loop : tie.invariant-loop
+abbrev invariant-loop : tie.invariant-loop-i
 invariant-loop case k out₀ n list i₀ out i = (length out ≡ length out₀) × (n ≤ length out₀)
 
-abbrev decreases-loop : tie.decreases-loop
+abbrev decreases-loop : tie.decreases-loop-i
 decreases-loop case k out₀ n list i₀ out i = n - i
 
-pub read-halves-spec : {M : Type 1} → statement M
-read-halves-spec =
+pub read_halves_spec : {M : Type 1} → statement M
+read_halves_spec =
     tie.close
     (tie.spec
     invariant-loop

@@ -6,14 +6,14 @@ use native.Mathlib.Omega.{arith}
 use Rattle.replay_sample.proofs.lists.same_bytes.Statement.{statement}
 use Rattle.replay_sample.proofs.lists.same_bytes.Tie as tie
 
-abbrev invariant-loop : tie.invariant-loop
+abbrev invariant-loop : tie.invariant-loop-i
 invariant-loop case k list right i₀ i = i ≤ length list
 
-abbrev decreases-loop : tie.decreases-loop
+abbrev decreases-loop : tie.decreases-loop-i
 decreases-loop case k list right i₀ i = length list - i
 
-pub same-bytes-spec : {M : Type 1} → statement M
-same-bytes-spec =
+pub same_bytes_spec : {M : Type 1} → statement M
+same_bytes_spec =
     tie.close
     (tie.spec
     invariant-loop

@@ -5,8 +5,8 @@ use native.Mathlib.Omega.{arith}
 use Rattle.replay_sample.proofs.parts.byte_of.Statement.{statement}
 use Rattle.replay_sample.proofs.parts.byte_of.Tie as tie
 
-pub byte-of-spec : {M : Type 1} → statement M
-byte-of-spec =
+pub byte_of_spec : {M : Type 1} → statement M
+byte_of_spec =
     tie.close
     (tie.spec
     (λ c. search rules)

@@ -6,10 +6,10 @@ use native.Mathlib.Omega.{arith}
 use Rattle.replay_sample.proofs.parts.start.Statement.{statement}
 use Rattle.replay_sample.proofs.parts.start.Tie as tie
 
-abbrev invariant-loop : tie.invariant-loop
+abbrev invariant-loop : tie.invariant-loop-i
 invariant-loop case k at₀ i₀ at i = at ≤ length case
 
-abbrev decreases-loop : tie.decreases-loop
+abbrev decreases-loop : tie.decreases-loop-i
 decreases-loop case k at₀ i₀ at i = k - i
 
 pub start_spec : {M : Type 1} → statement M

@@ -8,11 +8,11 @@ use Rattle.replay_sample.proofs.parts.word_of.Statement.{statement}
 use Rattle.replay_sample.proofs.parts.word_of.Tie as tie
 
 -- one of the words
-below : (c : tie.Else1) → (let a = c.before.before.args in a.i % (length a.items.now / 8) < length a.items.now / 8)
+below : (c : tie.Else-n-eq0) → (let a = c.before.before.args in a.i % (length a.items.now / 8) < length a.items.now / 8)
 below c = mod-lt c.before.before.args.i (omega arith)
 
-pub word-of-spec : {M : Type 1} → statement M
-word-of-spec =
+pub word_of_spec : {M : Type 1} → statement M
+word_of_spec =
     tie.close
     (tie.spec
     (λ c. search rules)

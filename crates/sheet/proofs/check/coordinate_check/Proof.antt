@@ -6,5 +6,5 @@ use Rattle.sheet.proofs.check.coordinate_check.Tie as tie
 returns : tie.Need-returns
 returns c = rw (← c.before.within.ensures) c.unless.ensures
 
-pub coordinate-check-spec : {M : Type 1} → statement M
-coordinate-check-spec = tie.close (tie.spec (λ c κs. search rules) (λ c κs. search rules) returns)
+pub coordinate_check_spec : {M : Type 1} → statement M
+coordinate_check_spec = tie.close (tie.spec (λ c κs. search rules) (λ c κs. search rules) returns)

@@ -4,7 +4,7 @@ use Rattle.sheet.proofs.check.velocity_check.Statement.{statement}
 use Rattle.sheet.proofs.check.velocity_check.Tie as tie
 
 returns : tie.Need-returns
-returns c = rw (← c.before.speed-range.ensures) c.unless.ensures
+returns c = rw (← c.before.speed_range.ensures) c.unless.ensures
 
-pub velocity-check-spec : {M : Type 1} → statement M
-velocity-check-spec = tie.close (tie.spec (λ c κs. search rules) (λ c κs. search rules) returns)
+pub velocity_check_spec : {M : Type 1} → statement M
+velocity_check_spec = tie.close (tie.spec (λ c κs. search rules) (λ c κs. search rules) returns)

@@ -8,5 +8,5 @@ returns : tie.Need-returns
 unfolding whole_records
 returns c = c.unless.ensures
 
-pub whole-records-spec : {M : Type 1} → statement M
-whole-records-spec = tie.close (tie.spec (λ c κs. search rules) returns)
+pub whole_records_spec : {M : Type 1} → statement M
+whole_records_spec = tie.close (tie.spec (λ c κs. search rules) returns)

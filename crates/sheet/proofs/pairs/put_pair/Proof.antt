@@ -11,11 +11,11 @@ returns c =
     let second = c.before.before in
     let a = first.before.before.before.before.args in
     pair_put
-    a.s.now first.put_word.new.0 second.put-word2.new.0 a.at first.before.bits_of.result second.before.bits-of2.result a.x a.y
-    first.put_word.ensures first.before.bits_of.ensures second.put-word2.ensures second.before.bits-of2.ensures (omega arith)
+    a.s.now first.put_word.new.s second.put_word-2.new.s a.at first.before.bits_of.result second.before.bits_of-2.result a.x a.y
+    first.put_word.ensures first.before.bits_of.ensures second.put_word-2.ensures second.before.bits_of-2.ensures (omega arith)
 
-pub put-pair-spec : {M : Type 1} → statement M
-put-pair-spec =
+pub put_pair_spec : {M : Type 1} → statement M
+put_pair_spec =
     tie.close
     (tie.spec
     (λ c κs. search rules)

@@ -8,19 +8,19 @@ returns : tie.Need-returns
 unfolding record_at
 returns c =
     rw (
-      c.before.before.before.before.before.before.before.float_of.ensures,
+      c.before.before.before.before.before.before.before.float_of-x.ensures,
       c.before.before.before.before.before.before.before.before.word_at.ensures,
-      c.before.before.before.before.before.float-of2.ensures,
-      c.before.before.before.before.before.before.word-at2.ensures,
-      c.before.before.before.float-of3.ensures,
-      c.before.before.before.before.word-at3.ensures,
-      c.before.float-of4.ensures,
-      c.before.before.word-at4.ensures,
-      c.word-at5.ensures,
+      c.before.before.before.before.before.float_of-y.ensures,
+      c.before.before.before.before.before.before.word_at-2.ensures,
+      c.before.before.before.float_of-vx.ensures,
+      c.before.before.before.before.word_at-3.ensures,
+      c.before.float_of-vy.ensures,
+      c.before.before.word_at-4.ensures,
+      c.word_at-flags.ensures,
     )
 
-pub record-at-spec : {M : Type 1} → statement M
-record-at-spec =
+pub record_at_spec : {M : Type 1} → statement M
+record_at_spec =
     tie.close
     (tie.spec
     (λ c κs. search rules)

@@ -5,18 +5,18 @@ use Rattle.square_root.proofs.Rounding.{down, up}
 use Rattle.square_root.proofs.digits.nearest.Statement.{statement}
 use Rattle.square_root.proofs.digits.nearest.Tie as tie
 
-returns : tie.Need-returns
+returns : tie.Need-returns-then-s
 returns c =
     let s = c.before.before.before.before in
-    Near.nearest _ _ (up _ _ _ _ _ _ s.before.before.unpack.ensures s.before.radicand.ensures s.integer-root.ensures c.before.if1.true)
+    Near.nearest _ _ (up _ _ _ _ _ _ s.before.before.unpack-p.ensures s.before.radicand-a.ensures s.integer_root-s.ensures c.before.if-s.true)
 
-returns-2 : tie.Need-returns-2
+returns-2 : tie.Need-returns
 returns-2 c =
     let s = c.before.before.before.before in
-    Near.nearest _ _ (down _ _ _ _ _ _ s.before.before.unpack.ensures s.before.radicand.ensures s.integer-root.ensures c.before.if1.false)
+    Near.nearest _ _ (down _ _ _ _ _ _ s.before.before.unpack-p.ensures s.before.radicand-a.ensures s.integer_root-s.ensures c.before.if-s.false)
 
-pub nearest-spec : {M : Type 1} → statement M
-nearest-spec =
+pub nearest_spec : {M : Type 1} → statement M
+nearest_spec =
     tie.close
     (tie.spec
     (λ c κs. search rules)

@@ -4,6 +4,6 @@ use Rattle.rules.specs.Root.{root_bits}
 use Rattle.square_root.proofs.roots.root_bits.Statement.{statement}
 use Rattle.square_root.proofs.roots.root_bits.Tie as tie
 
-pub root-bits-spec : {M : Type 1} → statement M
+pub root_bits_spec : {M : Type 1} → statement M
 unfolding root_bits
-root-bits-spec = tie.close (tie.spec (λ c κs. search rules) (λ c κs. search rules) (λ c κs. search rules) (λ c. cc))
+root_bits_spec = tie.close (tie.spec (λ c κs. search rules) (λ c κs. search rules) (λ c κs. search rules) (λ c. cc))

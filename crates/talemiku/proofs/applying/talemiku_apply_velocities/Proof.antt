@@ -71,7 +71,7 @@ use Rattle.talemiku.proofs.applying.talemiku_apply_velocities.Statement as state
 use Rattle.talemiku.proofs.applying.talemiku_apply_velocities.Code as code
 use Rattle.talemiku.proofs.applying.talemiku_apply_velocities.Code.Mir as m
 
-abbrev stayed : Stays (apply.ended).signature.params (apply.ended).kept
+abbrev stayed : Stays (apply.ended).signature.params (apply.ended).auto
 stayed = (stay_slice (0 ∷ []) tt (plain (λ _. T.the_row)), (stay_none (λ _. f64) yes, tt))
 
 module _ {M : Type 1} {𝓤 : Ura M} (𝓛 : Logic 𝓤) (𝓜 : Model 𝓤 𝓛.H) (𝓡 : Running 𝓤 𝓛.H 𝓜) where
@@ -309,8 +309,8 @@ module _ {M : Type 1} {𝓤 : Ura M} (𝓛 : Logic 𝓤) (𝓜 : Model 𝓤 𝓛
       walk_Meets 𝓛 apply.ended stayed (Goes-slice 𝓛 1 0 tt (plain (λ _. T.the_row)), (Goes-none 𝓛 1 (λ _. f64) yes (λ κs x f. refl), tt)) clauses runs_as
       (WpFn-mono 𝓤 H 𝓛.laws 𝓣 code.function) walks
 
-pub talemiku-apply-velocities-spec : {M : Type 1} → stated.statement M
+pub talemiku_apply_velocities_spec : {M : Type 1} → stated.statement M
 unfolding code.routine tables_of
-talemiku-apply-velocities-spec 𝓤 𝓛 𝓜 𝓡 =
+talemiku_apply_velocities_spec 𝓤 𝓛 𝓜 𝓡 =
     entered 𝓤 𝓛.H (triple_of 𝓛 apply.signature (apply.spec 𝓛 𝓜.mem 𝓡.run)) (tables 𝓤 𝓛.H 𝓜 𝓡 code.env).C (tables 𝓤 𝓛.H 𝓜 𝓡 code.env).Λ #apply-velocities code.function (code.unfolded 𝓤 𝓛.H 𝓜 𝓡)
     (meets 𝓛 𝓜 𝓡)

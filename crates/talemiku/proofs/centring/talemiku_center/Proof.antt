@@ -75,7 +75,7 @@ use Rattle.talemiku.proofs.centring.talemiku_center.Code as code
 use Rattle.talemiku.proofs.centring.talemiku_center.Code.Mir as m
 use Rattle.tick_checks.proofs.Entries.{count_small}
 
-abbrev stayed : Stays (center.ended).signature.params (center.ended).kept
+abbrev stayed : Stays (center.ended).signature.params (center.ended).auto
 stayed = (stay_slice (0 ∷ []) tt (plain (λ _. T.the_row)), (stay_none (λ _. f64) yes, (stay_none (λ _. f64) yes, (stay_none (λ _. f64) yes, tt))))
 
 -- the numbers of a pair fit
@@ -338,8 +338,8 @@ module _ {M : Type 1} {𝓤 : Ura M} (𝓛 : Logic 𝓤) (𝓜 : Model 𝓤 𝓛
       walk_Meets 𝓛 center.ended stayed (Goes-slice 𝓛 1 0 tt (plain (λ _. T.the_row)), (Goes-none 𝓛 1 (λ _. f64) yes (λ κs x f. refl), (Goes-none 𝓛 1 (λ _. f64) yes (λ κs x f. refl), (Goes-none 𝓛 1 (λ _. f64) yes (λ κs x f. refl), tt)))) clauses runs_as
       (WpFn-mono 𝓤 H 𝓛.laws 𝓣 code.function) walks
 
-pub talemiku-center-spec : {M : Type 1} → stated.statement M
+pub talemiku_center_spec : {M : Type 1} → stated.statement M
 unfolding code.routine tables_of
-talemiku-center-spec 𝓤 𝓛 𝓜 𝓡 =
+talemiku_center_spec 𝓤 𝓛 𝓜 𝓡 =
     entered 𝓤 𝓛.H (triple_of 𝓛 center.signature (center.spec 𝓛 𝓜.mem 𝓡.run)) (tables 𝓤 𝓛.H 𝓜 𝓡 code.env).C (tables 𝓤 𝓛.H 𝓜 𝓡 code.env).Λ #center code.function (code.unfolded 𝓤 𝓛.H 𝓜 𝓡)
     (meets 𝓛 𝓜 𝓡)

@@ -15,19 +15,19 @@ last true true = refl
 last true false = refl
 last false b = refl
 
-returns : tie.Need-returns
+returns : tie.Need-returns-then-within-2
 unfolding result_check
 returns c =
     let start = c.before.before.before.before.before.before in
     rw (
       ← c.before.before.before.before.before.within.ensures,
-      c.before.before.before.before.if1.true,
-      ← c.before.before.before.within2.ensures,
-      c.before.before.if2.true,
+      c.before.before.before.before.else-within.true,
+      ← c.before.before.before.within-then-within.ensures,
+      c.before.before.if-within-2.true,
     )
-    (c.unless.ensures ∙ ap (λ (ok : Bool). refusal_of (require ok 9 0)) c.before.speed-range.ensures ∙ last (finite start.args.p.vx) (finite start.args.p.vy))
+    (c.unless.ensures ∙ ap (λ (ok : Bool). refusal_of (require ok 9 0)) c.before.speed_range.ensures ∙ last (finite start.args.p.vx) (finite start.args.p.vy))
 
-returns-2 : tie.Need-returns-2
+returns-2 : tie.Need-returns
 unfolding result_check
 returns-2 c =
     let x = c.before.before.within.ensures in
@@ -35,9 +35,9 @@ returns-2 c =
     ∙ ⊎_elim
     (λ w. rw (← x, w.0.taken, ← w.1.ensures, w.2.left))
     (λ w. rw (← x, w.left))
-    c.before.if1.branch
+    c.before.else-within.branch
 
-pub result-check-spec : {M : Type 1} → statement M
-result-check-spec =
+pub result_check_spec : {M : Type 1} → statement M
+result_check_spec =
     tie.close
     (tie.spec (λ c κs. search rules) (λ c κs. search rules) (λ c κs. search rules) (λ c κs. search rules) returns (λ c κs. search rules) returns-2)

@@ -62,7 +62,7 @@ use Rattle.talemiku.proofs.reading.talemiku_read.Statement as stated
 use Rattle.talemiku.proofs.reading.talemiku_read.Code as code
 use Rattle.talemiku.proofs.reading.talemiku_read.Code.Mir as m
 
-abbrev stayed : Stays (read.ended).signature.params (read.ended).kept
+abbrev stayed : Stays (read.ended).signature.params (read.ended).auto
 stayed = (stay_none_slice (0 ∷ []) tt (plain (λ _. u8)) yes, (stay_slice (1 ∷ []) tt (plain (λ _. T.the_row)), tt))
 
 module _ {M : Type 1} {𝓤 : Ura M} (𝓛 : Logic 𝓤) (𝓜 : Model 𝓤 𝓛.H) (𝓡 : Running 𝓤 𝓛.H 𝓜) where
@@ -93,7 +93,7 @@ module _ {M : Type 1} {𝓤 : Ura M} (𝓛 : Logic 𝓤) (𝓜 : Model 𝓤 𝓛
 
     -- what is lent of the sheet
     abbrev kept : Item 𝓤
-    kept = callee.lent-sheet 𝓛 𝓜 𝓡 code.env κ q s
+    kept = callee.lent_sheet 𝓛 𝓜 𝓡 code.env κ q s
 
     abbrev sv : Val
     sv = slice_val s.ref_ptr (length s.now)
@@ -250,8 +250,8 @@ module _ {M : Type 1} {𝓤 : Ura M} (𝓛 : Logic 𝓤) (𝓜 : Model 𝓤 𝓛
       walk_Meets 𝓛 read.ended stayed (Goes-none_slice 𝓛 2 (0 ∷ []) tt (plain (λ _. u8)) yes, (Goes-slice 𝓛 2 1 tt (plain (λ _. T.the_row)), tt)) clauses runs_as
       (WpFn-mono 𝓤 H 𝓛.laws 𝓣 code.function) walks
 
-pub talemiku-read-spec : {M : Type 1} → stated.statement M
+pub talemiku_read_spec : {M : Type 1} → stated.statement M
 unfolding code.routine tables_of
-talemiku-read-spec 𝓤 𝓛 𝓜 𝓡 =
+talemiku_read_spec 𝓤 𝓛 𝓜 𝓡 =
     entered 𝓤 𝓛.H (triple_of 𝓛 read.signature (read.spec 𝓛 𝓜.mem 𝓡.run)) (tables 𝓤 𝓛.H 𝓜 𝓡 code.env).C (tables 𝓤 𝓛.H 𝓜 𝓡 code.env).Λ #read code.function (code.unfolded 𝓤 𝓛.H 𝓜 𝓡)
     (meets 𝓛 𝓜 𝓡)

@@ -76,7 +76,7 @@ use Rattle.talemiku.proofs.writing.talemiku_write.Statement as stated
 use Rattle.talemiku.proofs.writing.talemiku_write.Code as code
 use Rattle.talemiku.proofs.writing.talemiku_write.Code.Mir as m
 
-abbrev stayed : Stays (write.ended).signature.params (write.ended).kept
+abbrev stayed : Stays (write.ended).signature.params (write.ended).auto
 stayed = (stay_none_slice (0 ∷ []) tt (plain (λ _. T.the_row)) yes, (stay_slice (1 ∷ []) tt (plain (λ _. u8)), tt))
 
 module _ {M : Type 1} {𝓤 : Ura M} (𝓛 : Logic 𝓤) (𝓜 : Model 𝓤 𝓛.H) (𝓡 : Running 𝓤 𝓛.H 𝓜) where
@@ -364,8 +364,8 @@ module _ {M : Type 1} {𝓤 : Ura M} (𝓛 : Logic 𝓤) (𝓜 : Model 𝓤 𝓛
       walk_Meets 𝓛 write.ended stayed (Goes-none_slice 𝓛 2 (0 ∷ []) tt (plain (λ _. T.the_row)) yes, (Goes-slice 𝓛 2 1 tt (plain (λ _. u8)), tt)) clauses runs_as
       (WpFn-mono 𝓤 H 𝓛.laws 𝓣 code.function) walks
 
-pub talemiku-write-spec : {M : Type 1} → stated.statement M
+pub talemiku_write_spec : {M : Type 1} → stated.statement M
 unfolding code.routine tables_of
-talemiku-write-spec 𝓤 𝓛 𝓜 𝓡 =
+talemiku_write_spec 𝓤 𝓛 𝓜 𝓡 =
     entered 𝓤 𝓛.H (triple_of 𝓛 write.signature (write.spec 𝓛 𝓜.mem 𝓡.run)) (tables 𝓤 𝓛.H 𝓜 𝓡 code.env).C (tables 𝓤 𝓛.H 𝓜 𝓡 code.env).Λ #write code.function (code.unfolded 𝓤 𝓛.H 𝓜 𝓡)
     (meets 𝓛 𝓜 𝓡)

@@ -18,12 +18,12 @@ returns c =
     let a = l.before.before.args in
     let n = count_of a.sheet.now in
     answer_four (whole_records a.sheet.now) (count_check most_particles n) (count_check most_ticks a.ticks) (check_each (λ _ e. entry_counts e) (entries_of a.words.now))
-    l.whole-records.result p.count-check.result t.count-check2.result d.counts-check.result c.before.before.first.result c.before.first2.result c.first3.result
+    l.whole_records-length.result p.count_check-particles.result t.count_check-ticks.result d.counts_check-counts.result c.before.before.first.result c.before.first-2.result c.first-3.result
     (length-early a.sheet.now) (count-early most_particles n) (count-early most_ticks a.ticks)
-    l.whole-records.ensures p.count-check.ensures t.count-check2.ensures d.counts-check.ensures c.before.before.first.ensures c.before.first2.ensures c.first3.ensures
+    l.whole_records-length.ensures p.count_check-particles.ensures t.count_check-ticks.ensures d.counts_check-counts.ensures c.before.before.first.ensures c.before.first-2.ensures c.first-3.ensures
 
-pub sizes-check-spec : {M : Type 1} → statement M
-sizes-check-spec =
+pub sizes_check_spec : {M : Type 1} → statement M
+sizes_check_spec =
     tie.close
     (tie.spec
     (λ c κs. search rules)

@@ -16,12 +16,12 @@ returns c =
     let a = t.before.before.before.before.before.args in
     let l = lent_sheet a.sheet.now 0 a.words.now a.numbers.now a.links.now a.draws.now [] in
     let four = a.alpha ∷ a.s.target ∷ a.s.alpha_decay ∷ a.s.velocity_decay ∷ [] in
-    answered-settings l a.budget (four ++ (a.alpha-min ∷ [])) i.input-check.result f.first.result c.first2.result i.input-check.ensures
-    (answer_settings four (a.alpha-min ∷ []) t.tick-settings.result e.setting-check.result f.first.result t.tick-settings.ensures e.setting-check.ensures f.first.ensures)
-    c.first2.ensures
+    answered-settings l a.budget (four ++ (a.alpha_min ∷ [])) i.input_check.result f.first-settings.result c.first.result i.input_check.ensures
+    (answer_settings four (a.alpha_min ∷ []) t.tick_settings.result e.setting_check.result f.first-settings.result t.tick_settings.ensures e.setting_check.ensures f.first-settings.ensures)
+    c.first.ensures
 
-pub step-check-spec : {M : Type 1} → statement M
-step-check-spec =
+pub step_check_spec : {M : Type 1} → statement M
+step_check_spec =
     tie.close
     (tie.spec
     (λ c κs. search rules)

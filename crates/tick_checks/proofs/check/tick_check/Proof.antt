@@ -12,8 +12,8 @@ returns c =
     let i = t.before in
     let a = i.before.before.before.before.before.args in
     let l = lent_sheet a.sheet.now 0 a.words.now a.numbers.now a.links.now a.draws.now [] in
-    answered-settings l 0 (a.alpha ∷ a.s.target ∷ a.s.alpha_decay ∷ a.s.velocity_decay ∷ []) i.input-check.result t.tick-settings.result c.first.result
-    i.input-check.ensures t.tick-settings.ensures c.first.ensures
+    answered-settings l 0 (a.alpha ∷ a.s.target ∷ a.s.alpha_decay ∷ a.s.velocity_decay ∷ []) i.input_check.result t.tick_settings.result c.first.result
+    i.input_check.ensures t.tick_settings.ensures c.first.ensures
 
-pub tick-check-spec : {M : Type 1} → statement M
-tick-check-spec = tie.close (tie.spec (λ c κs. search rules) (λ c κs. search rules) (λ c κs. search rules) returns)
+pub tick_check_spec : {M : Type 1} → statement M
+tick_check_spec = tie.close (tie.spec (λ c κs. search rules) (λ c κs. search rules) (λ c κs. search rules) returns)

@@ -10,8 +10,8 @@ returns c =
     let t = c.before in
     let o = t.before in
     let a = o.before.args in
-    answer_settings (a.alpha ∷ []) (a.s.target ∷ a.s.alpha_decay ∷ a.s.velocity_decay ∷ []) o.setting-check.result t.settings-check.result c.first.result
-    o.setting-check.ensures t.settings-check.ensures c.first.ensures
+    answer_settings (a.alpha ∷ []) (a.s.target ∷ a.s.alpha_decay ∷ a.s.velocity_decay ∷ []) o.setting_check.result t.settings_check.result c.first.result
+    o.setting_check.ensures t.settings_check.ensures c.first.ensures
 
-pub tick-settings-spec : {M : Type 1} → statement M
-tick-settings-spec = tie.close (tie.spec (λ c κs. search rules) (λ c κs. search rules) (λ c κs. search rules) returns)
+pub tick_settings_spec : {M : Type 1} → statement M
+tick_settings_spec = tie.close (tie.spec (λ c κs. search rules) (λ c κs. search rules) (λ c κs. search rules) returns)

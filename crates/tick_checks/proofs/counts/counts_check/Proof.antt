@@ -13,41 +13,41 @@ use Rattle.tick_checks.proofs.Entries.{entries_left, entries_left_lem, entries_n
 use Rattle.tick_checks.proofs.counts.counts_check.Statement.{statement}
 use Rattle.tick_checks.proofs.counts.counts_check.Tie as tie
 
-abbrev invariant-loop : tie.invariant-loop
+abbrev invariant-loop : tie.invariant-loop-i
 invariant-loop words i₀ i = (i ≤ force_slots) × (check_each (λ _ e. entry_counts e) (entries_of words) ≡ check_from (λ _ e. entry_counts e) i (entries_left words i))
 
-abbrev decreases-loop : tie.decreases-loop
+abbrev decreases-loop : tie.decreases-loop-i
 decreases-loop words i₀ i = force_slots - i
 
-returns : tie.Need-returns invariant-loop decreases-loop
+returns : tie.Need-returns-then-number-ne0 invariant-loop decreases-loop
 returns c =
     let w = c.before in
-    let o = w.before.before.before.loop in
+    let o = w.before.before.before.loop-i in
     let l = w.before.before.before.before.args.words.now in
-    answer_stop (λ _ e. entry_counts e) (entries_left l) o.i (entry_at l (o.i * entry_words)) (entries_left_lem l o.i (omega arith)) w.entry-counts.result
-    (w.entry-counts.ensures ∙ ap (λ (e : ForceEntry). refusal_of (entry_counts e)) w.before.entry_at.ensures) c.if1.true
+    answer_stop (λ _ e. entry_counts e) (entries_left l) o.i (entry_at l (o.i * entry_words)) (entries_left_lem l o.i (omega arith)) w.entry_counts-r.result
+    (w.entry_counts-r.ensures ∙ ap (λ (e : ForceEntry). refusal_of (entry_counts e)) w.before.entry_at.ensures) c.if-number-ne0.true
     ∙ ap (λ (c : Check). refusal_of c) (sym o.invariant.1)
 
-loop-again : tie.Need-loop-preserved invariant-loop decreases-loop
+loop-again : tie.Need-loop-i-preserved invariant-loop decreases-loop
 loop-again c =
     let w = c.before in
-    let o = w.before.before.before.loop in
+    let o = w.before.before.before.loop-i in
     let l = w.before.before.before.before.args.words.now in (
       omega arith,
       o.invariant.1
-          ∙ answer_on (λ _ e. entry_counts e) (entries_left l) o.i (entry_at l (o.i * entry_words)) (entries_left_lem l o.i (omega arith)) w.entry-counts.result
-          (w.entry-counts.ensures ∙ ap (λ (e : ForceEntry). refusal_of (entry_counts e)) w.before.entry_at.ensures) (let e = entry_at l (o.i * entry_words) in kind-early (kind_of e.kind) e.links e.iterations) c.if1.false,
+          ∙ answer_on (λ _ e. entry_counts e) (entries_left l) o.i (entry_at l (o.i * entry_words)) (entries_left_lem l o.i (omega arith)) w.entry_counts-r.result
+          (w.entry_counts-r.ensures ∙ ap (λ (e : ForceEntry). refusal_of (entry_counts e)) w.before.entry_at.ensures) (let e = entry_at l (o.i * entry_words) in kind-early (kind_of e.kind) e.links e.iterations) c.if-number-ne0.false,
     )
 
-returns-2 : tie.Need-returns-2 invariant-loop decreases-loop
+returns-2 : tie.Need-returns invariant-loop decreases-loop
 returns-2 c =
-    let o = c.before.before.loop in
+    let o = c.before.before.loop-i in
     let l = c.before.before.before.args.words.now in
     c.none.ensures
     ∙ ap (λ (c : Check). refusal_of c) (sym (o.invariant.1 ∙ ap (check_from (λ _ e. entry_counts e) o.i) (entries_none l o.i (omega arith))))
 
-pub counts-check-spec : {M : Type 1} → statement M
-counts-check-spec =
+pub counts_check_spec : {M : Type 1} → statement M
+counts_check_spec =
     tie.close
     (tie.spec
     invariant-loop

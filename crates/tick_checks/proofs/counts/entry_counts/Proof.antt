@@ -10,27 +10,27 @@ use Rattle.tick_checks.proofs.ByKind.{of_kind_lem}
 use Rattle.tick_checks.proofs.counts.entry_counts.Statement.{statement}
 use Rattle.tick_checks.proofs.counts.entry_counts.Tie as tie
 
-returns : tie.Need-returns
-returns c = rw c.match.keys1 c.before.count-check2.ensures
+returns : tie.Need-returns-in-2
+returns c = rw c.in_default.keys1 c.before.count_check-iterations.ensures
 
-returns-2 : tie.Need-returns-2
+returns-2 : tie.Need-returns-in-3
 returns-2 c =
     let w = c.before in
     let e = w.before.before.before.args.e in
-    rw (w.match.keys2, c.first.ensures, w.before.count-check2.ensures, w.before.before.count-check.ensures)
+    rw (w.in_default.keys2, c.first.ensures, w.before.count_check-iterations.ensures, w.before.before.count_check-links.ensures)
     (first_then (count_check most_links e.links) (count_check most_iterations e.iterations) (count-early most_links e.links))
 
 -- neither Collide nor Link
-returns-3 : tie.Need-returns-3
+returns-3 : tie.Need-returns-in_default
 returns-3 c =
     let w = c.before in
     let e = w.before.before.before.args.e in
     c.none.ensures
     ∙ of_kind_lem (λ k. no_refusal ≡ refusal_of (kind_counts k e.links e.iterations)) e.kind (λ _. refl) (λ _. refl)
-    (λ z. absurd (w.match.rest.0.1 z)) (λ z. absurd (w.match.rest.1 z)) (λ _. refl) (λ _. refl)
+    (λ z. absurd (w.in_default.rest.0.1 z)) (λ z. absurd (w.in_default.rest.1 z)) (λ _. refl) (λ _. refl)
 
-pub entry-counts-spec : {M : Type 1} → statement M
-entry-counts-spec =
+pub entry_counts_spec : {M : Type 1} → statement M
+entry_counts_spec =
     tie.close
     (tie.spec
     (λ c κs. search rules)

@@ -24,60 +24,60 @@ need e = links_needed e * 2
 abbrev check : ℕ → ForceEntry → List ℕ → Check
 check n e part = own_ends n part
 
-abbrev invariant-loop : tie.invariant-loop
+abbrev invariant-loop : tie.invariant-loop-i
 invariant-loop words links n at₀ i₀ at i = Walked need (check n) words links at i
 
-abbrev decreases-loop : tie.decreases-loop
+abbrev decreases-loop : tie.decreases-loop-i
 decreases-loop words links n at₀ i₀ at i = force_slots - i
 
 -- the slot's part lies within the list
-room : (c : tie.After-links-needed invariant-loop decreases-loop) → c.before.before.before.loop.at + c.links-needed.result * 2 ≤ length c.before.before.before.before.before.args.links.now
+room : (c : tie.After-links_needed invariant-loop decreases-loop) → c.before.before.before.loop-i.at + c.links_needed.result * 2 ≤ length c.before.before.before.before.before.args.links.now
 room c =
-    let o = c.before.before.before.loop in
+    let o = c.before.before.before.loop-i in
     let s = c.before.before.before.before.before in
     walk-room need (check s.args.n) s.args.words.now s.args.links.now o.at o.i o.invariant (omega arith)
-    c.before.entry_at.result c.before.entry_at.ensures (c.links-needed.result * 2) (ap (λ (k : ℕ). k * 2) c.links-needed.ensures) (s.requires ∙ sum_twice (entries_of s.args.words.now))
+    c.before.entry_at.result c.before.entry_at.ensures (c.links_needed.result * 2) (ap (λ (k : ℕ). k * 2) c.links_needed.ensures) (s.requires ∙ sum_twice (entries_of s.args.words.now))
 
 -- what was answered for the slot's part
-answered : (c : tie.After-ends-check invariant-loop decreases-loop) → let m = c.before.before in
+answered : (c : tie.After-ends_check-r invariant-loop decreases-loop) → let m = c.before.before in
     let a = m.before.before.before.before.before.args in
-    c.ends-check.result ≡ refusal_of (own_ends a.n (take (m.links-needed.result * 2) (drop m.before.before.before.loop.at a.links.now)))
+    c.ends_check-r.result ≡ refusal_of (own_ends a.n (take (m.links_needed.result * 2) (drop m.before.before.before.loop-i.at a.links.now)))
 answered c =
     let m = c.before.before in
-    let at = m.before.before.before.loop.at in
+    let at = m.before.before.before.loop-i.at in
     let a = m.before.before.before.before.before.args in
-    c.ends-check.ensures ∙ ap (λ (k : ℕ). refusal_of (own_ends a.n (take k (drop at a.links.now)))) (part-size at (m.links-needed.result * 2))
+    c.ends_check-r.ensures ∙ ap (λ (k : ℕ). refusal_of (own_ends a.n (take k (drop at a.links.now)))) (part-size at (m.links_needed.result * 2))
 
-returns : tie.Need-returns invariant-loop decreases-loop
+returns : tie.Need-returns-then-number-ne0 invariant-loop decreases-loop
 returns c =
     let r = c.before in
     let m = r.before.before in
     let e = m.before in
-    let o = e.before.before.loop in
+    let o = e.before.before.loop-i in
     let a = e.before.before.before.before.args in
     walk-stop need (check a.n) a.words.now a.links.now o.at o.i o.invariant (omega arith)
-    e.entry_at.result e.entry_at.ensures (m.links-needed.result * 2) (ap (λ (k : ℕ). k * 2) m.links-needed.ensures)
-    r.ends-check.result (answered r) c.if1.true
+    e.entry_at.result e.entry_at.ensures (m.links_needed.result * 2) (ap (λ (k : ℕ). k * 2) m.links_needed.ensures)
+    r.ends_check-r.result (answered r) c.if-number-ne0.true
 
-loop-again : tie.Need-loop-preserved invariant-loop decreases-loop
+loop-again : tie.Need-loop-i-preserved invariant-loop decreases-loop
 loop-again c =
     let r = c.before in
     let m = r.before.before in
     let e = m.before in
-    let o = e.before.before.loop in
+    let o = e.before.before.loop-i in
     let a = e.before.before.before.before.args in
     walk-on need (check a.n) a.words.now a.links.now o.at o.i o.invariant (omega arith)
-    e.entry_at.result e.entry_at.ensures (m.links-needed.result * 2) (ap (λ (k : ℕ). k * 2) m.links-needed.ensures)
-    r.ends-check.result (answered r) (of_all (ends_range a.n) 3 three (ends_of (take (m.links-needed.result * 2) (drop o.at a.links.now)))) c.if1.false
+    e.entry_at.result e.entry_at.ensures (m.links_needed.result * 2) (ap (λ (k : ℕ). k * 2) m.links_needed.ensures)
+    r.ends_check-r.result (answered r) (of_all (ends_range a.n) 3 three (ends_of (take (m.links_needed.result * 2) (drop o.at a.links.now)))) c.if-number-ne0.false
 
-returns-2 : tie.Need-returns-2 invariant-loop decreases-loop
+returns-2 : tie.Need-returns invariant-loop decreases-loop
 returns-2 c =
-    let o = c.before.before.loop in
+    let o = c.before.before.loop-i in
     let a = c.before.before.before.before.args in
     c.none.ensures ∙ walk_end need (check a.n) a.words.now a.links.now o.at o.i o.invariant (omega arith)
 
-pub all-ends-spec : {M : Type 1} → statement M
-all-ends-spec =
+pub all_ends_spec : {M : Type 1} → statement M
+all_ends_spec =
     tie.close
     (tie.spec
     invariant-loop

@@ -11,20 +11,20 @@ returns c =
     let w = c.before.before.before.before.before.before in
     rw (
       add-zero,
-      w.before.before.before.word.ensures,
-      w.before.before.word2.ensures,
-      w.before.word3.ensures,
-      w.word4.ensures,
-      c.before.before.before.before.float_of.ensures,
-      c.before.before.before.before.before.word5.ensures,
-      c.before.before.float-of2.ensures,
-      c.before.before.before.word6.ensures,
-      c.float-of3.ensures,
-      c.before.word7.ensures,
+      w.before.before.before.word-kind.ensures,
+      w.before.before.word-iterations.ensures,
+      w.before.word-links.ensures,
+      w.word-strengths.ensures,
+      c.before.before.before.before.float_of-a.ensures,
+      c.before.before.before.before.before.word.ensures,
+      c.before.before.float_of-b.ensures,
+      c.before.before.before.word-2.ensures,
+      c.float_of-c.ensures,
+      c.before.word-3.ensures,
     )
 
-pub entry-at-spec : {M : Type 1} → statement M
-entry-at-spec =
+pub entry_at_spec : {M : Type 1} → statement M
+entry_at_spec =
     tie.close
     (tie.spec
     (λ c. search rules)

@@ -6,34 +6,34 @@ use Rattle.tick_checks.proofs.ByKind.{of_kind_lem}
 use Rattle.tick_checks.proofs.entry.numbers_needed.Statement.{statement}
 use Rattle.tick_checks.proofs.entry.numbers_needed.Tie as tie
 
-add-result : tie.Need-overflow-add-result
-add-result c = record { fits = rw c.before.match.keys1 at c.before.before.requires }
+add-result : tie.Need-overflow_add-result
+add-result c = record { fits = rw c.before.in_default-1.keys1 at c.before.before.requires }
 
-returns : tie.Need-returns
-returns c = rw c.before.match.keys1
+returns : tie.Need-returns-in-3
+returns c = rw c.before.in_default-1.keys1
 
 -- ManyBody or Collide
-returns-2 : tie.Need-returns-2
+returns-2 : tie.Need-returns-in-1
 returns-2 c =
     let a = c.before.before.before.args in
-    of_kind_lem (λ k. a.n ≡ kind_numbers k a.n a.e) a.e.kind (λ z. absurd (omega (arith, c.before.if1.false))) (λ _. refl) (λ _. refl)
-    (λ z. absurd (omega (arith, c.if2.true))) (λ z. absurd (omega (arith, c.if2.true))) (λ z. absurd (omega (arith, c.if2.true)))
+    of_kind_lem (λ k. a.n ≡ kind_numbers k a.n a.e) a.e.kind (λ z. absurd (omega (arith, c.before.if-kind-lt1.false))) (λ _. refl) (λ _. refl)
+    (λ z. absurd (omega (arith, c.if-kind-lt3.true))) (λ z. absurd (omega (arith, c.if-kind-lt3.true))) (λ z. absurd (omega (arith, c.if-kind-lt3.true)))
 
 -- empty
-returns-3 : tie.Need-returns-3
+returns-3 : tie.Need-returns-in_default
 returns-3 c =
     let a = c.before.before.args in
-    let none = c.if1.true in
+    let none = c.if-kind-lt1.true in
     of_kind_lem (λ k. 0 ≡ kind_numbers k a.n a.e) a.e.kind (λ _. refl) (λ z. absurd (omega (arith, none))) (λ z. absurd (omega (arith, none)))
     (λ z. absurd (omega (arith, none))) (λ _. refl) (λ _. refl)
 
 -- Center, or no known kind
-returns-4 : tie.Need-returns-4
+returns-4 : tie.Need-returns-in_default-2
 returns-4 c =
     let a = c.before.before.before.args in
-    let past = c.if2.false in
+    let past = c.if-kind-lt3.false in
     of_kind_lem (λ k. 0 ≡ kind_numbers k a.n a.e) a.e.kind (λ _. refl) (λ z. absurd (omega (arith, past))) (λ z. absurd (omega (arith, past)))
-    (λ z. absurd (c.before.before.match.rest.1 z)) (λ _. refl) (λ _. refl)
+    (λ z. absurd (c.before.before.in_default-1.rest.1 z)) (λ _. refl) (λ _. refl)
 
-pub numbers-needed-spec : {M : Type 1} → statement M
-numbers-needed-spec = tie.close (tie.spec add-result returns returns-2 returns-3 returns-4)
+pub numbers_needed_spec : {M : Type 1} → statement M
+numbers_needed_spec = tie.close (tie.spec add-result returns returns-2 returns-3 returns-4)

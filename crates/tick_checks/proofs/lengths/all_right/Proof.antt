@@ -9,37 +9,37 @@ use Rattle.tick_checks.proofs.Entries.{entries_left, entries_none, right_stop, r
 use Rattle.tick_checks.proofs.lengths.all_right.Statement.{statement}
 use Rattle.tick_checks.proofs.lengths.all_right.Tie as tie
 
-abbrev invariant-loop : tie.invariant-loop
+abbrev invariant-loop : tie.invariant-loop-i
 invariant-loop words i₀ i = (i ≤ force_slots) × (all strengths_right (entries_of words) ≡ all strengths_right (entries_left words i))
 
-abbrev decreases-loop : tie.decreases-loop
+abbrev decreases-loop : tie.decreases-loop-i
 decreases-loop words i₀ i = force_slots - i
 
-returns : tie.Need-returns invariant-loop decreases-loop
+returns : tie.Need-returns-then-not-strengths_right invariant-loop decreases-loop
 returns c =
     let w = c.before in
-    let o = w.before.before.before.loop in
-    right_stop strengths_right w.before.before.before.before.args.words.now o.i (omega arith) w.strengths-right.result
-    (w.strengths-right.ensures ∙ ap strengths_right w.before.entry_at.ensures) c.if1.true
+    let o = w.before.before.before.loop-i in
+    right_stop strengths_right w.before.before.before.before.args.words.now o.i (omega arith) w.strengths_right.result
+    (w.strengths_right.ensures ∙ ap strengths_right w.before.entry_at.ensures) c.if-not-strengths_right.true-raw
     ∙ sym o.invariant.1
 
-loop-again : tie.Need-loop-preserved invariant-loop decreases-loop
+loop-again : tie.Need-loop-i-preserved invariant-loop decreases-loop
 loop-again c =
     let w = c.before in
-    let o = w.before.before.before.loop in (
+    let o = w.before.before.before.loop-i in (
       omega arith,
       o.invariant.1
-          ∙ right-on strengths_right w.before.before.before.before.args.words.now o.i (omega arith) w.strengths-right.result
-          (w.strengths-right.ensures ∙ ap strengths_right w.before.entry_at.ensures) c.if1.false,
+          ∙ right-on strengths_right w.before.before.before.before.args.words.now o.i (omega arith) w.strengths_right.result
+          (w.strengths_right.ensures ∙ ap strengths_right w.before.entry_at.ensures) c.if-not-strengths_right.false-raw,
     )
 
-returns-2 : tie.Need-returns-2 invariant-loop decreases-loop
+returns-2 : tie.Need-returns invariant-loop decreases-loop
 returns-2 c =
-    let o = c.before.loop in
+    let o = c.before.loop-i in
     sym (o.invariant.1 ∙ ap (all strengths_right) (entries_none c.before.before.args.words.now o.i (omega arith)))
 
-pub all-right-spec : {M : Type 1} → statement M
-all-right-spec =
+pub all_right_spec : {M : Type 1} → statement M
+all_right_spec =
     tie.close
     (tie.spec
     invariant-loop

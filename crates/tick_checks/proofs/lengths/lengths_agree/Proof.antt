@@ -25,34 +25,34 @@ abbrev links : tie.Start → ℕ
 links s = sum (map links_needed (entries_of s.args.words.now))
 
 -- once the strengths are right, all is small
-small : (c : tie.Else1) → (numbers c.before.before ≤ 131072) × (links c.before.before ≤ 65536)
+small : (c : tie.Else-not-all_right) → (numbers c.before.before ≤ 131072) × (links c.before.before ≤ 65536)
 small c =
     let s = c.before.before in
-    all_small s.args.n s.args.words.now s.requires.0 s.requires.1 (sym c.before.All-right.ensures ∙ not-false c.before.All-right.result c.if1.false)
+    all_small s.args.n s.args.words.now s.requires.0 s.requires.1 (sym c.before.All-right.ensures ∙ not-false c.before.All-right.result c.if-not-all_right.false-raw)
 
-returns : tie.Need-returns
+returns : tie.Need-returns-then-not-all_right
 returns c =
     let r = c.before in
     let s = r.before in
-    wrong_strengths (right s) r.All-right.result r.All-right.ensures s.args.numbers (numbers s) s.args.links (links s) c.if1.true
+    wrong_strengths (right s) r.All-right.result r.All-right.ensures s.args.numbers (numbers s) s.args.links (links s) c.if-not-all_right.true-raw
 
-returns-2 : tie.Need-returns-2
+returns-2 : tie.Need-returns-then-numbers-all_numbers
 returns-2 c =
     let r = c.before.before.before in
     let s = r.before in
-    wrong-numbers (right s) r.All-right.result r.All-right.ensures s.args.numbers (numbers s) s.args.links (links s) c.before.before.if1.false
-    c.before.all-numbers.result c.before.all-numbers.ensures c.if2.true
+    wrong-numbers (right s) r.All-right.result r.All-right.ensures s.args.numbers (numbers s) s.args.links (links s) c.before.before.if-not-all_right.false-raw
+    c.before.all_numbers.result c.before.all_numbers.ensures c.if-numbers-all_numbers.true
 
-returns-3 : tie.Need-returns-3
+returns-3 : tie.Need-returns
 returns-3 c =
     let m = c.before.before in
     let r = m.before.before in
     let s = r.before in
-    right-numbers (right s) r.All-right.result r.All-right.ensures s.args.numbers (numbers s) s.args.links (links s) m.before.if1.false
-    m.all-numbers.result m.all-numbers.ensures c.before.if2.false c.all-links.result c.all-links.ensures
+    right-numbers (right s) r.All-right.result r.All-right.ensures s.args.numbers (numbers s) s.args.links (links s) m.before.if-not-all_right.false-raw
+    m.all_numbers.result m.all_numbers.ensures c.before.if-numbers-all_numbers.false c.all_links.result c.all_links.ensures
 
-pub lengths-agree-spec : {M : Type 1} → statement M
-lengths-agree-spec =
+pub lengths_agree_spec : {M : Type 1} → statement M
+lengths_agree_spec =
     tie.close
     (tie.spec
     (λ c κs. search rules)
@@ -60,5 +60,5 @@ lengths-agree-spec =
     (λ c κs. lt_of_le_of_lt (small c).0 (lit< tt))
     returns-2
     (λ c κs. lt_of_le_of_lt (small c.before.before).1 (lit< tt))
-    (λ c. omega (arith, c.all-links.ensures, (small c.before.before.before).1))
+    (λ c. omega (arith, c.all_links.ensures, (small c.before.before.before).1))
     returns-3)

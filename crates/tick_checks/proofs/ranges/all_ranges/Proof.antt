@@ -12,79 +12,79 @@ use Rattle.tick_checks.proofs.Parts.{part-size, part-long, Walked, walk_start, w
 use Rattle.tick_checks.proofs.ranges.all_ranges.Statement.{statement}
 use Rattle.tick_checks.proofs.ranges.all_ranges.Tie as tie
 
-abbrev invariant-loop : tie.invariant-loop
+abbrev invariant-loop : tie.invariant-loop-i
 invariant-loop words numbers n at₀ i₀ at i = Walked (numbers_needed n) own_ranges words numbers at i
 
-abbrev decreases-loop : tie.decreases-loop
+abbrev decreases-loop : tie.decreases-loop-i
 decreases-loop words numbers n at₀ i₀ at i = force_slots - i
 
 -- a slot needs no more numbers than there are
-numbers-needed-requires : tie.Need-numbers-needed-requires invariant-loop decreases-loop
+numbers-needed-requires : tie.Need-numbers_needed-requires invariant-loop decreases-loop
 numbers-needed-requires c κs =
-    let o = c.before.before.loop in
+    let o = c.before.before.loop-i in
     let s = c.before.before.before.before in
-    let e = c.entry_at.result in
+    let e = c.entry_at-e.result in
     let fits = walk-room (numbers_needed s.args.n) own_ranges s.args.words.now s.args.numbers.now o.at o.i o.invariant (omega arith)
-    e c.entry_at.ensures (numbers_needed s.args.n e) refl s.requires in
+    e c.entry_at-e.ensures (numbers_needed s.args.n e) refl s.requires in
     omega (arith, fits)
 
 -- the slot's part lies within the list
-room : (c : tie.After-numbers-needed invariant-loop decreases-loop) → c.before.before.before.loop.at + c.numbers-needed.result ≤ length c.before.before.before.before.before.args.numbers.now
+room : (c : tie.After-numbers_needed invariant-loop decreases-loop) → c.before.before.before.loop-i.at + c.numbers_needed.result ≤ length c.before.before.before.before.before.args.numbers.now
 room c =
-    let o = c.before.before.before.loop in
+    let o = c.before.before.before.loop-i in
     let s = c.before.before.before.before.before in
     walk-room (numbers_needed s.args.n) own_ranges s.args.words.now s.args.numbers.now o.at o.i o.invariant (omega arith)
-    c.before.entry_at.result c.before.entry_at.ensures c.numbers-needed.result c.numbers-needed.ensures s.requires
+    c.before.entry_at-e.result c.before.entry_at-e.ensures c.numbers_needed.result c.numbers_needed.ensures s.requires
 
 -- a link's strengths are among its numbers
-entry-ranges-requires : tie.Need-entry-ranges-requires invariant-loop decreases-loop
+entry-ranges-requires : tie.Need-entry_ranges-r-requires invariant-loop decreases-loop
 entry-ranges-requires c κs k =
     let m = c.before in
-    let o = m.before.before.before.loop in
+    let o = m.before.before.before.loop-i in
     let a = m.before.before.before.before.before.args in
-    omega (arith, part-long a.numbers.now o.at m.numbers-needed.result (room m), rw k at m.numbers-needed.ensures)
+    omega (arith, part-long a.numbers.now o.at m.numbers_needed.result (room m), rw k at m.numbers_needed.ensures)
 
 -- what was answered for the slot's part
-answered : (c : tie.After-entry-ranges invariant-loop decreases-loop) → let m = c.before.before in
+answered : (c : tie.After-entry_ranges-r invariant-loop decreases-loop) → let m = c.before.before in
     let a = m.before.before.before.before.before.args in
-    c.entry-ranges.result ≡ refusal_of (own_ranges m.before.entry_at.result (take m.numbers-needed.result (drop m.before.before.before.loop.at a.numbers.now)))
+    c.entry_ranges-r.result ≡ refusal_of (own_ranges m.before.entry_at-e.result (take m.numbers_needed.result (drop m.before.before.before.loop-i.at a.numbers.now)))
 answered c =
     let m = c.before.before in
-    let at = m.before.before.before.loop.at in
+    let at = m.before.before.before.loop-i.at in
     let a = m.before.before.before.before.before.args in
-    c.entry-ranges.ensures
-    ∙ ap (λ (k : ℕ). refusal_of (own_ranges m.before.entry_at.result (take k (drop at a.numbers.now)))) (part-size at m.numbers-needed.result)
+    c.entry_ranges-r.ensures
+    ∙ ap (λ (k : ℕ). refusal_of (own_ranges m.before.entry_at-e.result (take k (drop at a.numbers.now)))) (part-size at m.numbers_needed.result)
 
-returns : tie.Need-returns invariant-loop decreases-loop
+returns : tie.Need-returns-then-number-ne0 invariant-loop decreases-loop
 returns c =
     let r = c.before in
     let m = r.before.before in
     let e = m.before in
-    let o = e.before.before.loop in
+    let o = e.before.before.loop-i in
     let a = e.before.before.before.before.args in
     walk-stop (numbers_needed a.n) own_ranges a.words.now a.numbers.now o.at o.i o.invariant (omega arith)
-    e.entry_at.result e.entry_at.ensures m.numbers-needed.result m.numbers-needed.ensures
-    r.entry-ranges.result (answered r) c.if1.true
+    e.entry_at-e.result e.entry_at-e.ensures m.numbers_needed.result m.numbers_needed.ensures
+    r.entry_ranges-r.result (answered r) c.if-number-ne0.true
 
-loop-again : tie.Need-loop-preserved invariant-loop decreases-loop
+loop-again : tie.Need-loop-i-preserved invariant-loop decreases-loop
 loop-again c =
     let r = c.before in
     let m = r.before.before in
     let e = m.before in
-    let o = e.before.before.loop in
+    let o = e.before.before.loop-i in
     let a = e.before.before.before.before.args in
     walk-on (numbers_needed a.n) own_ranges a.words.now a.numbers.now o.at o.i o.invariant (omega arith)
-    e.entry_at.result e.entry_at.ensures m.numbers-needed.result m.numbers-needed.ensures
-    r.entry-ranges.result (answered r) (own-early e.entry_at.result (take m.numbers-needed.result (drop o.at a.numbers.now))) c.if1.false
+    e.entry_at-e.result e.entry_at-e.ensures m.numbers_needed.result m.numbers_needed.ensures
+    r.entry_ranges-r.result (answered r) (own-early e.entry_at-e.result (take m.numbers_needed.result (drop o.at a.numbers.now))) c.if-number-ne0.false
 
-returns-2 : tie.Need-returns-2 invariant-loop decreases-loop
+returns-2 : tie.Need-returns invariant-loop decreases-loop
 returns-2 c =
-    let o = c.before.before.loop in
+    let o = c.before.before.loop-i in
     let a = c.before.before.before.before.args in
     c.none.ensures ∙ walk_end (numbers_needed a.n) own_ranges a.words.now a.numbers.now o.at o.i o.invariant (omega arith)
 
-pub all-ranges-spec : {M : Type 1} → statement M
-all-ranges-spec =
+pub all_ranges_spec : {M : Type 1} → statement M
+all_ranges_spec =
     tie.close
     (tie.spec
     invariant-loop

@@ -13,43 +13,43 @@ use Rattle.tick_checks.proofs.Early.{answer_then}
 use Rattle.tick_checks.proofs.ranges.entry_ranges.Statement.{statement}
 use Rattle.tick_checks.proofs.ranges.entry_ranges.Tie as tie
 
-returns : tie.Need-returns
+returns : tie.Need-returns-in-0
 unfolding kind_ranges
-returns c = rw c.before.match.keys1 c.none.ensures
+returns c = rw c.before.in_default.keys1 c.none.ensures
 
-returns-2 : tie.Need-returns-2
+returns-2 : tie.Need-returns-in-1
 unfolding kind_ranges
-returns-2 c = rw c.before.match.keys2 c.strengths-check.ensures
+returns-2 c = rw c.before.in_default.keys2 c.strengths_check.ensures
 
-returns-3 : tie.Need-returns-3
+returns-3 : tie.Need-returns-in-2
 unfolding kind_ranges
 returns-3 c =
     let s = c.before in
     let d = s.before in
     let a = d.before.before.before.args in
-    rw d.before.match.keys3
-    (answer_then (distances_check a.part.now) (settings_check (a.e.a ∷ [])) d.distances-check.result s.setting-check.result c.first.result
-    (of_all distance_range 5 five a.part.now) d.distances-check.ensures s.setting-check.ensures c.first.ensures)
+    rw d.before.in_default.keys3
+    (answer_then (distances_check a.part.now) (settings_check (a.e.a ∷ [])) d.distances_check.result s.setting_check.result c.first.result
+    (of_all distance_range 5 five a.part.now) d.distances_check.ensures s.setting_check.ensures c.first.ensures)
 
-returns-4 : tie.Need-returns-4
+returns-4 : tie.Need-returns-in-3
 unfolding kind_ranges
-returns-4 c = rw c.before.match.keys4 c.link-ranges.ensures
+returns-4 c = rw c.before.in_default.keys4 c.link_ranges.ensures
 
-returns-5 : tie.Need-returns-5
+returns-5 : tie.Need-returns-in-4
 unfolding kind_ranges
-returns-5 c = rw c.before.match.keys5 c.settings-check.ensures
+returns-5 c = rw c.before.in_default.keys5 c.settings_check.ensures
 
-returns-6 : tie.Need-returns-6
+returns-6 : tie.Need-returns-in_default
 unfolding kind_ranges
 returns-6 c =
     let a = c.before.before.before.args in
-    let r = c.before.match.rest in
+    let r = c.before.in_default.rest in
     c.at.ensures
     ∙ of_kind_lem (λ k. refusal 5 0 ≡ refusal_of (kind_ranges k a.e a.part.now)) a.e.kind (λ z. absurd (r.0.0.0.0.1 z)) (λ z. absurd (r.0.0.0.1 z))
     (λ z. absurd (r.0.0.1 z)) (λ z. absurd (r.0.1 z)) (λ z. absurd (r.1 z)) (λ _. refl)
 
-pub entry-ranges-spec : {M : Type 1} → statement M
-entry-ranges-spec =
+pub entry_ranges_spec : {M : Type 1} → statement M
+entry_ranges_spec =
     tie.close
     (tie.spec
     (λ c κs. search rules)
@@ -57,7 +57,7 @@ entry-ranges-spec =
     (λ c κs. search rules)
     (λ c κs. search rules)
     (λ c κs. search rules)
-    (λ c κs. c.before.before.pre c.match.keys4)
+    (λ c κs. c.before.before.requires c.in_default.keys4)
     (λ c κs. search rules)
     (λ c κs. search rules)
     returns

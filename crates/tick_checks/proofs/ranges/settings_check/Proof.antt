@@ -9,13 +9,13 @@ returns : tie.Need-returns
 returns c =
     let two = c.before.before in
     let a = two.before.before.before.args in
-    answer_settings (a.a ∷ a.b ∷ []) (a.c ∷ []) two.first.result c.before.setting-check3.result c.first2.result
-    (answer_settings (a.a ∷ []) (a.b ∷ []) two.before.before.setting-check.result two.before.setting-check2.result two.first.result
-    two.before.before.setting-check.ensures two.before.setting-check2.ensures two.first.ensures)
-    c.before.setting-check3.ensures c.first2.ensures
+    answer_settings (a.a ∷ a.b ∷ []) (a.c ∷ []) two.first.result c.before.setting_check-3.result c.first-2.result
+    (answer_settings (a.a ∷ []) (a.b ∷ []) two.before.before.setting_check.result two.before.setting_check-2.result two.first.result
+    two.before.before.setting_check.ensures two.before.setting_check-2.ensures two.first.ensures)
+    c.before.setting_check-3.ensures c.first-2.ensures
 
-pub settings-check-spec : {M : Type 1} → statement M
-settings-check-spec =
+pub settings_check_spec : {M : Type 1} → statement M
+settings_check_spec =
     tie.close
     (tie.spec
     (λ c κs. search rules)

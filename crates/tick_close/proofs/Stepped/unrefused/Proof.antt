@@ -6,5 +6,5 @@ use Rattle.tick_close.proofs.Stepped.unrefused.Tie as tie
 returns : tie.Need-returns
 returns c = rw c.none.ensures
 
-pub unrefused-spec : {M : Type 1} → statement M
-unrefused-spec = tie.close (tie.spec (λ c κs. search rules) returns)
+pub unrefused_spec : {M : Type 1} → statement M
+unrefused_spec = tie.close (tie.spec (λ c κs. search rules) returns)

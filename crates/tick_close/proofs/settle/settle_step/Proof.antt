@@ -6,8 +6,8 @@ use Rattle.tick_close.proofs.settle.settle_step.Tie as tie
 returns : tie.Need-returns
 returns c = record { answer = cc; bytes = search rules; alpha_left = search rules; slots = search rules }
 
-pub settle-step-spec : {M : Type 1} → statement M
-settle-step-spec =
+pub settle_step_spec : {M : Type 1} → statement M
+settle_step_spec =
     tie.close
     (tie.spec
     (λ c κs. search rules)

@@ -5,25 +5,25 @@ use Rattle.tick_close.proofs.settle.settle_tick.Statement.{statement}
 use Rattle.tick_close.proofs.settle.settle_tick.Tie as tie
 
 -- the points of the code, each from a later one
-abbrev cleared : tie.After-refusal → tie.After-clear
+abbrev cleared : tie.After-refusal-1 → tie.After-clear
 cleared c = c.before.before.before
 
-abbrev written : tie.After-bits-of → tie.After-write-columns
+abbrev written : tie.After-bits_of → tie.After-write_columns
 written c = c.before.before.before.before
 
-abbrev passed : tie.After-write-columns → tie.Else1
+abbrev passed : tie.After-write_columns → tie.Else-number-ne0
 passed c = c.before.before
 
-returns : tie.Need-returns
-returns c = settled_refused _ _ _ _ _ _ _ _ c.before.if1.true c.refused.ensures (cleared c.before.before).clear.ensures
+returns : tie.Need-returns-then-number-ne0
+returns c = settled_refused _ _ _ _ _ _ _ _ c.before.if-number-ne0.true c.refused.ensures (cleared c.before.before).clear.ensures
 
-returns-2 : tie.Need-returns-2
+returns-2 : tie.Need-returns
 returns-2 c =
     let w = written c.before in
-    settled_done _ _ _ _ _ _ _ _ _ _ (passed w).if1.left c.counted.ensures w.write-columns.ensures c.before.bits_of.ensures (cleared (passed w).before).clear.ensures
+    settled_done _ _ _ _ _ _ _ _ _ _ (passed w).if-number-ne0.left c.counted.ensures w.write_columns.ensures c.before.bits_of.ensures (cleared (passed w).before).clear.ensures
 
-pub settle-tick-spec : {M : Type 1} → statement M
-settle-tick-spec =
+pub settle_tick_spec : {M : Type 1} → statement M
+settle_tick_spec =
     tie.close
     (tie.spec
     (λ c κs. search rules)

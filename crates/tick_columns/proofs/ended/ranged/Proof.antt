@@ -5,13 +5,13 @@ use Rattle.force.proofs.RanCheck.{ran_check_refused, ran_check-fine}
 use Rattle.tick_columns.proofs.ended.ranged.Statement.{statement}
 use Rattle.tick_columns.proofs.ended.ranged.Tie as tie
 
-returns : tie.Need-returns
-returns c = rw (ran_check_refused c.before.before.before.before.args.ran c.if1.true)
+returns : tie.Need-returns-then-number-ne0
+returns c = rw (ran_check_refused c.before.before.before.before.args.ran c.if-number-ne0.true)
 
-returns-2 : tie.Need-returns-2
+returns-2 : tie.Need-returns
 returns-2 c =
     let e = c.before in
-    c.refused.ensures ∙ rw (ran_check-fine e.before.before.before.before.before.args.ran e.before.if1.false, e.result-check.ensures)
+    c.refused.ensures ∙ rw (ran_check-fine e.before.before.before.before.before.args.ran e.before.if-number-ne0.false, e.result_check.ensures)
 
-pub ranged-spec : {M : Type 1} → statement M
-ranged-spec = tie.close (tie.spec returns (λ c κs. search rules) (λ c κs. search rules) returns-2)
+pub ranged_spec : {M : Type 1} → statement M
+ranged_spec = tie.close (tie.spec returns (λ c κs. search rules) (λ c κs. search rules) returns-2)

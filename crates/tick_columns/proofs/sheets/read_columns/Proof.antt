@@ -5,22 +5,22 @@ use Rattle.tick_columns.proofs.sheets.read_columns.Statement.{statement}
 use Rattle.tick_columns.proofs.sheets.read_columns.Tie as tie
 
 -- the points of the code, each from a later one
-abbrev pairs-read2 : tie.After-slice-known6 → tie.After-read-pairs2
+abbrev pairs-read2 : tie.After-slice_known-6-1 → tie.After-read_pairs-2
 pairs-read2 c = c.before.before.before.before.before.before
 
-abbrev pairs-read : tie.After-slice-known6 → tie.After-read-pairs
+abbrev pairs-read : tie.After-slice_known-6-1 → tie.After-read_pairs
 pairs-read c = (pairs-read2 c).before.before.before.before
 
-abbrev entry : tie.After-slice-known6 → tie.Start
+abbrev entry : tie.After-slice_known-6-1 → tie.Start
 entry c = (pairs-read c).before.before.before.before.before.before
 
 returns : tie.Need-returns
 returns c =
     let p = (entry c).requires in
-    columns-read _ _ _ _ _ _ p.0 p.1 (pairs-read c).read_pairs.ensures (pairs-read2 c).read-pairs2.ensures c.before.before.read-Flags.ensures
+    columns-read _ _ _ _ _ _ p.0 p.1 (pairs-read c).read_pairs.ensures (pairs-read2 c).read_pairs-2.ensures c.before.before.read-Flags.ensures
 
-pub read-columns-spec : {M : Type 1} → statement M
-read-columns-spec =
+pub read_columns_spec : {M : Type 1} → statement M
+read_columns_spec =
     tie.close
     (tie.spec
     (λ c κs. search rules)

@@ -7,10 +7,10 @@ use Rattle.tick_stage.proofs.stage.center_stage.Statement.{statement}
 use Rattle.tick_stage.proofs.stage.center_stage.Tie as tie
 
 -- the points of the code, each from a later one
-abbrev centered : tie.After-done → tie.After-center-all
+abbrev centered : tie.After-done → tie.After-center_all
 centered c = c.before.before.before.before
 
-abbrev entry : tie.After-center-all → tie.Start
+abbrev entry : tie.After-center_all → tie.Start
 entry c = c.before.before.before.before
 
 returns : tie.Need-returns
@@ -18,11 +18,11 @@ returns c t flags slots ds d l =
     let m = centered c.before in
     let s = entry m in
     let a = s.args in
-    centered-stages a.places.now m.center-all.last.1.1.1.0 a.speeds.now ds flags a.x a.y a.strength t slots a.p _ c.ranged.result
-    l (s.pre.2 ∙ l) m.center-all.kept.1.1.1.0 d (omega arith) m.center-all.ensures (rw c.before.done.ensures at c.ranged.ensures)
+    centered-stages a.places.now m.center_all.new.places a.speeds.now ds flags a.x a.y a.strength t slots a.p _ c.ranged.result
+    l (s.requires.2 ∙ l) m.center_all.auto.places d (omega arith) m.center_all.ensures (rw c.before.done.ensures at c.ranged.ensures)
 
-pub center-stage-spec : {M : Type 1} → statement M
-center-stage-spec =
+pub center_stage_spec : {M : Type 1} → statement M
+center_stage_spec =
     tie.close
     (tie.spec
     (λ c κs. search rules)

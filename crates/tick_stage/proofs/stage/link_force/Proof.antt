@@ -10,44 +10,44 @@ use Rattle.tick_stage.proofs.stage.link_force.Statement.{statement}
 use Rattle.tick_stage.proofs.stage.link_force.Tie as tie
 
 -- the points of the code, each from a later one
-abbrev after-index3 : tie.After-slice-known2 → tie.After-index3
+abbrev after-index3 : tie.After-slice_known-2-1 → tie.After-index
 after-index3 c = c.before.before.before.before
 
-abbrev after-index2 : tie.After-index3 → tie.After-index2
+abbrev after-index2 : tie.After-index → tie.After-index-s
 after-index2 c = c.before.before.before.before
 
-abbrev entry : tie.After-index2 → tie.Start
+abbrev entry : tie.After-index-s → tie.Start
 entry c = c.before.before.before.before.before.before.before
 
 -- what is known of the slot's lists, by the numbers that the code has
-fits : (c : tie.After-index2) → LinkFits (length (entry c).args.places.now / 2) c.index2.result c.before.index.result (entry c).args.numbers.now (entry c).args.links.now
+fits : (c : tie.After-index-s) → LinkFits (length (entry c).args.places.now / 2) c.index-s.result c.before.index-m.result (entry c).args.numbers.now (entry c).args.links.now
 fits c =
     let s = entry c in
-    rw (entry, c.index2.ensures, c.before.index.ensures) (link_fits (length s.args.places.now / 2) s.args.e s.args.numbers.now s.args.links.now s.pre.0 s.pre.1)
+    rw (entry, c.index-s.ensures, c.before.index-m.ensures) (link_fits (length s.args.places.now / 2) s.args.e s.args.numbers.now s.args.links.now s.requires.0 s.requires.1)
 
 -- as many distances as links
 distances : (s m : ℕ) → s + m - s ≡ m
 distances s m = omega arith
 
-link-stage-requires : tie.Need-link-stage-requires
+link-stage-requires : tie.Need-link_stage-requires
 link-stage-requires c κs =
     let i = after-index2 c.before in
     let s = entry i in
     let h = fits i in (
-      s.pre.2,
+      s.requires.2,
       ends-lent h,
-      lists-lent h _ (distances i.index2.result i.before.index.result),
+      lists-lent h _ (distances i.index-s.result i.before.index-m.result),
     )
 
 returns : tie.Need-returns
 returns c t flags slots l =
     let i = after-index2 (after-index3 c) in
     let s = entry i in
-    rw (entry, after-index2, after-index3, link_taken (fits i) s.args.e s.pre.0 i.index2.ensures i.before.index.ensures _ _ (length flags) (after-index3 c).index3.ensures (distances i.index2.result i.before.index.result))
-    (c.before.before.link-stage.ensures t flags slots l)
+    rw (entry, after-index2, after-index3, link_taken (fits i) s.args.e s.requires.0 i.index-s.ensures i.before.index-m.ensures _ _ (length flags) (after-index3 c).index.ensures (distances i.index-s.result i.before.index-m.result))
+    (c.before.before.link_stage.ensures t flags slots l)
 
-pub link-force-spec : {M : Type 1} → statement M
-link-force-spec =
+pub link_force_spec : {M : Type 1} → statement M
+link_force_spec =
     tie.close
     (tie.spec
     (λ c κs. search rules)

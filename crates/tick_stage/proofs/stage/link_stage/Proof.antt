@@ -13,17 +13,17 @@ use Rattle.tick_stage.proofs.stage.link_stage.Statement.{statement}
 use Rattle.tick_stage.proofs.stage.link_stage.Tie as tie
 
 -- the points of the code, each from a later one
-abbrev ran : tie.After-ranged → tie.After-link
+abbrev ran : tie.After-ranged → tie.After-link-ran
 ran c = c.before.before.before.before
 
-abbrev entry : tie.After-link-arg → tie.Start
+abbrev entry : tie.After-link-arg-1 → tie.Start
 entry c = c.before.before.before.before.before.before.before
 
-link-requires : tie.Need-link-requires
+link-requires : tie.Need-link-ran-requires
 link-requires c κs =
     let s = entry c in
     let a = s.args in
-    let p = s.pre in
+    let p = s.requires in
     let h : length a.speeds.now / 2 ≡ length a.places.now / 2 = omega (arith, p.0.speeds) in (
       subst⁻¹ (λ (n : ℕ). EndsLent n a.links.now) h p.1,
       p.2,
@@ -39,14 +39,14 @@ returns c t flags slots l =
     let m = ran c in
     let s = entry m.before in
     let a = s.args in
-    pushed-stages a.places.now a.speeds.now m.link.last.1.0 a.draws.now flags t (link (ends_of a.links.now) a.strengths.now a.distances.now a.iterations) slots _ a.p _
-    m.link.result c.ranged.result s.pre.0 l m.link.kept.1.0 m.link.ensures
+    pushed-stages a.places.now a.speeds.now m.link-ran.new.vs a.draws.now flags t (link (ends_of a.links.now) a.strengths.now a.distances.now a.iterations) slots _ a.p _
+    m.link-ran.result c.ranged.result s.requires.0 l m.link-ran.auto.vs m.link-ran.ensures
     (λ z. omega (
       arith,
-      visits_kept m.link.last.1.0 a.draws.now m.link.result a.p.visits
+      visits_kept m.link-ran.new.vs a.draws.now m.link-ran.result a.p.visits
           (run_link a.places.now (ends_of a.links.now) a.strengths.now a.distances.now a.iterations a.p.alpha (flow a.speeds.now (drop a.p.used a.draws.now)))
-          m.link.ensures.is z,
+          m.link-ran.ensures.is z,
     )) c.ranged.ensures
 
-pub link-stage-spec : {M : Type 1} → statement M
-link-stage-spec = tie.close (tie.spec link-requires (λ c κs. search rules) (λ c. search rules) returns)
+pub link_stage_spec : {M : Type 1} → statement M
+link_stage_spec = tie.close (tie.spec link-requires (λ c κs. search rules) (λ c. search rules) returns)

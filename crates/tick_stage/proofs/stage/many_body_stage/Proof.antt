@@ -9,13 +9,13 @@ use Rattle.tick_stage.proofs.stage.many_body_stage.Statement.{statement}
 use Rattle.tick_stage.proofs.stage.many_body_stage.Tie as tie
 
 -- the points of the code, each from a later one
-abbrev ran : tie.After-ranged → tie.After-many-body
+abbrev ran : tie.After-ranged → tie.After-many_body-ran
 ran c = c.before.before.before.before.before.before.before.before.before.before
 
-abbrev entry : tie.After-many-body-arg4 → tie.Start
+abbrev entry : tie.After-many_body-arg-4-1 → tie.Start
 entry c = c.before.before.before.before.before.before.before.before.before.before.before
 
-many-body-requires : tie.Need-many-body-requires
+many-body-requires : tie.Need-many_body-ran-requires
 many-body-requires c κs = let p = (entry c).requires in (can_build p.0 p.1, (p.0.places, p.0.speeds, p.0.drawn, p.2))
 
 returns : tie.Need-returns
@@ -24,11 +24,11 @@ returns c flags l =
     let m = ran c in
     let s = entry m.before in
     let a = s.args in
-    pushed-stages a.places.now a.speeds.now m.many_body.last.1.1.0 a.draws.now flags a.t (many_body a.strengths.now) (slots_of a.work.now) _ a.p _
-    m.many_body.result c.ranged.result s.pre.0 l m.many_body.kept.1.1.0 m.many_body.ensures.0 (λ _. omega (arith, m.many_body.ensures.1)) c.ranged.ensures
+    pushed-stages a.places.now a.speeds.now m.many_body-ran.new.vs a.draws.now flags a.t (many_body a.strengths.now) (slots_of a.work.now) _ a.p _
+    m.many_body-ran.result c.ranged.result s.requires.0 l m.many_body-ran.auto.vs m.many_body-ran.ensures.0 (λ _. omega (arith, m.many_body-ran.ensures.1)) c.ranged.ensures
 
-pub many-body-stage-spec : {M : Type 1} → statement M
-many-body-stage-spec =
+pub many_body_stage_spec : {M : Type 1} → statement M
+many_body_stage_spec =
     tie.close
     (tie.spec
     many-body-requires

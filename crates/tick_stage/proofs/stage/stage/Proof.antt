@@ -14,51 +14,51 @@ half : (s : tie.Start) → length s.args.places.now / 2 ≡ length s.args.flags.
 half s = omega (arith, s.requires.0.places)
 
 -- the points of the code, each from a later one
-abbrev first : tie.Then1 → tie.Start
+abbrev first : tie.Then-kind-eq3 → tie.Start
 first c = c.before.before.before.before.before.before.before.before.before.before
 
-abbrev entry : tie.Else1 → tie.Start
+abbrev entry : tie.Else-kind-eq3 → tie.Start
 entry c = c.before.before.before.before.before.before.before.before.before.before
 
-abbrev links : tie.After-link-force → tie.Then1
+abbrev links : tie.After-link_force → tie.Then-kind-eq3
 links c = c.before.before.before
 
-abbrev centers : tie.After-center-stage → tie.Then2
+abbrev centers : tie.After-center_stage → tie.Then-kind-eq4
 centers c = c.before.before.before
 
-abbrev others : tie.After-tree-force-arg5 → tie.Else2
+abbrev others : tie.After-tree-force-arg5 → tie.Else-kind-eq4
 others c = c.before.before.before.before.before
 
-link-force-requires : tie.Need-link-force-requires
-link-force-requires c κs = let s = first c.before.before in rw (half s) (c.before.before.if1.true, s.pre.2, s.pre.0)
+link-force-requires : tie.Need-link_force-requires
+link-force-requires c κs = let s = first c.before.before in rw (half s) (c.before.before.if-kind-eq3.true, s.requires.2, s.requires.0)
 
-returns : tie.Need-returns
+returns : tie.Need-returns-then-kind-eq3
 returns c =
     let m = c.before.before in
     let s = first (links m) in
-    m.link-force.ensures s.args.t s.args.flags.now (slots_of s.args.work.now) s.pre.0.places
+    m.link_force.ensures s.args.t s.args.flags.now (slots_of s.args.work.now) s.requires.0.places
 
-returns-2 : tie.Need-returns-2
+returns-2 : tie.Need-returns-then-kind-eq4
 returns-2 c =
     let m = c.before.before in
     let s = entry (centers m).before in
     let a = s.args in
-    rw (center_of (length a.flags.now) a.e a.numbers.now a.links.now (centers m).if2.true) (m.center-stage.ensures a.t a.flags.now (slots_of a.work.now) a.draws.now s.pre.0.drawn s.pre.0.places)
+    rw (center_of (length a.flags.now) a.e a.numbers.now a.links.now (centers m).if-kind-eq4.true) (m.center_stage.ensures a.t a.flags.now (slots_of a.work.now) a.draws.now s.requires.0.drawn s.requires.0.places)
 
-tree-force-requires : tie.Need-tree-force-requires
+tree-force-requires : tie.Need-tree_force-requires
 tree-force-requires c κs =
     let k = others c in
     let p = (entry k.before).requires in
-    ((p.0, p.1, p.3), (p.2.counts, p.2.numbers, k.before.if1.left, k.if2.left))
+    ((p.0, p.1, p.3), (p.2.counts, p.2.numbers, k.before.if-kind-eq3.left, k.if-kind-eq4.left))
 
-returns-3 : tie.Need-returns-3
+returns-3 : tie.Need-returns
 returns-3 c =
     let m = c.before.before.before.before.before.before.before.before in
     let s = entry (others m.before).before in
-    m.tree-force.ensures s.args.flags.now s.args.links.now refl
+    m.tree_force.ensures s.args.flags.now s.args.links.now refl
 
-pub stage-spec : {M : Type 1} → statement M
-stage-spec =
+pub stage_spec : {M : Type 1} → statement M
+stage_spec =
     tie.close
     (tie.spec
     link-force-requires

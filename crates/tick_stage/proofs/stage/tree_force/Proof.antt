@@ -27,40 +27,40 @@ pairs : (s : tie.Start) (flags : List ℕ) → length flags ≡ s.args.n → len
 pairs s flags l = s.requires.0.0.places ∙ ap (λ (n : ℕ). n * 2) (sym l)
 
 -- the points of the code, each from a later one
-abbrev entry : tie.Else1 → tie.Start
+abbrev entry : tie.Else-kind-eq1 → tie.Start
 entry c = c.before.before.before.before.before.before.before.before
 
-abbrev first : tie.Then1 → tie.Start
+abbrev first : tie.Then-kind-eq1 → tie.Start
 first c = c.before.before.before.before.before.before.before.before
 
-abbrev pulls : tie.After-many-body-stage-arg4 → tie.Then1
+abbrev pulls : tie.After-many_body_stage-arg-then-kind-eq1-3-1 → tie.Then-kind-eq1
 pulls c = c.before.before.before.before.before
 
-abbrev collides : tie.After-collide-stage-arg4 → tie.Then2
+abbrev collides : tie.After-collide_stage-arg-then-kind-eq2-3-1 → tie.Then-kind-eq2
 collides c = c.before.before.before.before.before.before
 
-many-body-stage-requires : tie.Need-many-body-stage-requires
-many-body-stage-requires c κs = let s = first (pulls c) in rw (strengths s (pulls c).if1.true) s.pre.0
+many-body-stage-requires : tie.Need-many_body_stage-requires
+many-body-stage-requires c κs = let s = first (pulls c) in rw (strengths s (pulls c).if-kind-eq1.true) s.requires.0
 
-returns : tie.Need-returns
+returns : tie.Need-returns-then-kind-eq1
 returns c flags links l =
     let m = c.before.before.before.before.before.before.before.before in
     let k = pulls m.before in
     let s = first k in
-    rw (many_body_of s.args.n s.args.e s.args.numbers.now links k.if1.taken) (m.many-body-stage.ensures flags (pairs s flags l))
+    rw (many_body_of s.args.n s.args.e s.args.numbers.now links k.if-kind-eq1.taken) (m.many_body_stage.ensures flags (pairs s flags l))
 
-collide-stage-requires : tie.Need-collide-stage-requires
+collide-stage-requires : tie.Need-collide_stage-requires
 collide-stage-requires c κs =
     let s = entry (collides c).before in
-    let k = (collides c).if2.true in
+    let k = (collides c).if-kind-eq2.true in
     let a = s.args in (
-      subst⁻¹ (λ (n : ℕ). ColumnsFit a.places.now a.speeds.now a.draws.now n a.p.used) (radii s k) s.pre.0.0,
-      subst⁻¹ (λ (n : ℕ). Chains n a.next.now a.tail.now) (radii s k) s.pre.0.1,
-      omega (arith, few_iterations a.e s.pre.1.0 k, c.before.before.before.before.index.ensures),
-      s.pre.0.2,
+      subst⁻¹ (λ (n : ℕ). ColumnsFit a.places.now a.speeds.now a.draws.now n a.p.used) (radii s k) s.requires.0.0,
+      subst⁻¹ (λ (n : ℕ). Chains n a.next.now a.tail.now) (radii s k) s.requires.0.1,
+      omega (arith, few_iterations a.e s.requires.1.0 k, c.before.before.before.before.index.ensures),
+      s.requires.0.2,
     )
 
-returns-2 : tie.Need-returns-2
+returns-2 : tie.Need-returns-then-kind-eq2
 returns-2 c flags links l =
     let m = c.before.before.before.before.before.before.before.before in
     let k = collides m.before in
@@ -68,30 +68,30 @@ returns-2 c flags links l =
     let a = s.args in
     let i = m.before.before.before.before.before.index in
     subst⁻¹
-    (λ (f : Force). StageBy (λ m. force_stage a.t (slots_of a.work.now) m f) (columns a.places.now a.speeds.now flags) (columns a.places.now m.collide-stage.new.1.1.1.1.0 flags) a.draws.now a.p
-    m.collide-stage.result)
-    (collide_of a.n a.e a.numbers.now links k.if2.taken ∙ ap (λ (j : ℕ). push (collide (take a.n a.numbers.now) a.e.a j)) (sym i.ensures))
-    (m.collide-stage.ensures a.t flags (pairs s flags l))
+    (λ (f : Force). StageBy (λ m. force_stage a.t (slots_of a.work.now) m f) (columns a.places.now a.speeds.now flags) (columns a.places.now m.collide_stage.new.speeds flags) a.draws.now a.p
+    m.collide_stage.result)
+    (collide_of a.n a.e a.numbers.now links k.if-kind-eq2.taken ∙ ap (λ (j : ℕ). push (collide (take a.n a.numbers.now) a.e.a j)) (sym i.ensures))
+    (m.collide_stage.ensures a.t flags (pairs s flags l))
 
-returns-3 : tie.Need-returns-3
+returns-3 : tie.Need-returns
 returns-3 c flags links l =
     let s = entry c.before.before in
     let a = s.args in
-    idle-stages a.places.now a.speeds.now a.draws.now flags _ a.p _ c.done.result _ s.pre.0.0 (omega arith) c.done.ensures
-    (none_of a.n a.e a.numbers.now links c.before.before.if1.false c.before.if2.false s.pre.1.2 s.pre.1.3 a.t (slots_of a.work.now) _)
+    idle-stages a.places.now a.speeds.now a.draws.now flags _ a.p _ c.done.result _ s.requires.0.0 (omega arith) c.done.ensures
+    (none_of a.n a.e a.numbers.now links c.before.before.if-kind-eq1.false c.before.if-kind-eq2.false s.requires.1.2 s.requires.1.3 a.t (slots_of a.work.now) _)
 
-pub tree-force-spec : {M : Type 1} → statement M
-tree-force-spec =
+pub tree_force_spec : {M : Type 1} → statement M
+tree_force_spec =
     tie.close
     (tie.spec
-    (λ c. sym (strengths (first c.before) c.before.if1.true))
+    (λ c. sym (strengths (first c.before) c.before.if-kind-eq1.true))
     many-body-stage-requires
     (λ c. search rules)
     (λ c. search rules)
     (λ c. search rules)
     (λ c. search rules)
     returns
-    (λ c. sym (radii (entry c.before.before) c.before.if2.true))
+    (λ c. sym (radii (entry c.before.before) c.before.if-kind-eq2.true))
     (λ c κs. search rules)
     collide-stage-requires
     (λ c. search rules)

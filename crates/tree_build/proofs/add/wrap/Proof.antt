@@ -18,67 +18,67 @@ use Rattle.tree_build.proofs.AddInsert.{wrap-asks, wrap-quadrant, wrap-turn, wra
 use Rattle.tree_build.proofs.add.wrap.Statement.{statement}
 use Rattle.tree_build.proofs.add.wrap.Tie as tie
 
-abbrev invariant-loop : tie.invariant-loop
+abbrev invariant-loop : tie.invariant-loop-left
 invariant-loop m₀ at p x y wrapped₀ left₀ m wrapped left = (length m ≡ length m₀) × ((is : List ℕ) (to : Extent) → Wraps at is m₀ wrapped₀ to p left₀ → Wraps at is m wrapped to p left)
 
-abbrev decreases-loop : tie.decreases-loop
+abbrev decreases-loop : tie.decreases-loop-left
 decreases-loop m₀ at p x y wrapped₀ left₀ m wrapped left = left
 
 -- where the function begins
-abbrev start : tie.At-loop invariant-loop decreases-loop → tie.Start invariant-loop decreases-loop
+abbrev start : tie.At-loop-left invariant-loop decreases-loop → tie.Start invariant-loop decreases-loop
 start c = c.before.before.before.before.before
 
 -- what is left to wrap
-left-wraps : (c : tie.At-loop invariant-loop decreases-loop) → let s = start c in Wraps s.args.at.now s.pre.0 c.loop.m c.loop.wrapped s.args.covered.extent s.args.p c.loop.left
-left-wraps c = let s = start c in c.loop.invariant.1 s.pre.0 s.args.covered.extent s.pre.1
+left-wraps : (c : tie.At-loop-left invariant-loop decreases-loop) → let s = start c in Wraps s.args.at.now s.requires.0 c.loop-left.m c.loop-left.wrapped s.args.covered.extent s.args.p c.loop-left.left
+left-wraps c = let s = start c in c.loop-left.invariant.1 s.requires.0 s.args.covered.extent s.requires.1
 
 -- a doubling towards the particle
-doubled : (c : tie.After-double-once invariant-loop decreases-loop)
-    → let d = c.before.before in let s = start d in DoubledTo d.loop.wrapped.extent (floor (x_at s.args.at.now s.args.p)) (floor (y_at s.args.at.now s.args.p)) c.double-once.result
+doubled : (c : tie.After-double_once-doubled invariant-loop decreases-loop)
+    → let d = c.before.before in let s = start d in DoubledTo d.loop-left.wrapped.extent (floor (x_at s.args.at.now s.args.p)) (floor (y_at s.args.at.now s.args.p)) c.double_once-doubled.result
 doubled c =
     let d = c.before.before in
-    subst₂ (λ (x y : Float). DoubledTo d.loop.wrapped.extent (floor x) (floor y) c.double-once.result) d.before.before.x-at.ensures d.before.y-at.ensures c.double-once.ensures
+    subst₂ (λ (x y : Float). DoubledTo d.loop-left.wrapped.extent (floor x) (floor y) c.double_once-doubled.result) d.before.before.x_at-x.ensures d.before.y_at-y.ensures c.double_once-doubled.ensures
 
-double-once-requires : tie.Need-double-once-requires invariant-loop decreases-loop
+double-once-requires : tie.Need-double_once-doubled-requires invariant-loop decreases-loop
 double-once-requires c κs =
     let d = c.before in
     let s = start d in
-    subst₂ (λ (x y : Float). Near d.loop.wrapped.extent x y × (inside (square_of d.loop.wrapped.extent) (floor x) (floor y) ≡ false)) (sym d.before.before.x-at.ensures) (sym d.before.y-at.ensures)
-    (wrap-asks _ _ _ _ _ _ _ (left-wraps d) c.loop-test.true)
+    subst₂ (λ (x y : Float). Near d.loop-left.wrapped.extent x y × (inside (square_of d.loop-left.wrapped.extent) (floor x) (floor y) ≡ false)) (sym d.before.before.x_at-x.ensures) (sym d.before.y_at-y.ensures)
+    (wrap-asks _ _ _ _ _ _ _ (left-wraps d) c.loop-left-test.true)
 
-only-requires : tie.Need-only-requires invariant-loop decreases-loop
+only-requires : tie.Need-only-children-requires invariant-loop decreases-loop
 only-requires c κs =
     let b = c.before in
     let d = b.before.before in
     let s = start d in
     let w = left-wraps d in (
-      wrap-quadrant _ _ _ _ _ _ _ w b.before.loop-test.true b.double-once.result (doubled b),
+      wrap-quadrant _ _ _ _ _ _ _ w b.before.loop-left-test.true b.double_once-doubled.result (doubled b),
       (let r = wrap-root _ _ _ _ _ _ _ w in omega (arith, w.small)),
     )
 
-put-internal-requires : tie.Need-put-internal-requires invariant-loop decreases-loop
+put-internal-requires : tie.Need-put_internal-requires invariant-loop decreases-loop
 put-internal-requires c κs =
     let i = c.before.before.before.before in
     let w = left-wraps i.before in
-    omega (arith, w.room, i.loop-test.true)
+    omega (arith, w.room, i.loop-left-test.true)
 
-loop-again : tie.Need-loop-preserved invariant-loop decreases-loop
+loop-again : tie.Need-loop-left-preserved invariant-loop decreases-loop
 loop-again c =
     let a = c.before.before.before.before in
     let b = a.before.before.before.before in
     let d = b.before.before in
     let s = start d in
-    let e = a.put-internal.ensures ∙ ap (put_internal d.loop.m d.loop.wrapped.nodes) a.before.before.only.ensures in (
-      a.put-internal.auto.0 ∙ d.loop.invariant.0,
-      λ is to w. wrap-turn _ _ _ _ _ _ _ (d.loop.invariant.1 is to w) b.before.loop-test.true b.double-once.result (doubled b) a.put-internal.new.0 e,
+    let e = a.put_internal.ensures ∙ ap (put_internal d.loop-left.m d.loop-left.wrapped.nodes) a.before.before.only-children.ensures in (
+      a.put_internal.auto.m ∙ d.loop-left.invariant.0,
+      λ is to w. wrap-turn _ _ _ _ _ _ _ (d.loop-left.invariant.1 is to w) b.before.loop-left-test.true b.double_once-doubled.result (doubled b) a.put_internal.new.m e,
     )
 
 returns : tie.Need-returns invariant-loop decreases-loop
-returns c is w = let d = c.before in wrap-end _ _ _ _ _ _ _ (d.loop.invariant.1 is _ w) c.loop-test.false
+returns c is w = let d = c.before in wrap-end _ _ _ _ _ _ _ (d.loop-left.invariant.1 is _ w) c.loop-left-test.false
 
 -- a slot's number fits
-nodes-fit : (c : tie.In-loop invariant-loop decreases-loop) → c.before.loop.wrapped.nodes + 1 < 4294967296
-nodes-fit c = let w = left-wraps c.before in omega (arith, w.small, c.loop-test.true)
+nodes-fit : (c : tie.In-loop-left invariant-loop decreases-loop) → c.before.loop-left.wrapped.nodes + 1 < 4294967296
+nodes-fit c = let w = left-wraps c.before in omega (arith, w.small, c.loop-left-test.true)
 
 pub wrap_spec : {M : Type 1} → statement M
 wrap_spec =

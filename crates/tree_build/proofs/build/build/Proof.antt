@@ -14,92 +14,92 @@ use Rattle.tree_build.proofs.AddBuild.{Building, build_start, build-follows, bui
 use Rattle.tree_build.proofs.build.build.Statement.{statement}
 use Rattle.tree_build.proofs.build.build.Tie as tie
 
-abbrev invariant-loop : tie.invariant-loop
+abbrev invariant-loop : tie.invariant-loop-p
 invariant-loop at next₀ tail₀ m₀ n q₀ p₀ next tail m q p =
     (length next ≡ length next₀) × (length tail ≡ length tail₀) × (length m ≡ length m₀) × (p ≤ n) × Building at (slots_of m₀) m next tail q p
 
-abbrev decreases-loop : tie.decreases-loop
+abbrev decreases-loop : tie.decreases-loop-p
 decreases-loop at next₀ tail₀ m₀ n q₀ p₀ next tail m q p = n - p
 
 -- where the function begins
-abbrev start : tie.At-loop invariant-loop decreases-loop → tie.Start invariant-loop decreases-loop
+abbrev start : tie.At-loop-p invariant-loop decreases-loop → tie.Start invariant-loop decreases-loop
 start c = c.before.before.before.before.before
 
-loop-holds : tie.Need-loop-init invariant-loop decreases-loop
+loop-holds : tie.Need-loop-p-init invariant-loop decreases-loop
 loop-holds c =
     let s = c.before.before.before.before in
     (refl, refl, refl, omega arith, build_start s.args.at.now s.args.m.now s.args.next.now s.args.tail.now)
 
 -- what adding the next particle asks
-puts : (t : tie.In-loop invariant-loop decreases-loop) → let d = t.before in Puts (start d).args.at.now (up_to d.loop.p) d.loop.m d.loop.next d.loop.tail d.loop.q d.loop.p
+puts : (t : tie.In-loop-p invariant-loop decreases-loop) → let d = t.before in Puts (start d).args.at.now (up_to d.loop-p.p) d.loop-p.m d.loop-p.next d.loop-p.tail d.loop-p.q d.loop-p.p
 puts t =
     let d = t.before in
     let s = start d in
-    build-puts s.args.at.now (slots_of s.args.m.now) d.loop.m d.loop.next d.loop.tail d.loop.q d.loop.p d.loop.invariant.4 s.pre.ranged t.loop-test.true s.pre.few (d.loop.invariant.0 ∙ s.pre.links)
-    (d.loop.invariant.1 ∙ s.pre.tails)
+    build-puts s.args.at.now (slots_of s.args.m.now) d.loop-p.m d.loop-p.next d.loop-p.tail d.loop-p.q d.loop-p.p d.loop-p.invariant.4 s.requires.ranged t.loop-p-test.true s.requires.few (d.loop-p.invariant.0 ∙ s.requires.links)
+    (d.loop-p.invariant.1 ∙ s.requires.tails)
 
-add-next-requires : tie.Need-add-next-requires invariant-loop decreases-loop
+add-next-requires : tie.Need-add_next-answer-requires invariant-loop decreases-loop
 add-next-requires c κs =
     let t = c.before.before.before in
     let d = t.before in
     let s = start d in
-    (_, build-follows s.args.at.now (slots_of s.args.m.now) d.loop.m d.loop.next d.loop.tail d.loop.q d.loop.p d.loop.invariant.4 s.pre.ranged t.loop-test.true, puts t)
+    (_, build-follows s.args.at.now (slots_of s.args.m.now) d.loop-p.m d.loop-p.next d.loop-p.tail d.loop-p.q d.loop-p.p d.loop-p.invariant.4 s.requires.ranged t.loop-p-test.true, puts t)
 
 -- the test before the particle is added
-abbrev test : tie.After-add-next invariant-loop decreases-loop → tie.In-loop invariant-loop decreases-loop
+abbrev test : tie.After-add_next-answer invariant-loop decreases-loop → tie.In-loop-p invariant-loop decreases-loop
 test c = c.before.before.before.before
 
 -- as many slots as at the start
-same-slots : (c : tie.After-add-next invariant-loop decreases-loop) → slots_of c.add-next.new.1.1.1.0 ≡ slots_of (start (test c).before).args.m.now
-same-slots c = ap (λ (k : ℕ). k / slot_words) (c.add-next.auto.1.1.1.0 ∙ (test c).before.loop.invariant.2)
+same-slots : (c : tie.After-add_next-answer invariant-loop decreases-loop) → slots_of c.add_next-answer.new.m ≡ slots_of (start (test c).before).args.m.now
+same-slots c = ap (λ (k : ℕ). k / slot_words) (c.add_next-answer.auto.m ∙ (test c).before.loop-p.invariant.2)
 
 -- what has become of the particle
-placed : (c : tie.After-add-next invariant-loop decreases-loop) (r : Inserted) → c.add-next.result ≡ r
-    → let d = (test c).before in let at = (start d).args.at.now in Placed at (up_to d.loop.p) c.add-next.new.1.1.1.0 c.add-next.new.1.0 c.add-next.new.1.1.0 (extent_of (cover_first at (d.loop.p + 1))) d.loop.p r
+placed : (c : tie.After-add_next-answer invariant-loop decreases-loop) (r : Inserted) → c.add_next-answer.result ≡ r
+    → let d = (test c).before in let at = (start d).args.at.now in Placed at (up_to d.loop-p.p) c.add_next-answer.new.m c.add_next-answer.new.next c.add_next-answer.new.tail (extent_of (cover_first at (d.loop-p.p + 1))) d.loop-p.p r
 placed c r e =
     let d = (test c).before in
     let at = (start d).args.at.now in
-    subst (λ (r : Inserted). Placed at (up_to d.loop.p) c.add-next.new.1.1.1.0 c.add-next.new.1.0 c.add-next.new.1.1.0 (extent_of (cover_first at (d.loop.p + 1))) d.loop.p r) e (c.add-next.ensures _ (puts (test c)))
+    subst (λ (r : Inserted). Placed at (up_to d.loop-p.p) c.add_next-answer.new.m c.add_next-answer.new.next c.add_next-answer.new.tail (extent_of (cover_first at (d.loop-p.p + 1))) d.loop-p.p r) e (c.add_next-answer.ensures _ (puts (test c)))
 
-returns : tie.Need-returns invariant-loop decreases-loop
+returns : tie.Need-returns-in-Deep invariant-loop decreases-loop
 returns c =
     let t = c.before in
     let k = t.before.before.before.before.before.before.before.before in
     let d = (test k).before in
     let s = start d in
-    build-refused s.args.at.now (slots_of s.args.m.now) d.loop.m d.loop.next d.loop.tail d.loop.q d.loop.p d.loop.inv.4 s.pre.ranged (test k).loop-test.true k.add-next.new.1.1.1.0 k.add-next.new.1.0
-    k.add-next.new.1.1.0 (same-slots k) _ (placed k _ t.enum_told.given.1 ∙ ap refused (sym c.at.ensures))
+    build-refused s.args.at.now (slots_of s.args.m.now) d.loop-p.m d.loop-p.next d.loop-p.tail d.loop-p.q d.loop-p.p d.loop-p.invariant.4 s.requires.ranged (test k).loop-p-test.true k.add_next-answer.new.m k.add_next-answer.new.next
+    k.add_next-answer.new.tail (same-slots k) _ (placed k _ t.enum_told.given.1 ∙ ap refused (sym c.at.ensures))
 
-returns-2 : tie.Need-returns-2 invariant-loop decreases-loop
+returns-2 : tie.Need-returns-in-Full invariant-loop decreases-loop
 returns-2 c =
     let t = c.before in
     let k = t.before.before.before.before.before.before.before.before in
     let d = (test k).before in
     let s = start d in
-    build-refused s.args.at.now (slots_of s.args.m.now) d.loop.m d.loop.next d.loop.tail d.loop.q d.loop.p d.loop.inv.4 s.pre.ranged (test k).loop-test.true k.add-next.new.1.1.1.0 k.add-next.new.1.0
-    k.add-next.new.1.1.0 (same-slots k) _ (placed k _ t.enum-told2.given.1 ∙ ap refused (sym c.at2.ensures))
+    build-refused s.args.at.now (slots_of s.args.m.now) d.loop-p.m d.loop-p.next d.loop-p.tail d.loop-p.q d.loop-p.p d.loop-p.invariant.4 s.requires.ranged (test k).loop-p-test.true k.add_next-answer.new.m k.add_next-answer.new.next
+    k.add_next-answer.new.tail (same-slots k) _ (placed k _ t.enum_told-in-Full-1.given.1 ∙ ap refused (sym c.at-in-Full.ensures))
 
-loop-again : tie.Need-loop-preserved invariant-loop decreases-loop
+loop-again : tie.Need-loop-p-preserved invariant-loop decreases-loop
 loop-again c =
     let k = c.before.before.before.before.before.before.before.before.before in
     let d = (test k).before in
     let s = start d in (
-      k.add-next.auto.1.0 ∙ d.loop.inv.0,
-      k.add-next.auto.1.1.0 ∙ d.loop.inv.1,
-      k.add-next.auto.1.1.1.0 ∙ d.loop.inv.2,
-      omega (arith, (test k).loop-test.true),
-      build-done s.args.at.now (slots_of s.args.m.now) d.loop.m d.loop.next d.loop.tail d.loop.q d.loop.p d.loop.inv.4 s.pre.ranged (test k).loop-test.true k.add-next.new.1.1.1.0 k.add-next.new.1.0
-          k.add-next.new.1.1.0 (same-slots k) c.before.answer.given.0.0 (placed k _ c.before.answer.given.1),
+      k.add_next-answer.auto.next ∙ d.loop-p.invariant.0,
+      k.add_next-answer.auto.tail ∙ d.loop-p.invariant.1,
+      k.add_next-answer.auto.m ∙ d.loop-p.invariant.2,
+      omega (arith, (test k).loop-p-test.true),
+      build-done s.args.at.now (slots_of s.args.m.now) d.loop-p.m d.loop-p.next d.loop-p.tail d.loop-p.q d.loop-p.p d.loop-p.invariant.4 s.requires.ranged (test k).loop-p-test.true k.add_next-answer.new.m k.add_next-answer.new.next
+          k.add_next-answer.new.tail (same-slots k) c.before.answer.given.0.0 (placed k _ c.before.answer.given.1),
     )
 
-returns-3 : tie.Need-returns-3 invariant-loop decreases-loop
+returns-3 : tie.Need-returns invariant-loop decreases-loop
 returns-3 c =
     let d = c.before in
     let s = start d in
-    build_end s.args.at.now (slots_of s.args.m.now) d.loop.m d.loop.next d.loop.tail d.loop.q d.loop.p d.loop.invariant.4 s.pre.ranged d.loop.invariant.3 c.loop-test.false (ap (λ (k : ℕ). k / slot_words) d.loop.invariant.2)
+    build_end s.args.at.now (slots_of s.args.m.now) d.loop-p.m d.loop-p.next d.loop-p.tail d.loop-p.q d.loop-p.p d.loop-p.invariant.4 s.requires.ranged d.loop-p.invariant.3 c.loop-p-test.false (ap (λ (k : ℕ). k / slot_words) d.loop-p.invariant.2)
 
-pub build-spec : {M : Type 1} → statement M
-build-spec =
+pub build_spec : {M : Type 1} → statement M
+build_spec =
     tie.close
     (tie.spec
     invariant-loop

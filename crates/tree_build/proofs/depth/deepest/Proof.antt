@@ -5,22 +5,22 @@ use Rattle.tree_build.proofs.Levels.{goes_positive}
 use Rattle.tree_build.proofs.depth.deepest.Statement.{statement}
 use Rattle.tree_build.proofs.depth.deepest.Tie as tie
 
-returns : tie.Need-returns
-returns c x b = record { bounds = b.bounds; shallow = b.shallow; exact = λ l. absurd (omega (arith, c.if1.true)) }
+returns : tie.Need-returns-then-bound-w-le-GREATEST_LEVEL
+returns c x b = record { bounds = b.bounds; shallow = b.shallow; exact = λ l. absurd (omega (arith, c.if-bound-w-le-GREATEST_LEVEL.true)) }
 
 -- what was counted is not 0
 counted : (c : tie.After-levels) → 0 < c.levels.result
 counted c = let s = c.before.before.before in let b = s.requires.1 in omega (arith, c.levels.ensures _ b.goes, goes_positive _ _ _ _ b.goes b.rooted)
 
-returns-2 : tie.Need-returns-2
+returns-2 : tie.Need-returns
 returns-2 c x b =
     let n = c.levels.ensures x b.goes in
     let l = counted c in
     let m = b.goes.levels in
     record { bounds = omega arith; shallow = omega arith; exact = λ z. omega arith }
 
-pub deepest-spec : {M : Type 1} → statement M
-deepest-spec =
+pub deepest_spec : {M : Type 1} → statement M
+deepest_spec =
     tie.close
     (tie.spec
     (λ c. let p = c.before.requires in omega (arith, p.1.shallow, p.2))

@@ -21,9 +21,9 @@ list-requires : tie.Need-list-requires
 list-requires c κs =
     let a = c.before.before.before.before.before in
     let s = a.before.before.before.before.before.before in
-    (_, (came s _ a.built2.given.1 _ s.requires.1).2)
+    (_, (came s _ a.built-in-Tree-1.given.1 _ s.requires.1).2)
 
-returns : tie.Need-returns
+returns : tie.Need-returns-in-Refused
 returns c o w =
     let r = c.before.before in
     let a = r.before.before.before in
@@ -31,18 +31,18 @@ returns c o w =
     let k = came s _ a.built.given.1 o w in
     answers_refused o _ _ _ _ _ _ _ a.built.given.1 k r.refuse.ensures.0 r.refuse.ensures.1
 
-returns-2 : tie.Need-returns-2
+returns-2 : tie.Need-returns-in-Tree
 returns-2 c o w =
     let d = c.before.before.before in
     let l = d.before.before.before.before.before.before in
     let a = l.before.before.before.before.before.before in
     let s = a.before.before.before.before.before.before in
-    let k = came s _ a.built2.given.1 o w in
+    let k = came s _ a.built-in-Tree-1.given.1 o w in
     let f = l.list.ensures _ k.2 in
-    answers_listed o _ _ _ _ _ _ _ _ _ _ _ a.built2.given.1 k.1 (lays_nodes k.2.stands) c.none.ensures refl f.0 f.1 d.clear.ensures
+    answers_listed o _ _ _ _ _ _ _ _ _ _ _ a.built-in-Tree-1.given.1 k.1 (lays_nodes k.2.stands) c.none.ensures refl f.0 f.1 d.clear.ensures
 
-pub answer-spec : {M : Type 1} → statement M
-answer-spec =
+pub answer_spec : {M : Type 1} → statement M
+answer_spec =
     tie.close
     (tie.spec
     (λ c. search rules)

@@ -5,18 +5,18 @@ use Rattle.tree_call.proofs.TreeCalled.{refusal_keeps, refusal_clears}
 use Rattle.tree_call.proofs.answer.refuse.Statement.{statement}
 use Rattle.tree_call.proofs.answer.refuse.Tie as tie
 
-returns : tie.Need-returns
+returns : tie.Need-returns-then-not-on_the_way
 returns c =
     let m = c.before in
     let a = m.before.before.args in
-    (refl, refusal_keeps a.refusal a.work.now m.on-the-way.result m.on-the-way.ensures c.if1.true)
+    (refl, refusal_keeps a.refusal a.work.now m.on_the_way.result m.on_the_way.ensures c.if-not-on_the_way.true-raw)
 
-returns-2 : tie.Need-returns-2
+returns-2 : tie.Need-returns
 returns-2 c =
     let e = c.before.before.before.before in
     let m = e.before in
     let a = m.before.before.args in
-    (refl, c.before.before.clear.ensures ∙ refusal_clears a.refusal a.work.now m.on-the-way.result m.on-the-way.ensures e.if1.false)
+    (refl, c.before.before.clear.ensures ∙ refusal_clears a.refusal a.work.now m.on_the_way.result m.on_the_way.ensures e.if-not-on_the_way.false-raw)
 
-pub refuse-spec : {M : Type 1} → statement M
-refuse-spec = tie.close (tie.spec (λ c κs. search rules) returns (λ c κs. search rules) (λ c. search rules) returns-2)
+pub refuse_spec : {M : Type 1} → statement M
+refuse_spec = tie.close (tie.spec (λ c κs. search rules) returns (λ c κs. search rules) (λ c. search rules) returns-2)

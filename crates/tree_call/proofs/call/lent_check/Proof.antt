@@ -11,8 +11,8 @@ returns : tie.Need-returns
 returns c =
     let a = c.before.before.before.args in
     c.first.ensures
-    ∙ rw (c.before.lengths-check.ensures, c.before.before.count-check.ensures)
+    ∙ rw (c.before.lengths_check.ensures, c.before.before.count_check.ensures)
     (first_then (count_check a.most a.n) (lengths_check a.agreed) (count-early a.most a.n))
 
-pub lent-check-spec : {M : Type 1} → statement M
-lent-check-spec = tie.close (tie.spec (λ c κs. search rules) (λ c κs. search rules) (λ c κs. search rules) returns)
+pub lent_check_spec : {M : Type 1} → statement M
+lent_check_spec = tie.close (tie.spec (λ c κs. search rules) (λ c κs. search rules) (λ c κs. search rules) returns)

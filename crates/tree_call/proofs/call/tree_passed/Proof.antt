@@ -11,14 +11,14 @@ use Rattle.tree_slots.proofs.Fill.{room}
 use Rattle.tree_call.proofs.call.tree_passed.Statement.{statement}
 use Rattle.tree_call.proofs.call.tree_passed.Tie as tie
 
-tree-with-requires : tie.Need-tree-with-requires
+tree-with-requires : tie.Need-tree_with-requires
 tree-with-requires c κs =
     let s = c.before.before.before.before.before.before.before.before.before.before in
     let n = length s.args.records.now / record_size in
     record { passed = s.requires; pairs = room (n * 2) (2 * most_particles) 0· (omega arith); links = room {A = ℕ} n most_particles 0 (omega arith); tails = room {A = ℕ} n most_particles 0 (omega arith) }
 
-pub tree-passed-spec : {M : Type 1} → statement M
-tree-passed-spec =
+pub tree_passed_spec : {M : Type 1} → statement M
+tree_passed_spec =
     tie.close
     (tie.spec
     (λ c. search rules)

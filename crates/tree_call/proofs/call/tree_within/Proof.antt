@@ -7,65 +7,65 @@ use Rattle.tree_call.proofs.call.tree_within.Statement.{statement}
 use Rattle.tree_call.proofs.call.tree_within.Tie as tie
 
 -- the points of the code, each from a later one
-abbrev tree-built : tie.After-slice-known9 → tie.After-tree-passed
+abbrev tree-built : tie.After-slice_known-6-1 → tie.After-tree_passed
 tree-built c = c.before.before.before.before.before.before
 
-abbrev else3 : tie.After-tree-passed-arg3 → tie.Else3
+abbrev else3 : tie.After-tree_passed-arg-3-1 → tie.Else-number-ne0-3
 else3 c = c.before.before.before
 
-abbrev then3 : tie.After-slice-known6 → tie.Then3
+abbrev then3 : tie.After-slice_known-then-number-ne0-3-1 → tie.Then-number-ne0-3
 then3 c = c.before.before.before.before
 
-abbrev then2 : tie.After-slice-known5 → tie.Then2
+abbrev then2 : tie.After-slice_known-then-number-ne0-2-1 → tie.Then-number-ne0-2
 then2 c = c.before.before.before.before
 
-abbrev then1 : tie.After-slice-known4 → tie.Then1
+abbrev then1 : tie.After-slice_known-then-number-ne0-1 → tie.Then-number-ne0
 then1 c = c.before.before.before.before
 
-abbrev else3-from-end : tie.After-slice-known9 → tie.Else3
+abbrev else3-from-end : tie.After-slice_known-6-1 → tie.Else-number-ne0-3
 else3-from-end c = else3 (tree-built c).before
 
-abbrev lent-checked : tie.After-slice-known6 → tie.After-lent-check
+abbrev lent-checked : tie.After-slice_known-then-number-ne0-3-1 → tie.After-lent_check-bad
 lent-checked c = (then3 c).before.before.before
 
-abbrev agreed : tie.After-tree-passed-arg3 → tie.After-agree
+abbrev agreed : tie.After-tree_passed-arg-3-1 → tie.After-agree-agreed
 agreed c = (else3 c).before.before.before.before
 
-abbrev agreed-from-end : tie.After-slice-known9 → tie.After-agree
+abbrev agreed-from-end : tie.After-slice_known-6-1 → tie.After-agree-agreed
 agreed-from-end c = agreed (tree-built c).before
 
-abbrev else1 : tie.After-slice-known5 → tie.Else1
+abbrev else1 : tie.After-slice_known-then-number-ne0-2-1 → tie.Else-number-ne0
 else1 c = (then2 c).before.before.before
 
-abbrev entry : tie.After-tree-passed-arg3 → tie.Start
+abbrev entry : tie.After-tree_passed-arg-3-1 → tie.Start
 entry c = (agreed c).before.before.before.before.before.before.before
 
-returns : tie.Need-returns
+returns : tie.Need-returns-then-number-ne0
 returns c =
     let f = c.before.before.refuse.ensures in
-    ends_refused (stop_1 _ _ _ (then1 c).before.whole-records.ensures (then1 c).if1.true) f.0 f.1
+    ends_refused (stop_1 _ _ _ (then1 c).before.whole_records-bad.ensures (then1 c).if-number-ne0.true) f.0 f.1
 
-returns-2 : tie.Need-returns-2
+returns-2 : tie.Need-returns-then-number-ne0-2
 returns-2 c =
-    let f = c.before.before.refuse2.ensures in
-    ends_refused (stop-2 _ _ _ (else1 c).before.whole-records.ensures (else1 c).if1.false _ (then2 c).before.before.agree.ensures _ (then2 c).before.lent-check.ensures (then2 c).if2.true) f.0 f.1
+    let f = c.before.before.refuse-then-number-ne0-2.ensures in
+    ends_refused (stop-2 _ _ _ (else1 c).before.whole_records-bad.ensures (else1 c).if-number-ne0.false _ (then2 c).before.before.agree-agreed.ensures _ (then2 c).before.lent_check-bad.ensures (then2 c).if-number-ne0-2.true) f.0 f.1
 
-returns-3 : tie.Need-returns-3
+returns-3 : tie.Need-returns-then-number-ne0-3
 returns-3 c =
-    let f = c.before.before.refuse3.ensures in
-    ends_refused (stop-3 _ _ _ (lent-checked c).before.before.before.whole-records.ensures (lent-checked c).before.before.if1.false _ (lent-checked c).before.agree.ensures _ (lent-checked c).lent-check.ensures (then3 c).before.before.if2.false _ (then3 c).before.records-check.ensures (then3 c).if3.true) f.0 f.1
+    let f = c.before.before.refuse-then-number-ne0-3.ensures in
+    ends_refused (stop-3 _ _ _ (lent-checked c).before.before.before.whole_records-bad.ensures (lent-checked c).before.before.if-number-ne0.false _ (lent-checked c).before.agree-agreed.ensures _ (lent-checked c).lent_check-bad.ensures (then3 c).before.before.if-number-ne0-2.false _ (then3 c).before.records_check-bad.ensures (then3 c).if-number-ne0-3.true) f.0 f.1
 
-tree-passed-requires : tie.Need-tree-passed-requires
-tree-passed-requires c κs = passed _ _ _ (agreed c).before.before.whole-records.ensures (agreed c).before.if1.false _ (agreed c).agree.ensures _ (else3 c).before.before.before.lent-check.ensures (else3 c).before.before.if2.false _ (else3 c).before.records-check.ensures (else3 c).if3.false (entry c).requires
+tree-passed-requires : tie.Need-tree_passed-requires
+tree-passed-requires c κs = passed _ _ _ (agreed c).before.before.whole_records-bad.ensures (agreed c).before.if-number-ne0.false _ (agreed c).agree-agreed.ensures _ (else3 c).before.before.before.lent_check-bad.ensures (else3 c).before.before.if-number-ne0-2.false _ (else3 c).before.records_check-bad.ensures (else3 c).if-number-ne0-3.false (entry c).requires
 
-returns-4 : tie.Need-returns-4
+returns-4 : tie.Need-returns
 returns-4 c =
     let a = (entry (tree-built c).before).args in
-    rw (goes_on a.most (lent a.records.now a.rows.now a.chains.now a.work.now) _ (agreed-from-end c).before.before.whole-records.ensures (agreed-from-end c).before.if1.false _ (agreed-from-end c).agree.ensures _ (else3-from-end c).before.before.before.lent-check.ensures (else3-from-end c).before.before.if2.false _ (else3-from-end c).before.records-check.ensures (else3-from-end c).if3.false)
-    (tree-built c).tree-passed.ensures
+    rw (goes_on a.most (lent a.records.now a.rows.now a.chains.now a.work.now) _ (agreed-from-end c).before.before.whole_records-bad.ensures (agreed-from-end c).before.if-number-ne0.false _ (agreed-from-end c).agree-agreed.ensures _ (else3-from-end c).before.before.before.lent_check-bad.ensures (else3-from-end c).before.before.if-number-ne0-2.false _ (else3-from-end c).before.records_check-bad.ensures (else3-from-end c).if-number-ne0-3.false)
+    (tree-built c).tree_passed.ensures
 
-pub tree-within-spec : {M : Type 1} → statement M
-tree-within-spec =
+pub tree_within_spec : {M : Type 1} → statement M
+tree_within_spec =
     tie.close
     (tie.spec
     (λ c κs. search rules)

@@ -7,16 +7,16 @@ use Rattle.tree_cells.proofs.CoverNear.{new_side, doubled-to}
 use Rattle.tree_cells.proofs.cover.double_once.Statement.{statement}
 use Rattle.tree_cells.proofs.cover.double_once.Tie as tie
 
-grown-requires : tie.Need-grown-requires
+grown-requires : tie.Need-grown-extent-requires
 grown-requires c κs =
     let s = c.before.before in
     let n = s.requires.0 in
-    (n.reachable, subst (λ (q : ℕ). q < 4) (sym c.before.old-quadrant.ensures) (old-quadrant-less (square_of s.args.e) (floor s.args.x) (floor s.args.y)), new_side n.reachable)
+    (n.reachable, subst (λ (q : ℕ). q < 4) (sym c.before.old_quadrant-q.ensures) (old-quadrant-less (square_of s.args.e) (floor s.args.x) (floor s.args.y)), new_side n.reachable)
 
 returns : tie.Need-returns
 returns c =
     let s = c.before.before.before in
-    doubled-to s.requires.0 s.requires.1 (record { extent = c.grown.result; quadrant = c.before.before.old-quadrant.result }) c.before.before.old-quadrant.ensures c.grown.ensures
+    doubled-to s.requires.0 s.requires.1 (record { extent = c.grown-extent.result; quadrant = c.before.before.old_quadrant-q.result }) c.before.before.old_quadrant-q.ensures c.grown-extent.ensures
 
-pub double-once-spec : {M : Type 1} → statement M
-double-once-spec = tie.close (tie.spec (λ c κs. search rules) grown-requires returns)
+pub double_once_spec : {M : Type 1} → statement M
+double_once_spec = tie.close (tie.spec (λ c κs. search rules) grown-requires returns)

@@ -6,7 +6,7 @@ use Rattle.tree_cells.proofs.cover.floored.Statement.{statement}
 use Rattle.tree_cells.proofs.cover.floored.Tie as tie
 
 returns : tie.Need-returns
-returns c = let f = c.before.floor in c.nearest-i64-to-f64.ensures ∙ ap (of_int binary64) (to_z-of_z w64 f.result (record { sfits = f.type-inv }) ∙ f.ensures)
+returns c = let f = c.before.floor in c.nearest_i64_to_f64.ensures ∙ ap (of_int binary64) (to_z-of_z w64 f.result (record { sfits = f.type_inv }) ∙ f.ensures)
 
-pub floored-spec : {M : Type 1} → statement M
-floored-spec = tie.close (tie.spec (λ c κs. search rules) (λ c κs. search rules) returns)
+pub floored_spec : {M : Type 1} → statement M
+floored_spec = tie.close (tie.spec (λ c κs. search rules) (λ c κs. search rules) returns)

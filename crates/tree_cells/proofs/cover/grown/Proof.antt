@@ -14,20 +14,20 @@ use Rattle.tree_cells.proofs.Quadrant.{last}
 at : (i q : ℕ) (z : Float) (e : Extent) → q ≡ i → Reachable e × (q < 4) × (z ≡ whole (side (square_of e) +ℤ side (square_of e))) → moved i z e ≡ extent_of (holds (grown q (side (square_of e) +ℤ side (square_of e)) (square_of e)))
 at i q z e k h = subst (λ (n : ℕ). moved i z e ≡ extent_of (holds (grown n (side (square_of e) +ℤ side (square_of e)) (square_of e)))) (sym k) (moved-is h.0 h.2 i)
 
-returns : tie.Need-returns
-returns c = let s = c.before.before.before in at 0 s.args.q s.args.z s.args.e c.before.before.match.keys1 s.requires
+returns : tie.Need-returns-in-0
+returns c = let s = c.before.before.before in at 0 s.args.q s.args.z s.args.e c.before.before.in_default.keys1 s.requires
 
-returns-2 : tie.Need-returns-2
-returns-2 c = let s = c.before.before.before in at 1 s.args.q s.args.z s.args.e c.before.before.match.keys2 s.requires
+returns-2 : tie.Need-returns-in-1
+returns-2 c = let s = c.before.before.before in at 1 s.args.q s.args.z s.args.e c.before.before.in_default.keys2 s.requires
 
-returns-3 : tie.Need-returns-3
-returns-3 c = let s = c.before.before.before in at 2 s.args.q s.args.z s.args.e c.before.before.match.keys3 s.requires
+returns-3 : tie.Need-returns-in-2
+returns-3 c = let s = c.before.before.before in at 2 s.args.q s.args.z s.args.e c.before.before.in_default.keys3 s.requires
 
-returns-4 : tie.Need-returns-4
+returns-4 : tie.Need-returns-in_default
 returns-4 c =
     let s = c.before.before.before in
-    let r = c.before.before.match.rest in
+    let r = c.before.before.in_default.rest in
     at 3 s.args.q s.args.z s.args.e (last s.args.q s.requires.1 r.0.0.1 r.0.1 r.1) s.requires
 
-pub grown-spec : {M : Type 1} → statement M
-grown-spec = tie.close (tie.spec returns returns-2 returns-3 returns-4)
+pub grown_spec : {M : Type 1} → statement M
+grown_spec = tie.close (tie.spec returns returns-2 returns-3 returns-4)

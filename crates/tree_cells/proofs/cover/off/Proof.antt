@@ -2,5 +2,5 @@
 use Rattle.tree_cells.proofs.cover.off.Statement.{statement}
 use Rattle.tree_cells.proofs.cover.off.Tie as tie
 
-pub off-spec : {M : Type 1} → statement M
-off-spec = tie.close (tie.spec (λ c. rw c.if1.true) (λ c. rw c.if1.false))
+pub off_spec : {M : Type 1} → statement M
+off_spec = tie.close (tie.spec (λ c. rw c.if-x-lo.true) (λ c. rw c.if-x-lo.false))

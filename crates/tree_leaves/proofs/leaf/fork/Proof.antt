@@ -11,10 +11,10 @@ returns c =
     let u = v.before.before.before.before in
     let k = u.before.before in
     let s = k.before.before in
-    forked-put s.args.m.now s.args.s s.args.f s.args.p s.args.j s.args.k s.args.x k.only.ensures u.put-internal.ensures v.put-leaf.ensures w.put-leaf2.ensures
+    forked-put s.args.m.now s.args.s s.args.f s.args.p s.args.j s.args.k s.args.x k.only-children.ensures u.put_internal.ensures v.put_leaf.ensures w.put_leaf-2.ensures
 
-pub fork-spec : {M : Type 1} → statement M
-fork-spec =
+pub fork_spec : {M : Type 1} → statement M
+fork_spec =
     tie.close
     (tie.spec
     (λ c. search rules)

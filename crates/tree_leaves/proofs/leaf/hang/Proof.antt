@@ -10,10 +10,10 @@ returns c =
     let v = w.before.before.before.before in
     let k = v.before.before in
     let s = k.before.before.before in
-    hung-put s.args.m.now s.args.s s.args.p s.args.k s.args.x k.children.ensures v.put-internal.ensures w.put-leaf.ensures
+    hung-put s.args.m.now s.args.s s.args.p s.args.k s.args.x k.children-children.ensures v.put_internal.ensures w.put_leaf.ensures
 
-pub hang-spec : {M : Type 1} → statement M
-hang-spec =
+pub hang_spec : {M : Type 1} → statement M
+hang_spec =
     tie.close
     (tie.spec
     (λ c κs. search rules)

@@ -15,70 +15,70 @@ use Rattle.tree_leaves.proofs.Turns.{indexed, step-side, step_less, step-own, st
 use Rattle.tree_leaves.proofs.leaf.split.Statement.{statement}
 use Rattle.tree_leaves.proofs.leaf.split.Tie as tie
 
-abbrev invariant-loop : tie.invariant-loop
+abbrev invariant-loop : tie.invariant-loop-left
 invariant-loop m₀ at s g x f p u v ix₀ slot₀ free₀ left₀ m ix slot free left =
     (length m ≡ length m₀) × Splits m (length at) slot free left f p × (ix ≡ indexer (cell_of ix)) × (parted at p f left (cell_of ix) slot free m ≡ parted at p f g (cell_of ix₀) s x m₀)
 
-abbrev decreases-loop : tie.decreases-loop
+abbrev decreases-loop : tie.decreases-loop-left
 decreases-loop m₀ at s g x f p u v ix₀ slot₀ free₀ left₀ m ix slot free left = left
 
 -- the points of the code, each from a later one
-abbrev loop-over : tie.After-get2 invariant-loop decreases-loop → tie.After-loop invariant-loop decreases-loop
+abbrev loop-over : tie.After-get-k invariant-loop decreases-loop → tie.After-loop-left invariant-loop decreases-loop
 loop-over c = c.before.before.before.before
 
-abbrev loop : tie.After-y-at2 invariant-loop decreases-loop → tie.At-loop invariant-loop decreases-loop
+abbrev loop : tie.After-y_at invariant-loop decreases-loop → tie.At-loop-left invariant-loop decreases-loop
 loop c = c.before.before.before
 
-abbrev entry : tie.After-with-extent invariant-loop decreases-loop → tie.Start invariant-loop decreases-loop
+abbrev entry : tie.After-with_extent-ix invariant-loop decreases-loop → tie.Start invariant-loop decreases-loop
 entry c = c.before.before.before.before.before
 
-loop-holds : tie.Need-loop-init invariant-loop decreases-loop
+loop-holds : tie.Need-loop-left-init invariant-loop decreases-loop
 loop-holds c =
     let s = entry c in
-    (refl, s.pre, indexed c.with-extent.result s.args.cell c.with-extent.ensures, refl)
+    (refl, s.requires, indexed c.with_extent-ix.result s.args.cell c.with_extent-ix.ensures, refl)
 
-only-requires : tie.Need-only-requires invariant-loop decreases-loop
+only-requires : tie.Need-only-children-requires invariant-loop decreases-loop
 only-requires c κs =
     let d = c.before.before in
     let s = entry d.before in
-    (step_less s.args.at.now s.args.p (cell_of d.loop.ix) _ _ c.get-and-descend.result c.get-and-descend.ensures d.before.before.before.x-at.ensures d.before.before.y-at.ensures, omega (arith, d.loop.invariant.1.small))
+    (step_less s.args.at.now s.args.p (cell_of d.loop-left.ix) _ _ c.get_and_descend-way.result c.get_and_descend-way.ensures d.before.before.before.x_at-u.ensures d.before.before.y_at-v.ensures, omega (arith, d.loop-left.invariant.1.small))
 
-loop-again : tie.Need-loop-preserved invariant-loop decreases-loop
+loop-again : tie.Need-loop-left-preserved invariant-loop decreases-loop
 loop-again c =
     let a = c.before.before.before in
     let b = a.before.before.before in
     let d = b.before.before in
     let s = entry d.before in
-    let e = cell_of d.loop.ix in
-    let r = b.get-and-descend.result in
-    let x = d.before.before.before.x-at.ensures in
-    let y = d.before.before.y-at.ensures in
+    let e = cell_of d.loop-left.ix in
+    let r = b.get_and_descend-way.result in
+    let x = d.before.before.before.x_at-u.ensures in
+    let y = d.before.before.y_at-v.ensures in
     let at = s.args.at.now in
     let p = s.args.p in
-    let w = a.put-internal.ensures ∙ ap (put_internal d.loop.m d.loop.slot) a.before.before.only.ensures in (
-      a.put-internal.auto.0 ∙ d.loop.invariant.0,
+    let w = a.put_internal.ensures ∙ ap (put_internal d.loop-left.m d.loop-left.slot) a.before.before.only-children.ensures in (
+      a.put_internal.auto.m ∙ d.loop-left.invariant.0,
       search rules,
-      step-own at p e _ _ r b.get-and-descend.ensures x y,
-      ap (λ (c : Extent). parted at p s.args.f (d.loop.left - 1) c d.loop.free (d.loop.free + 1) a.put-internal.new.0) (step-cell at p e _ _ r b.get-and-descend.ensures x y)
-          ∙ split-turn at p s.args.f d.loop.left r.quadrant e d.loop.slot d.loop.free d.loop.m a.put-internal.new.0 b.before.loop-test.true (step-side at p e _ _ r b.get-and-descend.ensures x y) w
-          ∙ d.loop.invariant.3,
+      step-own at p e _ _ r b.get_and_descend-way.ensures x y,
+      ap (λ (c : Extent). parted at p s.args.f (d.loop-left.left - 1) c d.loop-left.free (d.loop-left.free + 1) a.put_internal.new.m) (step-cell at p e _ _ r b.get_and_descend-way.ensures x y)
+          ∙ split-turn at p s.args.f d.loop-left.left r.quadrant e d.loop-left.slot d.loop-left.free d.loop-left.m a.put_internal.new.m b.before.loop-left-test.true (step-side at p e _ _ r b.get_and_descend-way.ensures x y) w
+          ∙ d.loop-left.invariant.3,
     )
 
 -- the quadrants of the two leaves
-first-is : (c : tie.After-get2 invariant-loop decreases-loop)
-    → let d = (loop-over c).before in let s = entry d.before in c.before.get.result ≡ quadrant (cell_of d.loop.ix) (x_at s.args.at.now s.args.f) (y_at s.args.at.now s.args.f)
-first-is c = let d = (loop-over c).before in c.before.get.ensures ∙ ap₂ (quadrant (cell_of d.loop.ix)) c.before.before.before.x-at2.ensures c.before.before.y-at2.ensures
+first-is : (c : tie.After-get-k invariant-loop decreases-loop)
+    → let d = (loop-over c).before in let s = entry d.before in c.before.get-j.result ≡ quadrant (cell_of d.loop-left.ix) (x_at s.args.at.now s.args.f) (y_at s.args.at.now s.args.f)
+first-is c = let d = (loop-over c).before in c.before.get-j.ensures ∙ ap₂ (quadrant (cell_of d.loop-left.ix)) c.before.before.before.x_at.ensures c.before.before.y_at.ensures
 
-new_is : (c : tie.After-get2 invariant-loop decreases-loop)
-    → let d = (loop-over c).before in let s = entry d.before in c.get2.result ≡ side s.args.at.now s.args.p (cell_of d.loop.ix)
-new_is c = let d = (loop-over c).before in c.get2.ensures ∙ ap₂ (quadrant (cell_of d.loop.ix)) d.before.before.before.x-at.ensures d.before.before.y-at.ensures
+new_is : (c : tie.After-get-k invariant-loop decreases-loop)
+    → let d = (loop-over c).before in let s = entry d.before in c.get-k.result ≡ side s.args.at.now s.args.p (cell_of d.loop-left.ix)
+new_is c = let d = (loop-over c).before in c.get-k.ensures ∙ ap₂ (quadrant (cell_of d.loop-left.ix)) d.before.before.before.x_at-u.ensures d.before.before.y_at-v.ensures
 
 fork-requires : tie.Need-fork-requires invariant-loop decreases-loop
 fork-requires c κs =
     let g = c.before in
     let d = (loop-over g).before in
-    let v = d.loop.inv.1 in
-    let z : d.loop.left ≤ 0 = (loop-over g).loop-test.false in
+    let v = d.loop-left.invariant.1 in
+    let z : d.loop-left.left ≤ 0 = (loop-over g).loop-left-test.false in
     record {
       own = v.own;
       first-quadrant = subst (λ (q : ℕ). q < 4) (sym (first-is g)) (quadrant_lt _ _ _);
@@ -95,12 +95,12 @@ returns c =
     let g = k.before.before in
     let d = (loop-over g).before in
     let s = entry d.before in
-    split_end s.args.at.now s.args.p s.args.f d.loop.left g.before.get.result g.get2.result (cell_of d.loop.ix) d.loop.slot d.loop.free d.loop.m k.fork.new.0 (loop-over g).loop-test.false (first-is g) (new_is g) k.fork.ensures
-    ∙ d.loop.inv.3
-    ∙ ap (λ (c : Extent). parted s.args.at.now s.args.p s.args.f s.args.g c s.args.s s.args.x s.args.m.now) (ap cell_of d.before.with-extent.ensures)
+    split_end s.args.at.now s.args.p s.args.f d.loop-left.left g.before.get-j.result g.get-k.result (cell_of d.loop-left.ix) d.loop-left.slot d.loop-left.free d.loop-left.m k.fork.new.m (loop-over g).loop-left-test.false (first-is g) (new_is g) k.fork.ensures
+    ∙ d.loop-left.invariant.3
+    ∙ ap (λ (c : Extent). parted s.args.at.now s.args.p s.args.f s.args.g c s.args.s s.args.x s.args.m.now) (ap cell_of d.before.with_extent-ix.ensures)
 
-pub split-spec : {M : Type 1} → statement M
-split-spec =
+pub split_spec : {M : Type 1} → statement M
+split_spec =
     tie.close
     (tie.spec
     invariant-loop
@@ -109,7 +109,7 @@ split-spec =
     (λ c κs. search rules)
     (λ c κs. search rules)
     loop-holds
-    (λ c κs. c.before.loop.invariant.2)
+    (λ c κs. c.before.loop-left.invariant.2)
     (λ c. search rules)
     only-requires
     (λ c κs. search rules)
@@ -119,8 +119,8 @@ split-spec =
     loop-again
     (λ c κs. search rules)
     (λ c κs. search rules)
-    (λ c κs. (loop c).loop.invariant.2)
-    (λ c κs. (loop c.before).loop.inv.2)
+    (λ c κs. (loop c).loop-left.invariant.2)
+    (λ c κs. (loop c.before).loop-left.invariant.2)
     fork-requires
     (λ c. search rules)
     returns)

@@ -19,18 +19,18 @@ module _ (at : List Float) (i j : ℕ) (x u : Float) (ex : x ≡ x_at at i) (eu 
   unfolding same
   both y v ey ev e = ap₂ eq ey ev ∙ ap₂ (λ (p q : Bool). p && q) (sym e ∙ ap₂ eq ex eu) refl
 
-returns : tie.Need-returns
+returns : tie.Need-returns-then-x_at
 returns c =
     let b = c.before.before.before in
     let s = b.before.before.before in
-    both s.args.at.now s.args.i s.args.j b.before.x-at.result b.x-at2.result b.before.x-at.ensures b.x-at2.ensures
-    c.before.y-at.result c.y-at2.result c.before.y-at.ensures c.y-at2.ensures c.before.before.if1.true
+    both s.args.at.now s.args.i s.args.j b.before.x_at.result b.x_at-2.result b.before.x_at.ensures b.x_at-2.ensures
+    c.before.y_at.result c.y_at-then-x_at.result c.before.y_at.ensures c.y_at-then-x_at.ensures c.before.before.if-x_at.true
 
-returns-2 : tie.Need-returns-2
+returns-2 : tie.Need-returns-else-x_at
 returns-2 c =
     let b = c.before in
     let s = b.before.before.before in
-    apart s.args.at.now s.args.i s.args.j b.before.x-at.result b.x-at2.result b.before.x-at.ensures b.x-at2.ensures c.if1.false
+    apart s.args.at.now s.args.i s.args.j b.before.x_at.result b.x_at-2.result b.before.x_at.ensures b.x_at-2.ensures c.if-x_at.false
 
 pub same_spec : {M : Type 1} → statement M
 same_spec = tie.close (tie.spec (λ c κs. search rules) (λ c κs. search rules) (λ c κs. search rules) (λ c κs. search rules) returns returns-2)

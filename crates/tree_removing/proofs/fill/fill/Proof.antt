@@ -10,34 +10,34 @@ use Rattle.tree_removing.proofs.fill.fill.Statement.{statement}
 use Rattle.tree_removing.proofs.fill.fill.Tie as tie
 
 -- where the function begins
-abbrev start : tie.Else1 → tie.Start
+abbrev start : tie.Else-h-x → tie.Start
 start c = c.before.before.before
 
-returns : tie.Need-returns
-returns c t g = fill-last _ _ _ _ t g c.if1.true
+returns : tie.Need-returns-then-h-x
+returns c t g = fill-last _ _ _ _ t g c.if-h-x.true
 
-returns-2 : tie.Need-returns-2
+returns-2 : tie.Need-returns-then-q-x
 returns-2 c t g =
     let k = c.before.before.before in
     let y = k.before.before in
     let e = y.before.before in
     let s = start e in
     let q : Quadtree = s.args.q in
-    subst (λ (w : List ℕ). Filled s.args.at.now w q (record { extent = q.extent; root = s.args.h + 1; nodes = q.nodes; deepest = q.deepest }) t) (sym k.copy.ensures) (fill-root _ _ q _ t g e.if1.false y.if2.true)
+    subst (λ (w : List ℕ). Filled s.args.at.now w q (record { extent = q.extent; root = s.args.h + 1; nodes = q.nodes; deepest = q.deepest }) t) (sym k.copy.ensures) (fill-root _ _ q _ t g e.if-h-x.false y.if-q-x.true)
 
-leaf-below-requires : tie.Need-leaf-below-requires
+leaf-below-requires : tie.Need-leaf_below-f-requires
 leaf-below-requires c κs =
     let e = c.before.before.before in
     let s = start e in
-    fill-rooted _ _ _ _ s.pre.0 s.pre.1 e.if1.false
+    fill-rooted _ _ _ _ s.requires.0 s.requires.1 e.if-h-x.false
 
-parent-requires : tie.Need-parent-requires
+parent-requires : tie.Need-parent-up-requires
 parent-requires c κs =
     let b = c.before in
     let t = b.before.before in
     let e = t.before.before in
     let s = start e in
-    (s.pre.0, fill-under _ _ _ _ s.pre.0 s.pre.1 e.if1.false b.leaf-below.result b.leaf-below.ensures t.if2.false)
+    (s.requires.0, fill-under _ _ _ _ s.requires.0 s.requires.1 e.if-h-x.false b.leaf_below-f.result b.leaf_below-f.ensures t.if-q-x.false)
 
 relink-requires : tie.Need-relink-requires
 relink-requires c κs =
@@ -46,19 +46,19 @@ relink-requires c κs =
     let t = b.before.before in
     let e = t.before.before in
     let s = start e in
-    let u = s.pre.0 in
-    fill-slots _ _ _ _ u s.pre.1 e.if1.false b.leaf-below.result b.leaf-below.ensures t.if2.false p.parent.result
-    (p.parent.ensures u (fill-under _ _ _ _ u s.pre.1 e.if1.false b.leaf-below.result b.leaf-below.ensures t.if2.false))
+    let u = s.requires.0 in
+    fill-slots _ _ _ _ u s.requires.1 e.if-h-x.false b.leaf_below-f.result b.leaf_below-f.ensures t.if-q-x.false p.parent-up.result
+    (p.parent-up.ensures u (fill-under _ _ _ _ u s.requires.1 e.if-h-x.false b.leaf_below-f.result b.leaf_below-f.ensures t.if-q-x.false))
 
-returns-3 : tie.Need-returns-3
+returns-3 : tie.Need-returns
 returns-3 c u g =
     let r = c.before.before in
     let p = r.before.before in
     let b = p.before.before in
     let t = b.before.before in
     let e = t.before.before in
-    fill-child _ _ _ _ u g e.if1.false b.leaf-below.result b.leaf-below.ensures t.if2.false p.parent.result
-    (p.parent.ensures u (fill-under _ _ _ _ u g e.if1.false b.leaf-below.result b.leaf-below.ensures t.if2.false)) r.relink.new.0 r.relink.ensures
+    fill-child _ _ _ _ u g e.if-h-x.false b.leaf_below-f.result b.leaf_below-f.ensures t.if-q-x.false p.parent-up.result
+    (p.parent-up.ensures u (fill-under _ _ _ _ u g e.if-h-x.false b.leaf_below-f.result b.leaf_below-f.ensures t.if-q-x.false)) r.relink.new.m r.relink.ensures
 
 pub fill_spec : {M : Type 1} → statement M
 fill_spec =

@@ -3,8 +3,8 @@ use borrow.Author.Rules.{rules}
 use Rattle.tree_removing.proofs.fill.relink.Statement.{statement}
 use Rattle.tree_removing.proofs.fill.relink.Tie as tie
 
-pub relink-spec : {M : Type 1} → statement M
-relink-spec =
+pub relink_spec : {M : Type 1} → statement M
+relink_spec =
     tie.close
     (tie.spec
     (λ c κs. search rules)

@@ -12,25 +12,25 @@ use Rattle.tree_removing.proofs.take.cut.Statement.{statement}
 use Rattle.tree_removing.proofs.take.cut.Tie as tie
 
 -- where the function begins
-abbrev start : tie.Else1 → tie.Start
+abbrev start : tie.Else-s-eq0 → tie.Start
 start c = c.before.before.before
 
-returns : tie.Need-returns
-returns c is g h gone = (cut-root _ is _ _ _ g _ h gone c.before.if1.true, refl)
+returns : tie.Need-returns-then-s-eq0
+returns c is g h gone = (cut-root _ is _ _ _ g _ h gone c.before.if-s-eq0.true, refl)
 
 -- the slots that are written
-slots : (e : tie.Else1) → let s = start e in InSlots (s.args.spot.above - 1) s.args.m.now × (s.args.spot.quadrant < 4) × (0 < s.args.q.nodes)
-slots e = let p = (start e).requires in cut-slot _ p.0 _ _ _ p.1 _ p.2 p.3 e.if1.false
+slots : (e : tie.Else-s-eq0) → let s = start e in InSlots (s.args.spot.above - 1) s.args.m.now × (s.args.spot.quadrant < 4) × (0 < s.args.q.nodes)
+slots e = let p = (start e).requires in cut-slot _ p.0 _ _ _ p.1 _ p.2 p.3 e.if-s-eq0.false
 
-fill-requires : tie.Need-fill-requires
+fill-requires : tie.Need-fill-filled-requires
 fill-requires c κs =
     let w = c.before.before.before.before in
     let k = w.before.before in
     let e = k.before.before in
     let s = start e in
-    let p = s.pre in
-    subst (λ (q : Quadtree). (t : Tree ℕ) × Hollow s.args.at.now w.put-internal.new.0 q s.args.spot.leaf t) (sym c.fewer.ensures)
-    (cut-hollow _ p.0 _ _ _ p.1 _ p.2 p.3 e.if1.false k.children.result k.children.ensures w.put-internal.new.0 w.put-internal.ensures)
+    let p = s.requires in
+    subst (λ (q : Quadtree). (t : Tree ℕ) × Hollow s.args.at.now w.put_internal.new.m q s.args.spot.leaf t) (sym c.fewer.ensures)
+    (cut-hollow _ p.0 _ _ _ p.1 _ p.2 p.3 e.if-s-eq0.false k.children-children.result k.children-children.ensures w.put_internal.new.m w.put_internal.ensures)
 
 tidy-requires : tie.Need-tidy-requires
 tidy-requires c κs =
@@ -40,10 +40,10 @@ tidy-requires c κs =
     let k = w.before.before in
     let e = k.before.before in
     let p = (start e).requires in
-    cut-tidies _ p.0 _ _ _ p.1 _ p.2 p.3 e.if1.false k.children.result k.children.ensures w.put-internal.new.0 w.put-internal.ensures l.fewer.result f.fill.result l.fewer.ensures f.fill.new.0
-    (f.fill.auto.0 ∙ w.put-internal.auto.0) f.fill.ensures
+    cut-tidies _ p.0 _ _ _ p.1 _ p.2 p.3 e.if-s-eq0.false k.children-children.result k.children-children.ensures w.put_internal.new.m w.put_internal.ensures l.fewer.result f.fill-filled.result l.fewer.ensures f.fill-filled.new.m
+    (f.fill-filled.auto.m ∙ w.put_internal.auto.m) f.fill-filled.ensures
 
-returns-2 : tie.Need-returns-2
+returns-2 : tie.Need-returns
 returns-2 c is g h gone =
     let d = c.before.before in
     let f = d.before.before.before.before in
@@ -51,8 +51,8 @@ returns-2 c is g h gone =
     let w = l.before.before.before.before in
     let k = w.before.before in
     let e = k.before.before in
-    cut-done _ is _ _ _ g _ h gone e.if1.false k.children.result k.children.ensures w.put-internal.new.0 w.put-internal.ensures l.fewer.result f.fill.result l.fewer.ensures f.fill.new.0
-    (f.fill.auto.0 ∙ w.put-internal.auto.0) f.fill.ensures d.tidy.result d.tidy.new.0 d.tidy.auto.0 d.tidy.ensures
+    cut-done _ is _ _ _ g _ h gone e.if-s-eq0.false k.children-children.result k.children-children.ensures w.put_internal.new.m w.put_internal.ensures l.fewer.result f.fill-filled.result l.fewer.ensures f.fill-filled.new.m
+    (f.fill-filled.auto.m ∙ w.put_internal.auto.m) f.fill-filled.ensures d.tidy.result d.tidy.new.m d.tidy.auto.m d.tidy.ensures
 
 pub cut_spec : {M : Type 1} → statement M
 cut_spec =

@@ -14,63 +14,63 @@ use Rattle.tree_removing.proofs.Tidying.{Tidying, tidies_of, tidy-done, tidy-slo
 use Rattle.tree_removing.proofs.tidy.tidy.Statement.{statement}
 use Rattle.tree_removing.proofs.tidy.tidy.Tie as tie
 
-abbrev invariant-loop : tie.invariant-loop
+abbrev invariant-loop : tie.invariant-loop-fold
 invariant-loop m₀ at i less₀ m less = ((t : Tree ℕ) → Tidies at m₀ less₀ i t → Tidying at m less₀ less i t) × (length m ≡ length m₀)
 
-abbrev decreases-loop : tie.decreases-loop
+abbrev decreases-loop : tie.decreases-loop-fold
 decreases-loop m₀ at i less₀ m less = less.nodes
 
 -- the points of the code, each from a later one
-abbrev leaf_put : tie.After-fewer invariant-loop decreases-loop → tie.After-put-leaf invariant-loop decreases-loop
+abbrev leaf_put : tie.After-fewer invariant-loop decreases-loop → tie.After-put_leaf invariant-loop decreases-loop
 leaf_put c = c.before.before.before.before
 
-abbrev back-from-put-leaf : tie.After-put-leaf-arg invariant-loop decreases-loop → tie.Else1 invariant-loop decreases-loop
+abbrev back-from-put-leaf : tie.After-put_leaf-arg-1 invariant-loop decreases-loop → tie.Else-fold-eq0 invariant-loop decreases-loop
 back-from-put-leaf c = c.before.before.before.before
 
-abbrev loop-from-if1 : tie.After-struct-known invariant-loop decreases-loop → tie.At-loop invariant-loop decreases-loop
+abbrev loop-from-if1 : tie.After-struct_known-1 invariant-loop decreases-loop → tie.At-loop-fold invariant-loop decreases-loop
 loop-from-if1 c = c.before.before.before
 
-abbrev start : tie.At-loop invariant-loop decreases-loop → tie.Start invariant-loop decreases-loop
+abbrev start : tie.At-loop-fold invariant-loop decreases-loop → tie.Start invariant-loop decreases-loop
 start c = c.before.before.before
 
-abbrev back : tie.After-put-leaf invariant-loop decreases-loop → tie.Else1 invariant-loop decreases-loop
+abbrev back : tie.After-put_leaf invariant-loop decreases-loop → tie.Else-fold-eq0 invariant-loop decreases-loop
 back c = back-from-put-leaf c.before
 
-abbrev loop : tie.After-put-leaf invariant-loop decreases-loop → tie.At-loop invariant-loop decreases-loop
+abbrev loop : tie.After-put_leaf invariant-loop decreases-loop → tie.At-loop-fold invariant-loop decreases-loop
 loop c = loop-from-if1 (back c).before
 
-so_far : (c : tie.At-loop invariant-loop decreases-loop) → let s = start c in Tidying s.args.at.now c.loop.m s.args.q c.loop.less s.args.i s.pre.0
-so_far c = let s = start c in c.loop.invariant.0 s.pre.0 s.pre.1
+so_far : (c : tie.At-loop-fold invariant-loop decreases-loop) → let s = start c in Tidying s.args.at.now c.loop-fold.m s.args.q c.loop-fold.less s.args.i s.requires.0
+so_far c = let s = start c in c.loop-fold.invariant.0 s.requires.0 s.requires.1
 
-room : (c : tie.At-loop invariant-loop decreases-loop) → (start c).args.q.nodes * slot_words ≤ length c.loop.m
-room c = let s = start c in subst (λ (n : ℕ). s.args.q.nodes * slot_words ≤ n) (sym c.loop.invariant.1) s.pre.1.room
+room : (c : tie.At-loop-fold invariant-loop decreases-loop) → (start c).args.q.nodes * slot_words ≤ length c.loop-fold.m
+room c = let s = start c in subst (λ (n : ℕ). s.args.q.nodes * slot_words ≤ n) (sym c.loop-fold.invariant.1) s.requires.1.room
 
 -- the slots that are read and written
-slots : (c : tie.Else1 invariant-loop decreases-loop) → let l = c.before.before in let d = l.before.before in let f = l.lone.result in
-    (0 < word d.loop.m (f.child - 1) 0) × InSlots (f.child - 1) d.loop.m × InSlots f.slot d.loop.m × (word d.loop.m (f.child - 1) 0 - 1 < most_particles) × (2 ≤ d.loop.less.nodes)
+slots : (c : tie.Else-fold-eq0 invariant-loop decreases-loop) → let l = c.before.before in let d = l.before.before in let f = l.lone-fold.result in
+    (0 < word d.loop-fold.m (f.child - 1) 0) × InSlots (f.child - 1) d.loop-fold.m × InSlots f.slot d.loop-fold.m × (word d.loop-fold.m (f.child - 1) 0 - 1 < most_particles) × (2 ≤ d.loop-fold.less.nodes)
 slots c =
     let l = c.before.before in
     let d = l.before.before in
     let s = start d in
-    tidy-slots _ _ _ _ _ s.pre.0 (so_far d) (room d) s.pre.1.few s.pre.1.place l.lone.result l.lone.ensures c.if1.false
+    tidy-slots _ _ _ _ _ s.requires.0 (so_far d) (room d) s.requires.1.few s.requires.1.place l.lone-fold.result l.lone-fold.ensures c.if-fold-eq0.false
 
-put : (c : tie.After-put-leaf invariant-loop decreases-loop) → let e = back c in let l = e.before.before in let d = l.before.before in let f = l.lone.result in c.put-leaf.new.0 ≡ put_leaf d.loop.m f.slot (word d.loop.m (f.child - 1) 0 - 1)
+put : (c : tie.After-put_leaf invariant-loop decreases-loop) → let e = back c in let l = e.before.before in let d = l.before.before in let f = l.lone-fold.result in c.put_leaf.new.m ≡ put_leaf d.loop-fold.m f.slot (word d.loop-fold.m (f.child - 1) 0 - 1)
 put c =
     let e = back c in
     let l = e.before.before in
     let d = l.before.before in
-    let f = l.lone.result in
-    c.put-leaf.ensures ∙ ap (λ (y : ℕ). put_leaf d.loop.m f.slot (y - 1)) c.before.before.tag.ensures
+    let f = l.lone-fold.result in
+    c.put_leaf.ensures ∙ ap (λ (y : ℕ). put_leaf d.loop-fold.m f.slot (y - 1)) c.before.before.tag-tag.ensures
 
-returns : tie.Need-returns invariant-loop decreases-loop
+returns : tie.Need-returns-then-fold-eq0 invariant-loop decreases-loop
 returns c t g =
     let l = c.before.before in
     let d = l.before.before in
     let s = start d in
-    tidy-done _ _ _ _ _ t (d.loop.invariant.0 t g) (room d) s.pre.1.few s.pre.1.place l.lone.result l.lone.ensures c.if1.true
+    tidy-done _ _ _ _ _ t (d.loop-fold.invariant.0 t g) (room d) s.requires.1.few s.requires.1.place l.lone-fold.result l.lone-fold.ensures c.if-fold-eq0.true
 
-turn : (c : tie.After-fill invariant-loop decreases-loop) → let p = leaf_put c.before in let d = loop p in let s = start d in (t : Tree ℕ) → Tidies s.args.at.now s.args.m.now s.args.q s.args.i t
-    → Tidying s.args.at.now c.fill.new.0 s.args.q c.fill.result s.args.i t × (c.fill.result.nodes < d.loop.less.nodes)
+turn : (c : tie.After-fill-less invariant-loop decreases-loop) → let p = leaf_put c.before in let d = loop p in let s = start d in (t : Tree ℕ) → Tidies s.args.at.now s.args.m.now s.args.q s.args.i t
+    → Tidying s.args.at.now c.fill-less.new.m s.args.q c.fill-less.result s.args.i t × (c.fill-less.result.nodes < d.loop-fold.less.nodes)
 turn c t g =
     let w = c.before in
     let p = leaf_put w in
@@ -78,37 +78,37 @@ turn c t g =
     let l = e.before.before in
     let d = l.before.before in
     let s = start d in
-    tidy-turn _ _ _ _ _ t (d.loop.inv.0 t g) (room d) s.pre.1.few s.pre.1.place l.lone.result l.lone.ensures e.if1.left p.put-leaf.last.0 (put p) w.fewer.result c.fill.result w.fewer.ensures c.fill.new.0 c.fill.ensures
+    tidy-turn _ _ _ _ _ t (d.loop-fold.invariant.0 t g) (room d) s.requires.1.few s.requires.1.place l.lone-fold.result l.lone-fold.ensures e.if-fold-eq0.left p.put_leaf.new.m (put p) w.fewer.result c.fill-less.result w.fewer.ensures c.fill-less.new.m c.fill-less.ensures
 
-fill-requires : tie.Need-fill-requires invariant-loop decreases-loop
+fill-requires : tie.Need-fill-less-requires invariant-loop decreases-loop
 fill-requires c κs =
     let p = leaf_put c in
     let e = back p in
     let l = e.before.before in
     let d = l.before.before in
     let s = start d in
-    subst (λ (q : Quadtree). (t : Tree ℕ) × Hollow s.args.at.now p.put-leaf.last.0 q (l.lone.result.child - 1) t) (sym c.fewer.ensures)
-    (tidy-hollow _ _ _ _ _ s.pre.0 (so_far d) (room d) s.pre.1.few s.pre.1.place l.lone.result l.lone.ensures e.if1.left p.put-leaf.last.0 (put p))
+    subst (λ (q : Quadtree). (t : Tree ℕ) × Hollow s.args.at.now p.put_leaf.new.m q (l.lone-fold.result.child - 1) t) (sym c.fewer.ensures)
+    (tidy-hollow _ _ _ _ _ s.requires.0 (so_far d) (room d) s.requires.1.few s.requires.1.place l.lone-fold.result l.lone-fold.ensures e.if-fold-eq0.left p.put_leaf.new.m (put p))
 
-pub tidy-spec : {M : Type 1} → statement M
-tidy-spec =
+pub tidy_spec : {M : Type 1} → statement M
+tidy_spec =
     tie.close
     (tie.spec
     invariant-loop
     decreases-loop
     (λ c. (λ t g. record { tree = t; packed = g.packed; same = refl; extent = refl; deepest = refl; few = omega arith }, refl))
-    (λ c κs. let d = c.before in let s = start d in (_, tidies_of _ _ _ _ _ s.pre.0 (so_far d) (room d) s.pre.1.few s.pre.1.place))
-    (λ c. (loop-from-if1 c.before).loop.inv.1)
+    (λ c κs. let d = c.before in let s = start d in (_, tidies_of _ _ _ _ _ s.requires.0 (so_far d) (room d) s.requires.1.few s.requires.1.place))
+    (λ c. (loop-from-if1 c.before).loop-fold.invariant.1)
     returns
     (λ c. search rules)
     (λ c κs. (slots c.before.before).1)
-    (λ c. let k = slots (back-from-put-leaf c) in omega (arith, k.0, c.before.tag.ensures))
-    (λ c κs. let k = slots (back-from-put-leaf c) in (k.2, subst (λ (y : ℕ). y - 1 < most_particles) (sym c.before.tag.ensures) k.3))
+    (λ c. let k = slots (back-from-put-leaf c) in omega (arith, k.0, c.before.tag-tag.ensures))
+    (λ c κs. let k = slots (back-from-put-leaf c) in (k.2, subst (λ (y : ℕ). y - 1 < most_particles) (sym c.before.tag-tag.ensures) k.3))
     (λ c κs. let k = slots (back c.before.before.before) in omega (arith, k.4))
     fill-requires
-    (λ c. let f = c.before.before in let s = start (loop (leaf_put f.before)) in (turn f s.pre.0 s.pre.1).1)
+    (λ c. let f = c.before.before in let s = start (loop (leaf_put f.before)) in (turn f s.requires.0 s.requires.1).1)
     (λ c.
     (let f = c.before.before in
     let p = leaf_put f.before in
     let d = loop p in
-    (λ t g. (turn f t g).0, f.fill.auto.0 ∙ p.put-leaf.kept.0 ∙ d.loop.inv.1))))
+    (λ t g. (turn f t g).0, f.fill-less.auto.m ∙ p.put_leaf.auto.m ∙ d.loop-fold.invariant.1))))

@@ -3,8 +3,8 @@ use borrow.Author.Rules.{rules}
 use Rattle.tree_removing.proofs.way.some_child.Statement.{statement}
 use Rattle.tree_removing.proofs.way.some_child.Tie as tie
 
-pub some-child-spec : {M : Type 1} → statement M
-some-child-spec =
+pub some_child_spec : {M : Type 1} → statement M
+some_child_spec =
     tie.close
     (tie.spec
     (λ c. search rules)

@@ -7,15 +7,15 @@ use Rattle.tree_slots.proofs.store.put_leaf.Tie as tie
 add-put-word : tie.Need-overflow-add-put-word
 add-put-word c = search rules
 
-put-word-requires : tie.Need-put-word-requires
+put-word-requires : tie.Need-put_word-requires
 put-word-requires c κs = search rules
 
-same_length : tie.Need-same-length
+same_length : tie.Need-shape_of-m
 same_length c = search rules
 
 returns : tie.Need-returns
 unfolding put_leaf
 returns c = c.before.before.put_word.ensures
 
-pub put-leaf-spec : {M : Type 1} → statement M
-put-leaf-spec = tie.close (tie.spec add-put-word put-word-requires same_length returns)
+pub put_leaf_spec : {M : Type 1} → statement M
+put_leaf_spec = tie.close (tie.spec add-put-word put-word-requires same_length returns)

@@ -9,13 +9,13 @@ use Rattle.tree_slots.proofs.store.put_value.Tie as tie
 add-put-word : tie.Need-overflow-add-put-word
 add-put-word c = search rules
 
-bits-of-requires : tie.Need-bits-of-requires
+bits-of-requires : tie.Need-bits_of-requires
 bits-of-requires c κs = search rules
 
-put-word-requires : tie.Need-put-word-requires
+put-word-requires : tie.Need-put_word-requires
 put-word-requires c κs = search rules
 
-same_length : tie.Need-same-length
+same_length : tie.Need-shape_of-m
 same_length c = search rules
 
 returns : tie.Need-returns
@@ -23,8 +23,8 @@ unfolding put_value
 returns c =
     let w = c.before.before in
     let s = w.before.before.before.before in
-    w.put_word.ensures ∙ ap (λ (b : ℕ). put s.args.m.now s.args.s (3 + s.args.j) b) w.before.bits_of.ensures
+    w.put_word.ensures ∙ ap (λ (b : ℕ). put s.args.m-1.now s.args.s (3 + s.args.j) b) w.before.bits_of.ensures
 
-pub put-value-spec : {M : Type 1} → statement M
-put-value-spec =
+pub put_value_spec : {M : Type 1} → statement M
+put_value_spec =
     tie.close (tie.spec add-put-word bits-of-requires put-word-requires same_length returns)

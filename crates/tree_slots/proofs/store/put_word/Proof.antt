@@ -4,24 +4,24 @@ use borrow.Author.Rules.{rules}
 use Rattle.tree_slots.proofs.store.put_word.Statement.{statement}
 use Rattle.tree_slots.proofs.store.put_word.Tie as tie
 
-mul-m : tie.Need-overflow-mul-m
+mul-m : tie.Need-overflow_mul-m
 mul-m c = search rules
 
-add-m : tie.Need-overflow-add-m
+add-m : tie.Need-overflow_add-m
 add-m c = search rules
 
 mul-m-2 : tie.Need-overflow-mul-m-2
 mul-m-2 c = search rules
 
-slice-write-m : tie.Need-slice-write-m
+slice-write-m : tie.Need-bounds-m-s
 slice-write-m c = search rules
 
-same_length : tie.Need-same-length
+same_length : tie.Need-shape_of-m
 same_length c = search rules
 
 returns : tie.Need-returns
 unfolding put
 returns c = cc
 
-pub put-word-spec : {M : Type 1} → statement M
-put-word-spec = tie.close (tie.spec mul-m add-m mul-m-2 slice-write-m same_length returns)
+pub put_word_spec : {M : Type 1} → statement M
+put_word_spec = tie.close (tie.spec mul-m add-m mul-m-2 slice-write-m same_length returns)

@@ -4,22 +4,22 @@ use borrow.Author.Rules.{rules}
 use Rattle.tree_slots.proofs.store.word_at.Statement.{statement}
 use Rattle.tree_slots.proofs.store.word_at.Tie as tie
 
-mul-result : tie.Need-overflow-mul-result
+mul-result : tie.Need-overflow_mul-result
 mul-result c = search rules
 
-add-result : tie.Need-overflow-add-result
+add-result : tie.Need-overflow_add-result
 add-result c = search rules
 
 mul-result-2 : tie.Need-overflow-mul-result-2
 mul-result-2 c = search rules
 
-shared-slice-read-result : tie.Need-shared-slice-read-result
+shared-slice-read-result : tie.Need-bounds-m-s
 shared-slice-read-result c = search rules
 
 returns : tie.Need-returns
 unfolding word
 returns c = cc
 
-pub word-at-spec : {M : Type 1} → statement M
-word-at-spec =
+pub word_at_spec : {M : Type 1} → statement M
+word_at_spec =
     tie.close (tie.spec mul-result add-result mul-result-2 shared-slice-read-result returns)

@@ -8,17 +8,17 @@ use Rattle.tree_walk.proofs.visit.push_cell.Statement.{statement}
 use Rattle.tree_walk.proofs.visit.push_cell.Tie as tie
 
 -- a child finds room
-low : (c : tie.Else1) → c.before.args.h < most_waiting
-low c = omega (arith, above-some c.before.args.h c.before.args.number c.if1.false, c.before.requires)
+low : (c : tie.Else-number-eq0) → c.before.args.h < most_waiting
+low c = omega (arith, above-some c.before.args.h c.before.args.number c.if-number-eq0.false, c.before.requires)
 
-returns : tie.Need-returns
-returns c = (cell-none _ c.before.args.h _ c.before.args.c c.if1.true, sym (above-none _ _ c.if1.true))
+returns : tie.Need-returns-then-number-eq0
+returns c = (cell-none _ c.before.args.h _ c.before.args.c c.if-number-eq0.true, sym (above-none _ _ c.if-number-eq0.true))
 
-returns-2 : tie.Need-returns-2
-returns-2 c = (cell-some _ c.before.args.h _ c.before.args.c c.if1.false, sym (above-some _ _ c.if1.false))
+returns-2 : tie.Need-returns
+returns-2 c = (cell-some _ c.before.args.h _ c.before.args.c c.if-number-eq0.false, sym (above-some _ _ c.if-number-eq0.false))
 
-pub push-cell-spec : {M : Type 1} → statement M
-push-cell-spec =
+pub push_cell_spec : {M : Type 1} → statement M
+push_cell_spec =
     tie.close
     (tie.spec
     returns

@@ -8,8 +8,8 @@ returns : tie.Need-returns
 unfolding cell_at
 returns c = cc
 
-pub waiting-at-spec : {M : Type 1} → statement M
-waiting-at-spec =
+pub waiting_at_spec : {M : Type 1} → statement M
+waiting_at_spec =
     tie.close
     (tie.spec
     (λ c. search rules)

@@ -14,28 +14,28 @@ use Rattle.tree_walk.proofs.visit_after.next.Statement.{statement}
 use Rattle.tree_walk.proofs.visit_after.next.Tie as tie
 
 -- whatever was to be handed out still is
-abbrev invariant-loop : tie.invariant-loop
+abbrev invariant-loop : tie.invariant-loop-height
 invariant-loop steps₀ height m h₀ steps h =
     ((next : List ℕ) (rest : List (Entry ℕ)) → Climbs m next (steps_at steps₀ height) rest → Climbs m next (steps_at steps (suc h)) rest) × (length steps ≡ path_numbers)
 
 -- the path grows, or its end turns to a later quadrant
-abbrev decreases-loop : tie.decreases-loop
+abbrev decreases-loop : tie.decreases-loop-height
 decreases-loop steps₀ height m h₀ steps h = 5 * (66 - h) - get_or steps (h * 2 + 1) 0
 
 -- the points of the code, each from a later one
-abbrev widened : tie.Else1 invariant-loop decreases-loop → tie.After-wide invariant-loop decreases-loop
+abbrev widened : tie.Else-tag-ne0 invariant-loop decreases-loop → tie.After-wide-s invariant-loop decreases-loop
 widened c = c.before.before.before
 
-abbrev loop-from-tag-read : tie.After-tag invariant-loop decreases-loop → tie.At-loop invariant-loop decreases-loop
+abbrev loop-from-tag-read : tie.After-tag invariant-loop decreases-loop → tie.At-loop-height invariant-loop decreases-loop
 loop-from-tag-read c = c.before.before.before.before
 
-abbrev loop : tie.After-wide2 invariant-loop decreases-loop → tie.At-loop invariant-loop decreases-loop
+abbrev loop : tie.After-wide invariant-loop decreases-loop → tie.At-loop-height invariant-loop decreases-loop
 loop c = loop-from-tag-read c.before.before.before.before
 
 abbrev entry : tie.After-tag invariant-loop decreases-loop → tie.Start invariant-loop decreases-loop
 entry c = (loop-from-tag-read c).before.before
 
-loop-holds : tie.Need-loop-init invariant-loop decreases-loop
+loop-holds : tie.Need-loop-height-init invariant-loop decreases-loop
 loop-holds c =
     let a = c.before in
     let e : a.args.height ≡ suc (a.args.height - 1) = omega (arith, a.requires.some) in
@@ -43,89 +43,89 @@ loop-holds c =
 
 -- ---- what is known at the path's end
 
-abbrev slot : tie.At-loop invariant-loop decreases-loop → ℕ
-slot c = get_or c.loop.steps (c.loop.h * 2) 0
+abbrev slot : tie.At-loop-height invariant-loop decreases-loop → ℕ
+slot c = get_or c.loop-height.steps (c.loop-height.h * 2) 0
 
-abbrev turned : tie.At-loop invariant-loop decreases-loop → ℕ
-turned c = get_or c.loop.steps (c.loop.h * 2 + 1) 0
+abbrev turned : tie.At-loop-height invariant-loop decreases-loop → ℕ
+turned c = get_or c.loop-height.steps (c.loop-height.h * 2 + 1) 0
 
-here : (c : tie.At-loop invariant-loop decreases-loop) → Climbs c.before.before.args.m.now c.before.before.requires.next (steps_at c.loop.steps (suc c.loop.h)) c.before.before.requires.rest
-here c = c.loop.invariant.0 c.before.before.requires.next c.before.before.requires.rest c.before.before.requires.climbs
+here : (c : tie.At-loop-height invariant-loop decreases-loop) → Climbs c.before.before.args.m.now c.before.before.requires.next (steps_at c.loop-height.steps (suc c.loop-height.h)) c.before.before.requires.rest
+here c = c.loop-height.invariant.0 c.before.before.requires.next c.before.before.requires.rest c.before.before.requires.climbs
 
-near : (c : tie.At-loop invariant-loop decreases-loop) → InSlots (slot c) c.before.before.args.m.now × (c.loop.h ≤ 64) × (turned c ≤ 4)
-near c = lent c.before.before.args.m.now c.before.before.requires.next c.loop.steps c.loop.h c.before.before.requires.rest (here c)
+near : (c : tie.At-loop-height invariant-loop decreases-loop) → InSlots (slot c) c.before.before.args.m.now × (c.loop-height.h ≤ 64) × (turned c ≤ 4)
+near c = lent c.before.before.args.m.now c.before.before.requires.next c.loop-height.steps c.loop-height.h c.before.before.requires.rest (here c)
 
 tagged : (c : tie.After-tag invariant-loop decreases-loop) → c.tag.result ≡ word (entry c).args.m.now (slot (loop-from-tag-read c)) 0
-tagged c = c.tag.ensures ∙ ap (λ (s : ℕ). word (entry c).args.m.now s 0) c.before.before.wide.ensures
+tagged c = c.tag.ensures ∙ ap (λ (s : ℕ). word (entry c).args.m.now s 0) c.before.before.wide-s.ensures
 
-inner : (c : tie.Else2 invariant-loop decreases-loop) → word (entry c.before.before).args.m.now (slot (loop-from-tag-read c.before.before)) 0 ≡ 0
-inner c = sym (tagged c.before.before) ∙ c.before.if1.false
+inner : (c : tie.Else-quadrant-gt3 invariant-loop decreases-loop) → word (entry c.before.before).args.m.now (slot (loop-from-tag-read c.before.before)) 0 ≡ 0
+inner c = sym (tagged c.before.before) ∙ c.before.if-tag-ne0.false
 
-child-is : (c : tie.After-wide2 invariant-loop decreases-loop)
-    → get_or c.before.children.result c.wide2.result 0 ≡ kid (loop c).before.before.args.m.now (slot (loop c)) (turned (loop c))
+child-is : (c : tie.After-wide invariant-loop decreases-loop)
+    → get_or c.before.children-children.result c.wide.result 0 ≡ kid (loop c).before.before.args.m.now (slot (loop c)) (turned (loop c))
 child-is c =
-    kid-read (loop c).before.before.args.m.now c.before.children.result (slot (loop c)) (widened c.before.before.before).wide.result (turned (loop c)) c.wide2.result
-    c.before.children.ensures (widened c.before.before.before).wide.ensures c.wide2.ensures (omega (arith, c.before.before.if2.false))
+    kid-read (loop c).before.before.args.m.now c.before.children-children.result (slot (loop c)) (widened c.before.before.before).wide-s.result (turned (loop c)) c.wide.result
+    c.before.children-children.ensures (widened c.before.before.before).wide-s.ensures c.wide.ensures (omega (arith, c.before.before.if-quadrant-gt3.false))
 
 -- a child finds room
-far : (c : tie.Then3 invariant-loop decreases-loop) → (loop c.before).loop.h < 64
+far : (c : tie.Then-child-ne0 invariant-loop decreases-loop) → (loop c.before).loop-height.h < 64
 far c =
     let l = loop c.before in
-    deep l.before.before.args.m.now l.before.before.pre.next l.loop.steps l.loop.h l.before.before.pre.rest (here l) (inner c.before.before.before)
-    (omega (arith, c.before.before.before.if2.false)) l.loop.inv.1 (λ n. c.if3.true (child-is c.before ∙ n))
+    deep l.before.before.args.m.now l.before.before.requires.next l.loop-height.steps l.loop-height.h l.before.before.requires.rest (here l) (inner c.before.before.before)
+    (omega (arith, c.before.before.before.if-quadrant-gt3.false)) l.loop-height.invariant.1 (λ n. c.if-child-ne0.true (child-is c.before ∙ n))
 
-returns : tie.Need-returns invariant-loop decreases-loop
+returns : tie.Need-returns-then-tag-ne0 invariant-loop decreases-loop
 returns c =
     let l = loop-from-tag-read c.before in
     record {
-      first = λ next rest k. subst⁻¹ (λ (s : ℕ). First l.before.before.args.m.now next l.loop.steps l.loop.h s rest) c.before.before.before.wide.ensures
-          (first_leaf l.before.before.args.m.now next l.loop.steps l.loop.h rest (l.loop.inv.0 next rest k) (λ z. c.if1.true (tagged c.before ∙ z)));
-      sized = l.loop.inv.1;
+      first = λ next rest k. subst⁻¹ (λ (s : ℕ). First l.before.before.args.m.now next l.loop-height.steps l.loop-height.h s rest) c.before.before.before.wide-s.ensures
+          (first_leaf l.before.before.args.m.now next l.loop-height.steps l.loop-height.h rest (l.loop-height.invariant.0 next rest k) (λ z. c.if-tag-ne0.true (tagged c.before ∙ z)));
+      sized = l.loop-height.invariant.1;
     }
 
-returns-2 : tie.Need-returns-2 invariant-loop decreases-loop
+returns-2 : tie.Need-returns-then-quadrant-gt3 invariant-loop decreases-loop
 returns-2 c =
     let l = loop-from-tag-read c.before.before in
     record {
-      first = λ next rest k. subst⁻¹ (λ (s : ℕ). First l.before.before.args.m.now next l.loop.steps l.loop.h s rest) (widened c.before).wide.ensures
-          (first-node l.before.before.args.m.now next l.loop.steps l.loop.h rest (l.loop.inv.0 next rest k) (sym (tagged c.before.before) ∙ c.before.if1.false) c.if2.true);
-      sized = l.loop.inv.1;
+      first = λ next rest k. subst⁻¹ (λ (s : ℕ). First l.before.before.args.m.now next l.loop-height.steps l.loop-height.h s rest) (widened c.before).wide-s.ensures
+          (first-node l.before.before.args.m.now next l.loop-height.steps l.loop-height.h rest (l.loop-height.invariant.0 next rest k) (sym (tagged c.before.before) ∙ c.before.if-tag-ne0.false) c.if-quadrant-gt3.true);
+      sized = l.loop-height.invariant.1;
     }
 
-loop-less : tie.Need-loop-smaller invariant-loop decreases-loop
+loop-less : tie.Need-loop-height-smaller-then-child-ne0 invariant-loop decreases-loop
 loop-less c =
     let l = loop c.before in
     omega (
       arith,
       far c,
-      c.before.before.before.if2.false,
-      top_down (set l.loop.steps (l.loop.h * 2 + 1) (turned l + 1)) l.loop.h (get_or c.before.before.children.result c.before.wide2.result 0 - 1)
-          (rw length-set (omega (arith, far c, l.loop.inv.1))),
+      c.before.before.before.if-quadrant-gt3.false,
+      top_down (set l.loop-height.steps (l.loop-height.h * 2 + 1) (turned l + 1)) l.loop-height.h (get_or c.before.before.children-children.result c.before.wide.result 0 - 1)
+          (rw length-set (omega (arith, far c, l.loop-height.invariant.1))),
     )
 
-loop-again : tie.Need-loop-preserved invariant-loop decreases-loop
+loop-again : tie.Need-loop-height-preserved-then-child-ne0 invariant-loop decreases-loop
 loop-again c =
     let l = loop c.before in (
-      (λ next rest k. turn-child l.before.before.args.m.now next l.loop.steps l.loop.h rest (l.loop.inv.0 next rest k) (inner c.before.before.before)
-          (omega (arith, c.before.before.before.if2.false)) l.loop.inv.1 (get_or c.before.before.children.result c.before.wide2.result 0) (child-is c.before) c.if3.true (omega (arith, far c, l.loop.inv.1))),
-      simp length-set l.loop.inv.1,
+      (λ next rest k. turn-child l.before.before.args.m.now next l.loop-height.steps l.loop-height.h rest (l.loop-height.invariant.0 next rest k) (inner c.before.before.before)
+          (omega (arith, c.before.before.before.if-quadrant-gt3.false)) l.loop-height.invariant.1 (get_or c.before.before.children-children.result c.before.wide.result 0) (child-is c.before) c.if-child-ne0.true (omega (arith, far c, l.loop-height.invariant.1))),
+      simp length-set l.loop-height.invariant.1,
     )
 
-loop-less-2 : tie.Need-loop-smaller-2 invariant-loop decreases-loop
+loop-less-2 : tie.Need-loop-height-smaller invariant-loop decreases-loop
 loop-less-2 c =
     let l = loop c.before in
-    omega (arith, near l, get_or-set_same l.loop.steps (l.loop.h * 2 + 1) (turned l + 1) 0 (omega (arith, near l, l.loop.inv.1)))
+    omega (arith, near l, get_or-set_same l.loop-height.steps (l.loop-height.h * 2 + 1) (turned l + 1) 0 (omega (arith, near l, l.loop-height.invariant.1)))
 
-loop-again-2 : tie.Need-loop-preserved-2 invariant-loop decreases-loop
+loop-again-2 : tie.Need-loop-height-preserved invariant-loop decreases-loop
 loop-again-2 c =
     let l = loop c.before in (
-      (λ next rest k. turn-past l.before.before.args.m.now next l.loop.steps l.loop.h rest (l.loop.inv.0 next rest k) (inner c.before.before.before)
-          (omega (arith, c.before.before.before.if2.false)) l.loop.inv.1 (sym (child-is c.before) ∙ c.if3.false)),
-      simp length-set l.loop.inv.1,
+      (λ next rest k. turn-past l.before.before.args.m.now next l.loop-height.steps l.loop-height.h rest (l.loop-height.invariant.0 next rest k) (inner c.before.before.before)
+          (omega (arith, c.before.before.before.if-quadrant-gt3.false)) l.loop-height.invariant.1 (sym (child-is c.before) ∙ c.if-child-ne0.false)),
+      simp length-set l.loop-height.invariant.1,
     )
 
-pub next-spec : {M : Type 1} → statement M
-next-spec =
+pub next_spec : {M : Type 1} → statement M
+next_spec =
     tie.close
     (tie.spec
     invariant-loop
@@ -139,14 +139,14 @@ next-spec =
     (λ c. omega (arith, near c.before.before))
     (λ c. omega (arith, near c.before.before))
     (λ c. omega (arith, near c.before.before))
-    (λ c κs. omega (arith, near c.before.before.before, c.before.wide.ensures))
+    (λ c κs. omega (arith, near c.before.before.before, c.before.wide-s.ensures))
     returns
     returns-2
-    (λ c κs. omega (arith, near (loop-from-tag-read c.before.before), (widened c.before).wide.ensures))
+    (λ c κs. omega (arith, near (loop-from-tag-read c.before.before), (widened c.before).wide-s.ensures))
     (λ c κs. search rules)
-    (λ c. omega (arith, c.wide2.ensures, c.before.before.if2.false))
-    (λ c. omega (arith, c.wide2.ensures, c.before.before.if2.false))
-    (λ c. omega (arith, c.before.before.if2.false))
+    (λ c. omega (arith, c.wide.ensures, c.before.before.if-quadrant-gt3.false))
+    (λ c. omega (arith, c.wide.ensures, c.before.before.if-quadrant-gt3.false))
+    (λ c. omega (arith, c.before.before.if-quadrant-gt3.false))
     (λ c. omega (arith, near (loop c)))
     (λ c. omega (arith, near (loop c)))
     (λ c. omega (arith, near (loop c)))

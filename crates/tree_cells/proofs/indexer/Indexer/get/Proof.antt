@@ -13,17 +13,17 @@ unfolding quadrant
 by i x y a b h e f =
     ap₂ (λ (p q : Bool). cond p 2 0 + cond q 1 0) (sym e ∙ ap (λ (j : Indexer). le j.ym y) h) (sym f ∙ ap (λ (j : Indexer). le j.xm x) h)
 
-returns : tie.Need-returns
-returns c = let s = c.before.before.before.before in by s.args.self s.args.x s.args.y true true s.requires c.before.before.if1.true c.if2.true
+returns : tie.Need-returns-then-x-self
+returns c = let s = c.before.before.before.before in by s.args.self s.args.x s.args.y true true s.requires c.before.before.if-y-self.true c.if-x-self.true
 
-returns-2 : tie.Need-returns-2
-returns-2 c = let s = c.before.before.before.before in by s.args.self s.args.x s.args.y true false s.requires c.before.before.if1.true c.if2.false
+returns-2 : tie.Need-returns-then-y-self
+returns-2 c = let s = c.before.before.before.before in by s.args.self s.args.x s.args.y true false s.requires c.before.before.if-y-self.true c.if-x-self.false
 
-returns-3 : tie.Need-returns-3
-returns-3 c = let s = c.before.before.before.before in by s.args.self s.args.x s.args.y false true s.requires c.before.before.if1.false c.if3.true
+returns-3 : tie.Need-returns-then-x-self-2
+returns-3 c = let s = c.before.before.before.before in by s.args.self s.args.x s.args.y false true s.requires c.before.before.if-y-self.false c.if-x-self-2.true
 
-returns-4 : tie.Need-returns-4
-returns-4 c = let s = c.before.before.before.before in by s.args.self s.args.x s.args.y false false s.requires c.before.before.if1.false c.if3.false
+returns-4 : tie.Need-returns
+returns-4 c = let s = c.before.before.before.before in by s.args.self s.args.x s.args.y false false s.requires c.before.before.if-y-self.false c.if-x-self-2.false
 
 pub get_spec : {M : Type 1} → statement M
 get_spec = tie.close (tie.spec returns returns-2 returns-3 returns-4)

@@ -6,16 +6,16 @@ use Rattle.tree_cells.proofs.Quadrant.{quadrant_lt}
 use Rattle.tree_cells.proofs.indexer.Indexer.get_and_descend.Statement.{statement}
 use Rattle.tree_cells.proofs.indexer.Indexer.get_and_descend.Tie as tie
 
-quarter-requires : tie.Need-quarter-requires
-quarter-requires c κs = subst (λ (q : ℕ). q < 4) (sym c.before.get.ensures) (quadrant_lt _ _ _)
+quarter-requires : tie.Need-quarter-below-requires
+quarter-requires c κs = subst (λ (q : ℕ). q < 4) (sym c.before.get-q.ensures) (quadrant_lt _ _ _)
 
 returns : tie.Need-returns
 returns c =
-    let q = c.before.before.before.get.result in
+    let q = c.before.before.before.get-q.result in
     record {
-      quadrant = c.before.before.before.get.ensures;
-      indexer = c.with-extent.ensures ∙ ap indexer (c.before.quarter.ensures ∙ ap (quarter q) c.before.before.cell.ensures);
+      quadrant = c.before.before.before.get-q.ensures;
+      indexer = c.with_extent.ensures ∙ ap indexer (c.before.quarter-below.ensures ∙ ap (quarter q) c.before.before.cell.ensures);
     }
 
-pub get-and-descend-spec : {M : Type 1} → statement M
-get-and-descend-spec = tie.close (tie.spec (λ c κs. search rules) (λ c κs. search rules) quarter-requires (λ c κs. search rules) returns)
+pub get_and_descend_spec : {M : Type 1} → statement M
+get_and_descend_spec = tie.close (tie.spec (λ c κs. search rules) (λ c κs. search rules) quarter-requires (λ c κs. search rules) returns)

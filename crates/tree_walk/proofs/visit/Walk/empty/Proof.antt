@@ -3,5 +3,5 @@ use mathlib.Core.Path.{refl}
 use Rattle.tree_walk.proofs.visit.Walk.empty.Statement.{statement}
 use Rattle.tree_walk.proofs.visit.Walk.empty.Tie as tie
 
-pub empty-spec : {M : Type 1} → statement M
-empty-spec = tie.close (tie.spec (λ c. record { slots = refl; cells = refl }))
+pub empty_spec : {M : Type 1} → statement M
+empty_spec = tie.close (tie.spec (λ c. record { slots = refl; cells = refl }))
