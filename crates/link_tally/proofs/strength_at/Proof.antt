@@ -12,7 +12,7 @@ returns c =
     c.default_strength.ensures ∙ no_strengths a.strengths.now a.k a.source a.target c.before.if-strengths-eq0.true
 
 -- the index is below the length
-mul-result : tie.Need-overflow-mul-result
+mul-result : tie.Need-offset_bounds-strengths-k
 mul-result c = omega (arith, c.before.before.requires (omega arith))
 
 shared-slice-read-result : tie.Need-bounds-strengths-k

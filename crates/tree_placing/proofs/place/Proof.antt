@@ -100,7 +100,7 @@ returns-4 c is g =
     placed _ is w.hang.new.m _ _ s.args.q.extent _ (Done c.more.result) (grown-hung _ _ _ _ _ g.seeks _ _ _ f (λ z. e.if-slots-q.false (k.slots.ensures ∙ z)) w.hang.new.m c.more.result w.hang.ensures c.more.ensures)
     (kept _ _ _ _ _ _ _ g s.requires.2 (hole-new-point _ _ _ _ _ g.seeks _ _ _ f))
 
-add-more : tie.Need-overflow-add-more
+add-more : tie.Need-overflow_add-l
 add-more c =
     let h = hole c in
     let s = start h.before.before in

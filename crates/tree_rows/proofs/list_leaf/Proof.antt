@@ -9,13 +9,13 @@ put-chain-requires : tie.Need-put_chain-end-requires
 put-chain-requires c κs = let p = c.before.before.before.before.requires in (p.0, p.1.chain)
 
 -- the chain's length
-sub-put-row : tie.Need-overflow-sub-put-row
+sub-put-row : tie.Need-overflow_sub-end
 sub-put-row c =
     let d = c.before.before.before in
     let p = d.before.before.before.before.before.requires in
     omega (arith, d.put_chain-end.ensures p.0 p.1.chain)
 
-cast-put-row : tie.Need-overflow-cast-put-row
+cast-put-row : tie.Need-overflow_cast-end
 cast-put-row c =
     let d = c.before.before.before in
     let p = d.before.before.before.before.before.requires in

@@ -27,7 +27,7 @@ number-left : (c : tie.In-loop-i invariant-loop decreases-loop)
     Next e.out.now e.at (other_words (map decimal e.chain.now)) c.before.loop-i.out c.before.loop-i.next (32 ∷ decimal (get_or e.chain.now i 0)) (other_words (map decimal (drop (i + 1) e.chain.now)))
 number-left c = left-next _ _ (rw (from_index _ _ c.loop-i-test.true) at c.before.loop-i.invariant)
 
-cast-put-number : tie.Need-overflow-cast-put-number invariant-loop decreases-loop
+cast-put-number : tie.Need-overflow_cast-chain invariant-loop decreases-loop
 cast-put-number c = omega (arith, c.shared_slice_known-in-loop-i-1.given c.before.before.before.loop-i.i)
 
 put-number-requires : tie.Need-put_number-next-requires invariant-loop decreases-loop

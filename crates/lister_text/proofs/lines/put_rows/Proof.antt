@@ -37,7 +37,7 @@ chain-within c = going-chain _ _ _ _ _ _ _ _ _ c.before.loop-i.invariant c.loop-
 cast-to : tie.Need-overflow_cast-to invariant-loop decreases-loop
 cast-to c = omega (arith, chain-within c.before)
 
-add-to-2 : tie.Need-overflow-add-to-2 invariant-loop decreases-loop
+add-to-2 : tie.Need-overflow_add-to-in-loop-i invariant-loop decreases-loop
 add-to-2 c = omega (arith, chain-within c.before)
 
 part-put-row-end : tie.Need-slice_bounds-put_row-end invariant-loop decreases-loop

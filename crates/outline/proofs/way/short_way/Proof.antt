@@ -20,7 +20,7 @@ rem_past c = quotient_fits (begun c)
 add-result : tie.Need-overflow_add-result
 add-result c = let b = begun c.before in step_fits b (step-under b c.if-past-lt0.true)
 
-add-result-2 : tie.Need-overflow_add-result-2
+add-result-2 : tie.Need-overflow_add-result-then-past-lt0
 add-result-2 c = let b = begun c.before in on_fits b (step-under b c.if-past-lt0.true)
 
 returns : tie.Need-returns-then-past-lt0
@@ -31,7 +31,7 @@ returns c = let b = begun c.before in arrived b (step-under b c.if-past-lt0.true
 sub-result : tie.Need-overflow_sub-result
 sub-result c = let b = begun c.before in step_fits b (step_past b c.if-past-lt0.false)
 
-add-result-3 : tie.Need-overflow-add-result-3
+add-result-3 : tie.Need-overflow_add-result-2
 add-result-3 c = let b = begun c.before in on_fits b (step_past b c.if-past-lt0.false)
 
 returns-2 : tie.Need-returns

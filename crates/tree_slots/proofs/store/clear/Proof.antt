@@ -19,7 +19,7 @@ decreases-loop m₀ i₀ m i = length m₀ - i
 loop-holds : tie.Need-loop-i-init invariant-loop decreases-loop
 loop-holds c = (refl, omega arith)
 
-mul-m : tie.Need-overflow-mul-m invariant-loop decreases-loop
+mul-m : tie.Need-offset_bounds-m-i invariant-loop decreases-loop
 mul-m c = search rules
 
 slice-write-m : tie.Need-bounds-m-i invariant-loop decreases-loop

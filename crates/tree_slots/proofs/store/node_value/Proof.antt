@@ -5,7 +5,7 @@ use Rattle.rules.specs.Number.{float_of}
 use Rattle.tree_slots.proofs.store.node_value.Statement.{statement}
 use Rattle.tree_slots.proofs.store.node_value.Tie as tie
 
-add-word-at : tie.Need-overflow-add-word-at
+add-word-at : tie.Need-overflow_add-j
 add-word-at c = search rules
 
 word-at-requires : tie.Need-word_at-requires

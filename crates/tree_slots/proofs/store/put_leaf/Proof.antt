@@ -4,7 +4,7 @@ use borrow.Author.Rules.{rules}
 use Rattle.tree_slots.proofs.store.put_leaf.Statement.{statement}
 use Rattle.tree_slots.proofs.store.put_leaf.Tie as tie
 
-add-put-word : tie.Need-overflow-add-put-word
+add-put-word : tie.Need-overflow_add-first
 add-put-word c = search rules
 
 put-word-requires : tie.Need-put_word-requires

@@ -6,7 +6,7 @@ use Prim.Native.Nat.{ℕ, ◌+◌}
 use Rattle.tree_slots.proofs.store.put_value.Statement.{statement}
 use Rattle.tree_slots.proofs.store.put_value.Tie as tie
 
-add-put-word : tie.Need-overflow-add-put-word
+add-put-word : tie.Need-overflow_add-j
 add-put-word c = search rules
 
 bits-of-requires : tie.Need-bits_of-requires

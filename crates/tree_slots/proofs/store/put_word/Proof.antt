@@ -10,7 +10,7 @@ mul-m c = search rules
 add-m : tie.Need-overflow_add-m
 add-m c = search rules
 
-mul-m-2 : tie.Need-overflow-mul-m-2
+mul-m-2 : tie.Need-offset_bounds-m-s
 mul-m-2 c = search rules
 
 slice-write-m : tie.Need-bounds-m-s

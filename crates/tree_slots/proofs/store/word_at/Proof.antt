@@ -10,7 +10,7 @@ mul-result c = search rules
 add-result : tie.Need-overflow_add-result
 add-result c = search rules
 
-mul-result-2 : tie.Need-overflow-mul-result-2
+mul-result-2 : tie.Need-offset_bounds-m-s
 mul-result-2 c = search rules
 
 shared-slice-read-result : tie.Need-bounds-m-s
