@@ -21,27 +21,27 @@ decreases-loop links counts₀ n k₀ counts k = n - k
 
 count-link-requires : tie.Need-count_link-requires invariant-loop decreases-loop
 count-link-requires c κs =
-    let b = c.before.before.before.before.before in
-    let l = b.before.loop-k in
-    count_room b.before.before.before.before.requires.0 l.k b.loop-k-test.true l.counts l.invariant.2 c.before.before.wide.result c.wide-in-loop-k.result
-    c.before.before.wide.ensures c.wide-in-loop-k.ensures
+    let b = c in
+    let l = b.loop-k in
+    count_room b.requires.0 l.k b.loop-k-test.true l.counts l.invariant.2 c.wide.result c.wide-in-loop-k.result
+    c.wide.ensures c.wide-in-loop-k.ensures
 
 loop-again : tie.Need-loop-k-preserved invariant-loop decreases-loop
 loop-again c =
     let d = c.before.before in
     let i = d.before in
-    let b = i.before.before.before.before.before in
-    let l = b.before.loop-k in (
+    let b = i in
+    let l = b.loop-k in (
       omega arith,
       d.count_link.auto.counts ∙ l.invariant.1,
-      count_turn b.before.before.before.before.requires.0 l.k b.loop-k-test.true l.counts l.invariant.2 i.before.before.wide.result i.wide-in-loop-k.result
-          i.before.before.wide.ensures i.wide-in-loop-k.ensures d.count_link.new.counts d.count_link.ensures,
+      count_turn b.requires.0 l.k b.loop-k-test.true l.counts l.invariant.2 i.wide.result i.wide-in-loop-k.result
+          i.wide.ensures i.wide-in-loop-k.ensures d.count_link.new.counts d.count_link.ensures,
     )
 
 returns : tie.Need-returns invariant-loop decreases-loop
 returns c =
-    let l = c.before.loop-k in
-    let s = c.before.before.before.before in
+    let l = c.loop-k in
+    let s = c in
     let e : l.k ≡ length s.args.links.now / 2 = omega arith in
     l.invariant.2 ∙ ap (λ k. tallies (length s.args.counts.now) (ends_from s.args.links.now k)) e
 
@@ -51,7 +51,7 @@ count_ends_spec =
     (tie.spec
     invariant-loop
     decreases-loop
-    (λ c. (omega arith, refl, c.before.before.requires.1))
+    (λ c. (omega arith, refl, c.requires.1))
     (λ c. omega arith)
     (λ c. omega arith)
     (λ c. omega arith)

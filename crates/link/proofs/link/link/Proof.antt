@@ -13,7 +13,7 @@ use Rattle.link.proofs.link.link.Tie as tie
 
 iterate-requires : tie.Need-iterate-requires
 iterate-requires c κs =
-    let s = c.before.before.before.before.before.before.before.before in
+    let s = c in
     let n = length s.args.vs.now / 2 in
     let e = room {A = ℕ} n most_particles 0 (omega (arith, s.requires.4)) in (
       subst⁻¹ (λ (k : ℕ). EndsLent k s.args.links.now) e s.requires.0,

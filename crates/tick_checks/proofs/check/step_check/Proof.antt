@@ -12,8 +12,8 @@ returns c =
     let i = c.before in
     let f = i.before in
     let e = f.before in
-    let t = e.before in
-    let a = t.before.before.before.before.before.args in
+    let t = e in
+    let a = t.args in
     let l = lent_sheet a.sheet.now 0 a.words.now a.numbers.now a.links.now a.draws.now [] in
     let four = a.alpha ∷ a.s.target ∷ a.s.alpha_decay ∷ a.s.velocity_decay ∷ [] in
     answered-settings l a.budget (four ++ (a.alpha_min ∷ [])) i.input_check.result f.first-settings.result c.first.result i.input_check.ensures

@@ -9,8 +9,8 @@ use Rattle.tick_checks.proofs.check.tick_check.Tie as tie
 returns : tie.Need-returns
 returns c =
     let t = c.before in
-    let i = t.before in
-    let a = i.before.before.before.before.before.args in
+    let i = t in
+    let a = i.args in
     let l = lent_sheet a.sheet.now 0 a.words.now a.numbers.now a.links.now a.draws.now [] in
     answered-settings l 0 (a.alpha ∷ a.s.target ∷ a.s.alpha_decay ∷ a.s.velocity_decay ∷ []) i.input_check.result t.tick_settings.result c.first.result
     i.input_check.ensures t.tick_settings.ensures c.first.ensures

@@ -8,8 +8,8 @@ use Rattle.tick_checks.proofs.check.tick_settings.Tie as tie
 returns : tie.Need-returns
 returns c =
     let t = c.before in
-    let o = t.before in
-    let a = o.before.args in
+    let o = t in
+    let a = o.args in
     answer_settings (a.alpha ∷ []) (a.s.target ∷ a.s.alpha_decay ∷ a.s.velocity_decay ∷ []) o.setting_check.result t.settings_check.result c.first.result
     o.setting_check.ensures t.settings_check.ensures c.first.ensures
 

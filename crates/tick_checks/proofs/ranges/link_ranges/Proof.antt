@@ -19,8 +19,8 @@ use Rattle.tick_checks.proofs.ranges.link_ranges.Tie as tie
 returns : tie.Need-returns
 returns c =
     let d = c.before in
-    let s = d.before.before in
-    let a = s.before.before.before.args in
+    let s = d in
+    let a = s.args in
     let strengths = take a.strengths a.part.now in
     let distances = drop a.strengths a.part.now in
     answer_then (strengths_check strengths) (distances_check distances) s.strengths_check-first_part.result d.distances_check-rest.result c.first.result
@@ -32,7 +32,7 @@ pub link_ranges_spec : {M : Type 1} → statement M
 link_ranges_spec =
     tie.close
     (tie.spec
-    (λ c. let s = c.before.before in sym (length-take-le s.args.strengths s.args.part.now s.requires))
+    (λ c. let s = c in sym (length-take-le s.args.strengths s.args.part.now s.requires))
     (λ c κs. search rules)
     (λ c. search rules)
     (λ c. search rules)

@@ -8,12 +8,12 @@ use borrow.Fn.PlainCycle.{Measures, is, falls, and}
 use Rattle.rules.specs.Tree.{Tree, depth}
 use Rattle.tree_build.specs.Depth.{Goes}
 use Rattle.tree_build.proofs.Levels.{goes_none, goes_some, goes_leaf, Opens, goes_node}
-use Rattle.tree_build.proofs.depth.levels-a.Reads as levels
-use Rattle.tree_build.proofs.depth.levels-a.Kinds as levels-kinds
+use Rattle.tree_build.proofs.depth.levels.Reads as levels
+use Rattle.tree_build.proofs.depth.levels.Kinds as levels-kinds
 use Rattle.tree_build.proofs.depth.+levels.Lts-levels as lts
-use Rattle.tree_placing.proofs.greater-left.Reads as greater-reads
+use Rattle.tree_placing.proofs.greater.Reads as greater-reads
 use Rattle.tree_slots.specs.Slots.{InSlots}
-use Rattle.tree_slots.proofs.store.children-children.Reads as children-reads
+use Rattle.tree_slots.proofs.store.children.Reads as children-reads
 use Rattle.tree_slots.proofs.store.tag.Reads as tag-reads
 use Rattle.tree_build.proofs.depth.+levels.{statement}
 use Rattle.tree_build.proofs.depth.+levels.Tie.{close}
