@@ -7,7 +7,7 @@ use Rattle.lister.proofs.list_input.Tie as tie
 
 -- what was written lies within the buffer
 slice-aggregate-write-all : tie.Need-slice_bounds-write_all-end-2
-slice-aggregate-write-all c = sym (length-take-le _ _ c.before.before.before.list_sheet-size.ensures.1)
+slice-aggregate-write-all c = sym (length-take-le _ _ c.list_sheet-size.ensures.1)
 
 pub list_input_spec : {M : Type 1} → statement M
 list_input_spec =

@@ -40,11 +40,11 @@ returns-2 : tie.Need-returns-then-slots-q
 returns-2 c is g h =
     let b = c.before.before.before.before in
     let k = b.before in
-    grown-split-full _ _ _ _ _ g _ _ _ _ h (start k).requires.3 k.shared_levels-g.result k.shared_levels-g.ensures b.if-g-left.false (omega (arith, c.before.before.slots.ensures, c.if-slots-q.true))
+    grown-split-full _ _ _ _ _ g _ _ _ _ h (start k).requires.3 k.shared_levels-g.result k.shared_levels-g.ensures b.if-g-left.false (omega (arith, c.slots.ensures, c.if-slots-q.true))
 
 -- there is room
 fits : (c : tie.Else-slots-q) → let k = c.before.before.before.before.before in (start k).args.q.nodes + k.shared_levels-g.result + 2 ≤ slots_of (start k).args.m.now
-fits c = omega (arith, c.before.before.slots.ensures, c.if-slots-q.false)
+fits c = omega (arith, c.slots.ensures, c.if-slots-q.false)
 
 split-requires : tie.Need-split-requires
 split-requires c κs =
@@ -64,7 +64,7 @@ returns-3 c is g h =
 
 -- from after the split back to the count
 abbrev shared : tie.After-slice_known-2-1 → tie.After-shared_levels-g
-shared c = c.before.before.before.before.before.before.before.before.before
+shared c = c.before.before.before.before.before.before.before.before
 
 pub at_leaf_spec : {M : Type 1} → statement M
 at_leaf_spec =

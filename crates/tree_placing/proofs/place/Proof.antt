@@ -13,7 +13,7 @@ use Rattle.tree_placing.proofs.place.Tie as tie
 
 -- where the function begins
 abbrev start : tie.After-find-stop → tie.Start
-start c = c.before.before.before.before.before.before
+start c = c.before.before.before.before.before
 
 -- ---- at a leaf
 
@@ -44,14 +44,14 @@ returns c is g =
     let t = j.before.before.before in
     let h = t.before.before.before in
     let s = start h.before.before in
-    placed-joined _ _ _ _ _ _ _ g s.requires.2 _ _ _ _ (found-leaf h is g.seeks) (sym t.before.same.ensures ∙ t.if-same.true) j.join.new.next j.join.new.tail j.join.ensures.0 j.join.ensures.1
+    placed-joined _ _ _ _ _ _ _ g s.requires.2 _ _ _ _ (found-leaf h is g.seeks) (sym t.same.ensures ∙ t.if-same.true) j.join.new.next j.join.new.tail j.join.ensures.0 j.join.ensures.1
 
 at-leaf-requires : tie.Need-at_leaf-requires
 at-leaf-requires c κs =
     let e = c.before in
     let h = e.before.before.before in
     let s = start h.before.before in
-    (_, s.requires.1.seeks, found-leaf h _ s.requires.1.seeks, sym e.before.same.ensures ∙ e.if-same.false)
+    (_, s.requires.1.seeks, found-leaf h _ s.requires.1.seeks, sym e.same.ensures ∙ e.if-same.false)
 
 returns-3 : tie.Need-returns-else-same
 returns-3 c is g =
@@ -60,7 +60,7 @@ returns-3 c is g =
     let h = e.before.before.before in
     let s = start h.before.before in
     let f = found-leaf h is g.seeks in
-    placed _ is a.at_leaf.new.m _ _ s.args.q.extent _ a.at_leaf.result (a.at_leaf.ensures is g.seeks f) (kept _ _ _ _ _ _ _ g s.requires.2 (leaf-new-point _ _ _ _ _ g.seeks _ _ _ _ f (sym e.before.same.ensures ∙ e.if-same.false)))
+    placed _ is a.at_leaf.new.m _ _ s.args.q.extent _ a.at_leaf.result (a.at_leaf.ensures is g.seeks f) (kept _ _ _ _ _ _ _ g s.requires.2 (leaf-new-point _ _ _ _ _ g.seeks _ _ _ _ f (sym e.same.ensures ∙ e.if-same.false)))
 
 -- ---- at a hole
 
@@ -87,7 +87,7 @@ hang-requires c κs =
 
 -- from after the leaf is hung back to the hole
 abbrev hole : tie.After-slice_known-in-Hole-1 → tie.In-Hole-2
-hole c = c.before.before.before.before.before.before.before.before.before
+hole c = c.before.before.before.before.before.before.before.before
 
 returns-4 : tie.Need-returns-else-slots-q
 returns-4 c is g =

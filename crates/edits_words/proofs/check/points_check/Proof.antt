@@ -19,20 +19,18 @@ decreases-loop edits n k₀ k = n - k
 
 returns : tie.Need-returns-then-number-ne0 invariant-loop decreases-loop
 returns c =
-    let p = c in
-    let o = p.loop-k in
-    let w = p.args.edits.now in
+    let o = c.loop-k in
+    let w = c.args.edits.now in
     rw o.invariant.1
-    (answer_stop point_check (λ k. edits_of (drop (k * edit_words) w)) o.k (edit_at w o.k) (edits-next w o.k (omega arith)) p.point_check-r.result p.point_check-r.ensures c.if-number-ne0.true)
+    (answer_stop point_check (λ k. edits_of (drop (k * edit_words) w)) o.k (edit_at w o.k) (edits-next w o.k (omega arith)) c.point_check-r.result c.point_check-r.ensures c.if-number-ne0.true)
 
 loop-again : tie.Need-loop-k-preserved invariant-loop decreases-loop
 loop-again c =
-    let p = c in
-    let o = p.loop-k in
-    let w = p.args.edits.now in (
+    let o = c.loop-k in
+    let w = c.args.edits.now in (
       omega arith,
       o.invariant.1
-          ∙ answer_on point_check (λ k. edits_of (drop (k * edit_words) w)) o.k (edit_at w o.k) (edits-next w o.k (omega arith)) p.point_check-r.result p.point_check-r.ensures
+          ∙ answer_on point_check (λ k. edits_of (drop (k * edit_words) w)) o.k (edit_at w o.k) (edits-next w o.k (omega arith)) c.point_check-r.result c.point_check-r.ensures
           (point_early o.k (edit_at w o.k)) c.if-number-ne0.false,
     )
 

@@ -21,29 +21,24 @@ decreases-loop links counts₀ n k₀ counts k = n - k
 
 count-link-requires : tie.Need-count_link-requires invariant-loop decreases-loop
 count-link-requires c κs =
-    let b = c in
-    let l = b.loop-k in
-    count_room b.requires.0 l.k b.loop-k-test.true l.counts l.invariant.2 c.wide.result c.wide-in-loop-k.result
+    let l = c.loop-k in
+    count_room c.requires.0 l.k c.loop-k-test.true l.counts l.invariant.2 c.wide.result c.wide-in-loop-k.result
     c.wide.ensures c.wide-in-loop-k.ensures
 
 loop-again : tie.Need-loop-k-preserved invariant-loop decreases-loop
 loop-again c =
-    let d = c.before.before in
-    let i = d.before in
-    let b = i in
-    let l = b.loop-k in (
+    let l = c.loop-k in (
       omega arith,
-      d.count_link.auto.counts ∙ l.invariant.1,
-      count_turn b.requires.0 l.k b.loop-k-test.true l.counts l.invariant.2 i.wide.result i.wide-in-loop-k.result
-          i.wide.ensures i.wide-in-loop-k.ensures d.count_link.new.counts d.count_link.ensures,
+      c.count_link.auto.counts ∙ l.invariant.1,
+      count_turn c.requires.0 l.k c.loop-k-test.true l.counts l.invariant.2 c.wide.result c.wide-in-loop-k.result
+          c.wide.ensures c.wide-in-loop-k.ensures c.count_link.new.counts c.count_link.ensures,
     )
 
 returns : tie.Need-returns invariant-loop decreases-loop
 returns c =
     let l = c.loop-k in
-    let s = c in
-    let e : l.k ≡ length s.args.links.now / 2 = omega arith in
-    l.invariant.2 ∙ ap (λ k. tallies (length s.args.counts.now) (ends_from s.args.links.now k)) e
+    let e : l.k ≡ length c.args.links.now / 2 = omega arith in
+    l.invariant.2 ∙ ap (λ k. tallies (length c.args.counts.now) (ends_from c.args.links.now k)) e
 
 pub count_ends_spec : {M : Type 1} → statement M
 count_ends_spec =

@@ -28,9 +28,8 @@ loop-holds c = (omega arith, rw (to_z-of_z w64 c.args.centre c.ranges.centre) (a
 short-way-requires : tie.Need-short_way-end-requires invariant-loop decreases-loop
 short-way-requires c κs =
     let o = c.loop-i in
-    let s = c in
-    let l = s.args.corners.now in
-    rw (to_z-of_z w64 (corner_at l o.i) (sfits_of c.short-way-arg.given)) (asked l s.args.centre s.requires o.i (to_z w64 o.end) (omega arith) o.invariant.1)
+    let l = c.args.corners.now in
+    rw (to_z-of_z w64 (corner_at l o.i) (sfits_of c.short-way-arg.given)) (asked l c.args.centre c.requires o.i (to_z w64 o.end) (omega arith) o.invariant.1)
 
 loop-again : tie.Need-loop-i-preserved invariant-loop decreases-loop
 loop-again c =
@@ -44,8 +43,7 @@ returns : tie.Need-returns invariant-loop decreases-loop
 unfolding outline
 returns c =
     let o = c.loop-i in
-    let s = c in
-    let e = rw (to_z-of_z w64 s.args.centre s.ranges.centre, drop_of_length-le s.args.corners.now {i = o.i} (omega arith)) at o.invariant.2 in
+    let e = rw (to_z-of_z w64 c.args.centre c.ranges.centre, drop_of_length-le c.args.corners.now {i = o.i} (omega arith)) at o.invariant.2 in
     sym e
 
 pub last_spec : {M : Type 1} → statement M

@@ -31,9 +31,8 @@ loop-holds c = (omega arith, rw (to_z-of_z w64 c.args.centre c.ranges.centre) (a
 short-way-requires : tie.Need-short_way-at-requires invariant-loop decreases-loop
 short-way-requires c κs =
     let o = c.loop-i in
-    let s = c in
-    let l = s.args.corners.now in
-    rw (to_z-of_z w64 (corner_at l o.i) (sfits_of c.short-way-arg.given)) (asked l s.args.centre s.requires.0 o.i (to_z w64 o.at) (omega arith) o.invariant.1)
+    let l = c.args.corners.now in
+    rw (to_z-of_z w64 (corner_at l o.i) (sfits_of c.short-way-arg.given)) (asked l c.args.centre c.requires.0 o.i (to_z w64 o.at) (omega arith) o.invariant.1)
 
 loop-again : tie.Need-loop-i-preserved invariant-loop decreases-loop
 loop-again c =
@@ -52,8 +51,7 @@ returns : tie.Need-returns invariant-loop decreases-loop
 unfolding outline
 returns c =
     let o = c.loop-i in
-    let s = c in
-    let e = rw (to_z-of_z w64 s.args.centre s.ranges.centre, drop_of_length-le s.args.corners.now {i = o.i} (omega arith)) at o.invariant.3 in
+    let e = rw (to_z-of_z w64 c.args.centre c.ranges.centre, drop_of_length-le c.args.corners.now {i = o.i} (omega arith)) at o.invariant.3 in
     sym (e ∙ overwritten-none o.unwrapped o.i)
 
 pub lay_spec : {M : Type 1} → statement M

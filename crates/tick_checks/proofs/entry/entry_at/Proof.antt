@@ -8,13 +8,12 @@ use Rattle.tick_checks.proofs.entry.entry_at.Tie as tie
 returns : tie.Need-returns
 unfolding entry_at
 returns c =
-    let w = c in
     rw (
       add-zero,
-      w.word-kind.ensures,
-      w.word-iterations.ensures,
-      w.word-links.ensures,
-      w.word-strengths.ensures,
+      c.word-kind.ensures,
+      c.word-iterations.ensures,
+      c.word-links.ensures,
+      c.word-strengths.ensures,
       c.float_of-a.ensures,
       c.word.ensures,
       c.float_of-b.ensures,

@@ -23,9 +23,8 @@ is c = let a = c.args in c.links_needed-total.ensures ∙ ap links_needed c.entr
 add_total : tie.Need-overflow_add-total invariant-loop decreases-loop
 add_total c =
     let o = c.loop-i in
-    let s = c in
-    let a = s.args in
-    record { fits = subst⁻¹ (λ (m : ℕ). o.total + m < 2 ^ 64) (is c) (lt_of_le_of_lt (summed-fits links_needed a.words.now o.total o.i o.invariant (omega arith)) s.requires) }
+    let a = c.args in
+    record { fits = subst⁻¹ (λ (m : ℕ). o.total + m < 2 ^ 64) (is c) (lt_of_le_of_lt (summed-fits links_needed a.words.now o.total o.i o.invariant (omega arith)) c.requires) }
 
 loop-again : tie.Need-loop-i-preserved invariant-loop decreases-loop
 loop-again c =

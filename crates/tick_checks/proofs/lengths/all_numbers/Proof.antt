@@ -19,10 +19,9 @@ decreases-loop words n total₀ i₀ total i = force_slots - i
 numbers-needed-requires : tie.Need-numbers_needed-total-requires invariant-loop decreases-loop
 numbers-needed-requires c κs =
     let o = c.loop-i in
-    let s = c in
-    let a = s.args in
+    let a = c.args in
     subst⁻¹ (λ (e : ForceEntry). numbers_needed a.n e < 2 ^ 64) c.entry_at.ensures
-    (lt_of_le_of_lt (summed-need (numbers_needed a.n) a.words.now o.total o.i o.invariant (omega arith)) s.requires)
+    (lt_of_le_of_lt (summed-need (numbers_needed a.n) a.words.now o.total o.i o.invariant (omega arith)) c.requires)
 
 -- what was answered is what the entry needs
 is : (c : tie.After-numbers_needed-total invariant-loop decreases-loop) → let a = c.args in
@@ -32,9 +31,8 @@ is c = let a = c.args in c.numbers_needed-total.ensures ∙ ap (numbers_needed a
 add_total : tie.Need-overflow_add-total invariant-loop decreases-loop
 add_total c =
     let o = c.loop-i in
-    let s = c in
-    let a = s.args in
-    record { fits = subst⁻¹ (λ (m : ℕ). o.total + m < 2 ^ 64) (is c) (lt_of_le_of_lt (summed-fits (numbers_needed a.n) a.words.now o.total o.i o.invariant (omega arith)) s.requires) }
+    let a = c.args in
+    record { fits = subst⁻¹ (λ (m : ℕ). o.total + m < 2 ^ 64) (is c) (lt_of_le_of_lt (summed-fits (numbers_needed a.n) a.words.now o.total o.i o.invariant (omega arith)) c.requires) }
 
 loop-again : tie.Need-loop-i-preserved invariant-loop decreases-loop
 loop-again c =

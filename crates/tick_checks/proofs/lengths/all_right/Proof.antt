@@ -17,20 +17,18 @@ decreases-loop words i₀ i = force_slots - i
 
 returns : tie.Need-returns-then-not-strengths_right invariant-loop decreases-loop
 returns c =
-    let w = c in
-    let o = w.loop-i in
-    right_stop strengths_right w.args.words.now o.i (omega arith) w.strengths_right.result
-    (w.strengths_right.ensures ∙ ap strengths_right w.entry_at.ensures) c.if-not-strengths_right.true-raw
+    let o = c.loop-i in
+    right_stop strengths_right c.args.words.now o.i (omega arith) c.strengths_right.result
+    (c.strengths_right.ensures ∙ ap strengths_right c.entry_at.ensures) c.if-not-strengths_right.true-raw
     ∙ sym o.invariant.1
 
 loop-again : tie.Need-loop-i-preserved invariant-loop decreases-loop
 loop-again c =
-    let w = c in
-    let o = w.loop-i in (
+    let o = c.loop-i in (
       omega arith,
       o.invariant.1
-          ∙ right-on strengths_right w.args.words.now o.i (omega arith) w.strengths_right.result
-          (w.strengths_right.ensures ∙ ap strengths_right w.entry_at.ensures) c.if-not-strengths_right.false-raw,
+          ∙ right-on strengths_right c.args.words.now o.i (omega arith) c.strengths_right.result
+          (c.strengths_right.ensures ∙ ap strengths_right c.entry_at.ensures) c.if-not-strengths_right.false-raw,
     )
 
 returns-2 : tie.Need-returns invariant-loop decreases-loop

@@ -27,8 +27,7 @@ links s = sum (map links_needed (entries_of s.args.words.now))
 -- once the strengths are right, all is small
 small : (c : tie.Else-not-all_right) → (numbers c.before.before ≤ 131072) × (links c.before.before ≤ 65536)
 small c =
-    let s = c in
-    all_small s.args.n s.args.words.now s.requires.0 s.requires.1 (sym c.before.All-right.ensures ∙ not-false c.before.All-right.result c.if-not-all_right.false-raw)
+    all_small c.args.n c.args.words.now c.requires.0 c.requires.1 (sym c.before.All-right.ensures ∙ not-false c.before.All-right.result c.if-not-all_right.false-raw)
 
 returns : tie.Need-returns-then-not-all_right
 returns c =

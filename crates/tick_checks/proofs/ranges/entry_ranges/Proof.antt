@@ -24,12 +24,10 @@ returns-2 c = rw c.in-1.is c.strengths_check.ensures
 returns-3 : tie.Need-returns-in-2
 unfolding kind_ranges
 returns-3 c =
-    let s = c.before in
-    let d = s in
-    let a = d.args in
-    rw d.in-2.is
-    (answer_then (distances_check a.part.now) (settings_check (a.e.a ∷ [])) d.distances_check.result s.setting_check.result c.first.result
-    (of_all distance_range 5 five a.part.now) d.distances_check.ensures s.setting_check.ensures c.first.ensures)
+    let a = c.args in
+    rw c.in-2.is
+    (answer_then (distances_check a.part.now) (settings_check (a.e.a ∷ [])) c.distances_check.result c.setting_check.result c.first.result
+    (of_all distance_range 5 five a.part.now) c.distances_check.ensures c.setting_check.ensures c.first.ensures)
 
 returns-4 : tie.Need-returns-in-3
 unfolding kind_ranges

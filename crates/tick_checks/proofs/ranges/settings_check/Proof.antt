@@ -7,11 +7,10 @@ use Rattle.tick_checks.proofs.ranges.settings_check.Tie as tie
 
 returns : tie.Need-returns
 returns c =
-    let two = c in
-    let a = two.args in
-    answer_settings (a.a ∷ a.b ∷ []) (a.c ∷ []) two.first.result c.setting_check-3.result c.first-2.result
-    (answer_settings (a.a ∷ []) (a.b ∷ []) two.setting_check.result two.setting_check-2.result two.first.result
-    two.setting_check.ensures two.setting_check-2.ensures two.first.ensures)
+    let a = c.args in
+    answer_settings (a.a ∷ a.b ∷ []) (a.c ∷ []) c.first.result c.setting_check-3.result c.first-2.result
+    (answer_settings (a.a ∷ []) (a.b ∷ []) c.setting_check.result c.setting_check-2.result c.first.result
+    c.setting_check.ensures c.setting_check-2.ensures c.first.ensures)
     c.setting_check-3.ensures c.first-2.ensures
 
 pub settings_check_spec : {M : Type 1} → statement M

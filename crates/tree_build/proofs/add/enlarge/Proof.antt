@@ -14,16 +14,16 @@ use Rattle.tree_build.proofs.add.enlarge.Tie as tie
 
 -- where the function begins
 abbrev start : tie.After-tag → tie.Start
-start c = c.before.before.before.before
+start c = c.before.before.before
 
 tag-requires : tie.Need-tag-requires
-tag-requires c κs = let s = c.before.before.before in root_slot _ _ _ _ s.requires.1.holds s.requires.2
+tag-requires c κs = root_slot _ _ _ _ c.requires.1.holds c.requires.2
 
 returns : tie.Need-returns-then-tag-ne0
 returns c is g =
     let t = c.before in
     let s = start t.before in
-    leaf-enlarged _ _ _ _ s.args.covered _ g s.requires.2 (λ z. t.if-tag-ne0.true (t.before.tag.ensures ∙ z))
+    leaf-enlarged _ _ _ _ s.args.covered _ g s.requires.2 (λ z. t.if-tag-ne0.true (t.tag.ensures ∙ z))
 
 deepest-requires : tie.Need-deepest-deepest-requires
 deepest-requires c κs =
@@ -32,10 +32,10 @@ deepest-requires c κs =
 
 -- from after the levels were looked at back to the tag
 abbrev tagged : tie.After-deepest-deepest → tie.After-tag
-tagged c = c.before.before.before
+tagged c = c.before.before
 
 internal : (c : tie.After-deepest-deepest) → let a = (start (tagged c)).args in InternalIn a.m.now (a.q.root - 1)
-internal c = sym (tagged c).tag.ensures ∙ c.before.before.if-tag-ne0.false
+internal c = sym (tagged c).tag.ensures ∙ c.if-tag-ne0.false
 
 -- the bound, for any list
 deep : (c : tie.After-deepest-deepest) → let a = (start (tagged c)).args in (is : List ℕ) (g : Seeks a.at.now is a.m.now a.q a.p) → Deepest a.covered.doublings g.holds.tree c.deepest-deepest.result
@@ -88,4 +88,4 @@ enlarge_spec =
     returns-3
     (λ c κs. let s = start (tagged c.before.before.before.before.before.before.before) in (_, asks c _ s.requires.1))
     (λ c. search rules)
-    (λ c is g. c.before.before.wrap.ensures is (asks c.before.before.before is g)))
+    (λ c is g. c.wrap.ensures is (asks c.before.before.before is g)))

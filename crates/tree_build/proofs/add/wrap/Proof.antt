@@ -36,14 +36,13 @@ left-wraps c = let s = start c in c.loop-left.invariant.1 s.requires.0 s.args.co
 doubled : (c : tie.After-double_once-doubled invariant-loop decreases-loop)
     → let d = c.before.before in let s = start d in DoubledTo d.loop-left.wrapped.extent (floor (x_at s.args.at.now s.args.p)) (floor (y_at s.args.at.now s.args.p)) c.double_once-doubled.result
 doubled c =
-    let d = c.before.before in
-    subst₂ (λ (x y : Float). DoubledTo d.loop-left.wrapped.extent (floor x) (floor y) c.double_once-doubled.result) d.before.before.x_at-x.ensures d.before.y_at-y.ensures c.double_once-doubled.ensures
+    subst₂ (λ (x y : Float). DoubledTo c.loop-left.wrapped.extent (floor x) (floor y) c.double_once-doubled.result) c.x_at-x.ensures c.y_at-y.ensures c.double_once-doubled.ensures
 
 double-once-requires : tie.Need-double_once-doubled-requires invariant-loop decreases-loop
 double-once-requires c κs =
     let d = c.before in
     let s = start d in
-    subst₂ (λ (x y : Float). Near d.loop-left.wrapped.extent x y × (inside (square_of d.loop-left.wrapped.extent) (floor x) (floor y) ≡ false)) (sym d.before.before.x_at-x.ensures) (sym d.before.y_at-y.ensures)
+    subst₂ (λ (x y : Float). Near d.loop-left.wrapped.extent x y × (inside (square_of d.loop-left.wrapped.extent) (floor x) (floor y) ≡ false)) (sym d.x_at-x.ensures) (sym d.y_at-y.ensures)
     (wrap-asks _ _ _ _ _ _ _ (left-wraps d) c.loop-left-test.true)
 
 only-requires : tie.Need-only-children-requires invariant-loop decreases-loop
@@ -52,7 +51,7 @@ only-requires c κs =
     let d = b.before.before in
     let s = start d in
     let w = left-wraps d in (
-      wrap-quadrant _ _ _ _ _ _ _ w b.before.loop-left-test.true b.double_once-doubled.result (doubled b),
+      wrap-quadrant _ _ _ _ _ _ _ w b.loop-left-test.true b.double_once-doubled.result (doubled b),
       (let r = wrap-root _ _ _ _ _ _ _ w in omega (arith, w.small)),
     )
 
@@ -68,16 +67,16 @@ loop-again c =
     let b = a.before.before.before.before in
     let d = b.before.before in
     let s = start d in
-    let e = a.put_internal.ensures ∙ ap (put_internal d.loop-left.m d.loop-left.wrapped.nodes) a.before.before.only-children.ensures in (
+    let e = a.put_internal.ensures ∙ ap (put_internal d.loop-left.m d.loop-left.wrapped.nodes) a.only-children.ensures in (
       a.put_internal.auto.m ∙ d.loop-left.invariant.0,
-      λ is to w. wrap-turn _ _ _ _ _ _ _ (d.loop-left.invariant.1 is to w) b.before.loop-left-test.true b.double_once-doubled.result (doubled b) a.put_internal.new.m e,
+      λ is to w. wrap-turn _ _ _ _ _ _ _ (d.loop-left.invariant.1 is to w) b.loop-left-test.true b.double_once-doubled.result (doubled b) a.put_internal.new.m e,
     )
 
 returns : tie.Need-returns invariant-loop decreases-loop
-returns c is w = let d = c.before in wrap-end _ _ _ _ _ _ _ (d.loop-left.invariant.1 is _ w) c.loop-left-test.false
+returns c is w = wrap-end _ _ _ _ _ _ _ (c.loop-left.invariant.1 is _ w) c.loop-left-test.false
 
 -- a slot's number fits
-nodes-fit : (c : tie.In-loop-left invariant-loop decreases-loop) → c.before.loop-left.wrapped.nodes + 1 < 4294967296
+nodes-fit : (c : tie.In-loop-left invariant-loop decreases-loop) → c.loop-left.wrapped.nodes + 1 < 4294967296
 nodes-fit c = let w = left-wraps c.before in omega (arith, w.small, c.loop-left-test.true)
 
 pub wrap_spec : {M : Type 1} → statement M

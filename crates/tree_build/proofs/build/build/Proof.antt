@@ -27,8 +27,7 @@ start c = c.before.before.before.before.before
 
 loop-holds : tie.Need-loop-p-init invariant-loop decreases-loop
 loop-holds c =
-    let s = c.before.before.before.before in
-    (refl, refl, refl, omega arith, build_start s.args.at.now s.args.m.now s.args.next.now s.args.tail.now)
+    (refl, refl, refl, omega arith, build_start c.args.at.now c.args.m.now c.args.next.now c.args.tail.now)
 
 -- what adding the next particle asks
 puts : (t : tie.In-loop-p invariant-loop decreases-loop) → let d = t.before in Puts (start d).args.at.now (up_to d.loop-p.p) d.loop-p.m d.loop-p.next d.loop-p.tail d.loop-p.q d.loop-p.p
@@ -51,7 +50,7 @@ test c = c.before.before.before.before
 
 -- as many slots as at the start
 same-slots : (c : tie.After-add_next-answer invariant-loop decreases-loop) → slots_of c.add_next-answer.new.m ≡ slots_of (start (test c).before).args.m.now
-same-slots c = ap (λ (k : ℕ). k / slot_words) (c.add_next-answer.auto.m ∙ (test c).before.loop-p.invariant.2)
+same-slots c = ap (λ (k : ℕ). k / slot_words) (c.add_next-answer.auto.m ∙ (test c).loop-p.invariant.2)
 
 -- what has become of the particle
 placed : (c : tie.After-add_next-answer invariant-loop decreases-loop) (r : Inserted) → c.add_next-answer.result ≡ r
