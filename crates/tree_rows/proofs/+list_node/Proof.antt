@@ -198,7 +198,7 @@ cast-s t c = search rules
 tag-requires : (t : ℕ) → list-node-lts.Need-tag-first-requires (rd t) (list-node-at t) list-node.Post
 tag-requires t c κs = (some t c).slot
 
-cast-list-leaf : (t : ℕ) → list-node-lts.Need-overflow-cast-list-leaf (rd t) (list-node-at t) list-node.Post
+cast-list-leaf : (t : ℕ) → list-node-lts.Need-overflow_cast-first (rd t) (list-node-at t) list-node.Post
 cast-list-leaf t c = omega (arith, (a-leaf t c (entry c).requires.1.0 (entry c).requires.1.1).small, (entry c).requires.1.1.few)
 
 list-leaf-requires : (t : ℕ) → list-node-lts.Need-list_leaf-requires (rd t) (list-node-at t) list-node.Post
@@ -225,7 +225,7 @@ children-requires t c κs = (some t (else1-from-put-row c.before.before.before))
 add-below : (t : ℕ) → list-node-lts.Need-overflow_add-below (rd t) (list-node-at t) list-node.Post
 add-below t c = omega (arith, (some t (else1 c)).shallow)
 
-add-t30 : (t : ℕ) → list-node-lts.Need-overflow-add-t30 (rd t) (list-node-at t) list-node.Post
+add-t30 : (t : ℕ) → list-node-lts.Need-overflow_add-from (rd t) (list-node-at t) list-node.Post
 add-t30 t c = omega (arith, (some t (else1 c)).one, (entry-from-children-read c).requires.1.1.room)
 
 array-read-list-node : (t : ℕ) → list-node-lts.Need-bounds-kids-0 (rd t) (list-node-at t) list-node.Post

@@ -58,7 +58,7 @@ total t c x g =
     let l2 = l3.before in
     let l1 = l2.before in
     let o = opened t l1.before x g in
-    omega (arith, o.levels-a, c.greater.ensures, c.greater-right.ensures, c.greater-left.ensures, l1.levels-a.ensures _ o.g0, l2.levels-b.ensures _ o.g1, l3.levels-c.ensures _ o.g2, l4.levels-d.ensures _ o.g3)
+    omega (arith, o.levels, c.greater.ensures, c.greater-right.ensures, c.greater-left.ensures, l1.levels-a.ensures _ o.g0, l2.levels-b.ensures _ o.g1, l3.levels-c.ensures _ o.g2, l4.levels-d.ensures _ o.g3)
 
 pub +levels_spec : {M : Type 1} → statement M
 +levels_spec =
