@@ -27,7 +27,7 @@ spotted c is g = c.leaf_of-spot.ensures is (finds _ is _ _ _ _ _ g)
 -- the leaf's first particle is the first at the point of i
 first-is : (t : tie.After-tag-tag) (is : List ℕ) → Asked t.before.before.before.before.before.before is → (0 < t.tag-tag.result) × (t.tag-tag.result - 1 ≡ first (at_point t.args.at.now is t.args.i))
 first-is t is g =
-    let w = (spot-leaf _ is _ _ _ (finds _ is _ _ _ _ _ g) t.leaf_of-spot.result (spotted t.before is g)).1.tag-tag in
+    let w = (spot-leaf _ is _ _ _ (finds _ is _ _ _ _ _ g) t.leaf_of-spot.result (spotted t.before is g)).1.tag in
     (omega (arith, w, t.tag-tag.ensures), omega (arith, w, t.tag-tag.ensures))
 
 -- from the chains back to the leaf's word

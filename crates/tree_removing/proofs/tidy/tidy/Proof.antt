@@ -63,12 +63,12 @@ returns c t g =
 turn : (c : tie.After-fill-less invariant-loop decreases-loop) → let d = loop c.before.before.before.before.before in (t : Tree ℕ) → Tidies d.args.at.now d.args.m.now d.args.q d.args.i t
     → Tidying d.args.at.now c.fill-less.new.m d.args.q c.fill-less.result d.args.i t × (c.fill-less.result.nodes < d.loop-fold.less.nodes)
 turn c t g =
-    tidy-turn _ _ _ _ _ t (c.loop-fold.invariant.0 t g) (room c.before.before.before.before.before.before.before.before.before.before.before.before) c.requires.1.few c.requires.1.place c.lone-fold.result c.lone-fold.ensures c.if-fold-eq0.left c.put_leaf.new.m (put c.before.before.before.before.before) c.fewer.result c.fill-less.result c.fewer.ensures c.fill-less.new.m c.fill-less.ensures
+    tidy-turn _ _ _ _ _ t (c.loop-fold.invariant.0 t g) (room c.before.before.before.before.before.before.before.before.before.before.before.before) c.requires.1.few c.requires.1.place c.lone-fold.result c.lone-fold.ensures c.if-fold-eq0.false c.put_leaf.new.m (put c.before.before.before.before.before) c.fewer.result c.fill-less.result c.fewer.ensures c.fill-less.new.m c.fill-less.ensures
 
 fill-requires : tie.Need-fill-less-requires invariant-loop decreases-loop
 fill-requires c κs =
     subst (λ (q : Quadtree). (t : Tree ℕ) × Hollow c.args.at.now c.put_leaf.new.m q (c.lone-fold.result.child - 1) t) (sym c.fewer.ensures)
-    (tidy-hollow _ _ _ _ _ c.requires.0 (so_far c.before.before.before.before.before.before.before.before.before.before.before) (room c.before.before.before.before.before.before.before.before.before.before.before) c.requires.1.few c.requires.1.place c.lone-fold.result c.lone-fold.ensures c.if-fold-eq0.left c.put_leaf.new.m (put c.before.before.before.before))
+    (tidy-hollow _ _ _ _ _ c.requires.0 (so_far c.before.before.before.before.before.before.before.before.before.before.before) (room c.before.before.before.before.before.before.before.before.before.before.before) c.requires.1.few c.requires.1.place c.lone-fold.result c.lone-fold.ensures c.if-fold-eq0.false c.put_leaf.new.m (put c.before.before.before.before))
 
 pub tidy_spec : {M : Type 1} → statement M
 tidy_spec =
