@@ -19,17 +19,8 @@ use Rattle.edits_made.proofs.insert.insert_next.Tie as tie
 abbrev start : tie.After-add_next-answer → tie.Start
 start c = c.before.before.before.before.before.before.before.before.before
 
--- what has become of the point
-placed : (c : tie.After-add_next-answer) (r : Inserted) → c.add_next-answer.result ≡ r → let a = (start c).args in (is : List ℕ) → Now a.at.now (present a.made is) a.there.now a.m.now a.next.now a.tail.now a.q
-    → Placed a.at.now is c.add_next-answer.new.m c.add_next-answer.new.next c.add_next-answer.new.tail (extent_of (cover_first a.at.now (a.made + 1))) a.made r
-placed c r e is h =
-    let s = start c in
-    let a = s.args in
-    subst (λ (r : Inserted). Placed a.at.now is c.add_next-answer.new.m c.add_next-answer.new.next c.add_next-answer.new.tail (extent_of (cover_first a.at.now (a.made + 1))) a.made r) e
-    (c.add_next-answer.ensures is (insert-puts _ _ _ _ _ _ _ h s.requires.2 s.requires.3))
-
 -- as many slots
-size : (c : tie.After-add_next-answer) → length c.add_next-answer.new.m ≡ length (start c).args.m.now
+size : (c : tie.After-add_next-answer) → length c.add_next-answer.new.m ≡ length c.args.m.now
 size c = c.add_next-answer.auto.m
 
 add-next-requires : tie.Need-add_next-answer-requires
@@ -38,23 +29,16 @@ add-next-requires c κs =
 
 returns : tie.Need-returns-in-Done
 returns c is x y h =
-    let a = c.before in
-    let i = a.before.before.before.before.before.before.before.before in
-    let s = start i in
-    let d = placed i _ a.answer.given.1 is h in
-    (insert-fine _ _ _ _ _ _ _ h s.requires.2 s.requires.3 s.args.k x y i.add_next-answer.new.m (size i) d.0, insert-now _ _ _ _ _ _ _ h s.requires.2 s.requires.3 s.args.k x y i.add_next-answer.new.m (size i) _ _ _ refl _ d)
+    let d = c.in-Done.ensures is (insert-puts _ _ _ _ _ _ _ h c.requires.2 c.requires.3) in
+    (insert-fine _ _ _ _ _ _ _ h c.requires.2 c.requires.3 c.args.k x y c.add_next-answer.new.m (size c.before.before.before.before.before.before.before) d.0, insert-now _ _ _ _ _ _ _ h c.requires.2 c.requires.3 c.args.k x y c.add_next-answer.new.m (size c.before.before.before.before.before.before.before) _ _ _ refl _ d)
 
 returns-2 : tie.Need-returns-in-Deep
 returns-2 c is x y h =
-    let i = c.before.before.before.before.before.before.before.before.before in
-    let s = start i in
-    told _ _ _ _ _ _ _ _ _ _ _ c.refused.ensures (insert-refused _ _ _ _ _ _ _ h s.requires.2 s.requires.3 s.args.k x y i.add_next-answer.new.m (size i) 6 (placed i _ c.before.enum_told.given.1 is h))
+    told _ _ _ _ _ _ _ _ _ _ _ c.refused.ensures (insert-refused _ _ _ _ _ _ _ h c.requires.2 c.requires.3 c.args.k x y c.add_next-answer.new.m (size c.before.before.before.before.before.before.before.before) 6 (c.in-Deep.ensures is (insert-puts _ _ _ _ _ _ _ h c.requires.2 c.requires.3)))
 
 returns-3 : tie.Need-returns-in-Full
 returns-3 c is x y h =
-    let i = c.before.before.before.before.before.before.before.before.before in
-    let s = start i in
-    told _ _ _ _ _ _ _ _ _ _ _ c.refused-in-Full.ensures (insert-refused _ _ _ _ _ _ _ h s.requires.2 s.requires.3 s.args.k x y i.add_next-answer.new.m (size i) 7 (placed i _ c.enum_told-in-Full-1.given.1 is h))
+    told _ _ _ _ _ _ _ _ _ _ _ c.refused-in-Full.ensures (insert-refused _ _ _ _ _ _ _ h c.requires.2 c.requires.3 c.args.k x y c.add_next-answer.new.m (size c.before.before.before.before.before.before.before.before) 7 (c.in-Full.ensures is (insert-puts _ _ _ _ _ _ _ h c.requires.2 c.requires.3)))
 
 pub insert_next_spec : {M : Type 1} → statement M
 insert_next_spec =
@@ -63,7 +47,7 @@ insert_next_spec =
     add-next-requires
     (λ c. search rules)
     (λ c. search rules)
-    (λ c. let s = start c.before.before.before.before.before.before.before.before.before in omega (arith, s.requires.3, s.requires.2.flags))
+    (λ c. omega (arith, c.requires.3, c.requires.2.flags))
     (λ c. search rules)
     (λ c κs. search rules)
     (λ c. search rules)

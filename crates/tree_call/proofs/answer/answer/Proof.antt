@@ -19,27 +19,18 @@ came s b e o w = subst (λ (b : Built). Comes o b s.args.work.now s.args.next.no
 
 list-requires : tie.Need-list-requires
 list-requires c κs =
-    let a = c.before.before.before.before.before in
-    let s = a.before.before.before.before.before.before in
-    (_, (came s _ a.built-in-Tree-1.given.1 _ s.requires.1).2)
+    (_, (came c.before.before.before.before.before.before.before.before _ c.in-Tree.is _ c.requires.1).2)
 
 returns : tie.Need-returns-in-Refused
 returns c o w =
-    let r = c.before.before in
-    let a = r.before.before.before in
-    let s = a.before.before.before.before.before.before in
-    let k = came s _ a.built.given.1 o w in
-    answers_refused o _ _ _ _ _ _ _ a.built.given.1 k r.refuse.ensures.0 r.refuse.ensures.1
+    let k = came c.before.before.before.before.before.before.before.before.before _ c.in-Refused.is o w in
+    answers_refused o _ _ _ _ _ _ _ c.in-Refused.is k c.refuse.ensures.0 c.refuse.ensures.1
 
 returns-2 : tie.Need-returns-in-Tree
 returns-2 c o w =
-    let d = c.before.before.before in
-    let l = d.before.before.before.before.before.before in
-    let a = l.before.before.before.before.before.before in
-    let s = a.before.before.before.before.before.before in
-    let k = came s _ a.built-in-Tree-1.given.1 o w in
-    let f = l.list.ensures _ k.2 in
-    answers_listed o _ _ _ _ _ _ _ _ _ _ _ a.built-in-Tree-1.given.1 k.1 (lays_nodes k.2.stands) c.none.ensures refl f.0 f.1 d.clear.ensures
+    let k = came c.before.before.before.before.before.before.before.before.before.before.before.before.before.before.before.before.before.before _ c.in-Tree.is o w in
+    let f = c.list.ensures _ k.2 in
+    answers_listed o _ _ _ _ _ _ _ _ _ _ _ c.in-Tree.is k.1 (lays_nodes k.2.stands) c.none.ensures refl f.0 f.1 c.clear.ensures
 
 pub answer_spec : {M : Type 1} → statement M
 answer_spec =

@@ -9,31 +9,26 @@ use Rattle.tree_call.proofs.call.tree_with.Tie as tie
 abbrev answered : tie.After-slice_known-13-1 → tie.After-answer
 answered c = c.before.before.before.before.before.before
 
-abbrev built : tie.After-answer-arg4 → tie.After-build-built
-built c = c.before.before.before.before.before.before.before.before.before.before
+abbrev built : tie.After-answer-arg-3-1 → tie.After-build-built
+built c = c.before.before.before.before.before.before.before.before.before
 
-abbrev read : tie.After-build-arg4 → tie.After-read_pairs
-read c = c.before.before.before.before.before.before
+abbrev read : tie.After-build-arg-3-1 → tie.After-read_pairs
+read c = c.before.before.before.before.before
 
 abbrev start : tie.After-read_pairs → tie.Start
 start c = c.before.before.before.before.before.before.before.before.before
 
 build-requires : tie.Need-build-built-requires
-build-requires c κs = let r = read c in can_build (start r).requires r.read_pairs.ensures r.read_pairs.auto.out refl refl
+build-requires c κs = can_build c.requires c.read_pairs.ensures c.read_pairs.auto.out refl refl
 
 answer-requires : tie.Need-answer-requires
 answer-requires c κs =
-    let b = built c in
-    let r = read b.before in
-    (_, sheet-comes (start r).requires r.read_pairs.ensures r.read_pairs.auto.out b.build-built.new.m b.build-built.auto.m b.build-built.new.next b.build-built.auto.next b.build-built.result b.build-built.ensures)
+    (_, sheet-comes c.requires c.read_pairs.ensures c.read_pairs.auto.out c.build-built.new.m c.build-built.auto.m c.build-built.new.next c.build-built.auto.next c.build-built.result c.build-built.ensures)
 
 returns : tie.Need-returns
 returns c =
-    let a = answered c in
-    let b = built a.before in
-    let r = read b.before in
-    let k = sheet-comes (start r).requires r.read_pairs.ensures r.read_pairs.auto.out b.build-built.new.m b.build-built.auto.m b.build-built.new.next b.build-built.auto.next b.build-built.result b.build-built.ensures in
-    sheet-after (start r).requires r.read_pairs.ensures r.read_pairs.auto.out b.build-built.new.m b.build-built.auto.m b.build-built.new.next b.build-built.result b.build-built.ensures _ _ _ _ (a.answer.ensures _ k)
+    let k = sheet-comes c.requires c.read_pairs.ensures c.read_pairs.auto.out c.build-built.new.m c.build-built.auto.m c.build-built.new.next c.build-built.auto.next c.build-built.result c.build-built.ensures in
+    sheet-after c.requires c.read_pairs.ensures c.read_pairs.auto.out c.build-built.new.m c.build-built.auto.m c.build-built.new.next c.build-built.result c.build-built.ensures _ _ _ _ (c.answer.ensures _ k)
 
 pub tree_with_spec : {M : Type 1} → statement M
 tree_with_spec =
