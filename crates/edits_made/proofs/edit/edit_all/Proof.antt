@@ -33,13 +33,13 @@ abbrev start-from-loop-start : tie.After-slice_known-4-1 invariant-loop decrease
 start-from-loop-start c = c.before.before.before.before.before.before
 
 abbrev edited : tie.In-Tree invariant-loop decreases-loop → tie.After-edit_one-answer invariant-loop decreases-loop
-edited c = edited-from-slices c.before
+edited c = c.before.before.before.before.before.before.before.before.before
 
 abbrev looped : tie.After-edit_one-answer invariant-loop decreases-loop → tie.At-loop-k invariant-loop decreases-loop
-looped c = c
+looped c = c.before.before.before.before.before.before.before.before
 
 abbrev start : tie.At-loop-k invariant-loop decreases-loop → tie.Start invariant-loop decreases-loop
-start c = start-from-loop-start c.before
+start c = c.before.before.before.before.before.before.before
 
 -- there is an edit more
 more : (c : tie.In-loop-k invariant-loop decreases-loop) → c.loop-k.k * edit_words + edit_words ≤ length c.args.edits.now
@@ -81,7 +81,7 @@ same-slots c = ap (λ (n : ℕ). n / slot_words) (c.edit_one-answer.auto.m ∙ c
 returns : tie.Need-returns-in-Refused invariant-loop decreases-loop
 returns c =
     ap (λ (n : ℕ). edits_from c.args.at.now n 0 (present 0 []) (edits_of c.args.edits.now)) (same-slots c.before.before.before.before.before.before.before.before.before)
-    ∙ edit_refused _ _ _ _ _ _ _ _ _ _ c.loop-k.invariant.5 (more c.before.before.before.before.before.before.before.before.before.before.before.before.before.before.before.before) _ (changed c.before.before.before.before.before.before.before.before.before _ c.before.answer.given.1)
+    ∙ edit_refused _ _ _ _ _ _ _ _ _ _ c.loop-k.invariant.5 (more c.before.before.before.before.before.before.before.before.before.before.before.before.before.before.before.before) _ (changed c.before.before.before.before.before.before.before.before.before _ c.in-Refused.is)
 
 loop-again : tie.Need-loop-k-preserved invariant-loop decreases-loop
 loop-again c =
@@ -90,9 +90,9 @@ loop-again c =
       c.edit_one-answer.auto.next ∙ c.loop-k.invariant.1,
       c.edit_one-answer.auto.tail ∙ c.loop-k.invariant.2,
       c.edit_one-answer.auto.m ∙ c.loop-k.invariant.3,
-      omega (arith, c.loop-k-test.taken),
-      edit-next _ _ _ _ _ _ _ _ _ _ c.loop-k.invariant.5 (more c.before.before.before.before.before.before.before.before.before.before.before.before.before.before.before.before.before) _ _ _ _ _ (changed c.before.before.before.before.before.before.before.before.before.before _ c.answer-in-Tree-1.given.1) (c.requires.0.known c.loop-k.k (more c.before.before.before.before.before.before.before.before.before.before.before.before.before.before.before.before.before)) c.if-kind-eq0.made
-          (⊎_elim (λ t. inl (t.0.taken, t.1)) (λ e. inr (e.0.left, e.1)) c.if-kind-eq0.branch),
+      omega (arith, c.loop-k-test.true),
+      edit-next _ _ _ _ _ _ _ _ _ _ c.loop-k.invariant.5 (more c.before.before.before.before.before.before.before.before.before.before.before.before.before.before.before.before.before) _ _ _ _ _ (changed c.before.before.before.before.before.before.before.before.before.before _ c.in-Tree.is) (c.requires.0.known c.loop-k.k (more c.before.before.before.before.before.before.before.before.before.before.before.before.before.before.before.before.before)) c.if-kind-eq0.made
+          (⊎_elim (λ t. inl (t.if-kind-eq0.true, t.made-is)) (λ e. inr (e.if-kind-eq0.false, e.made-is)) c.if-kind-eq0.branch-raw),
     )
 
 returns-2 : tie.Need-returns invariant-loop decreases-loop
@@ -121,8 +121,8 @@ edit_all_spec =
     (λ c. search rules)
     returns
     (λ c. search rules)
-    (λ c. let d = looped c.before.before.before.before.before.before.before.before.before.before in omega (arith, few d, (start d).requires.1.lent.few))
-    (λ c. omega (arith, c.loop-k-test.taken, c.requires.0.few))
+    (λ c. omega (arith, few c.before.before.before.before.before.before.before.before.before.before.before.before.before.before.before.before.before.before, c.requires.1.lent.few))
+    (λ c. omega (arith, c.loop-k-test.true, c.requires.0.few))
     (λ c. search rules)
     loop-again
     (λ c. search rules)
