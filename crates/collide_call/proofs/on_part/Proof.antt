@@ -24,8 +24,8 @@ use Rattle.collide_call.proofs.on_part.Statement.{statement}
 use Rattle.collide_call.proofs.on_part.Tie as tie
 
 -- the points of the code, each from a later one
-abbrev entry : tie.After-read-pairs-arg2 → tie.Start
-entry c = c.before.before.before.before.before.before.before.before.before.before
+abbrev entry : tie.After-read_pairs-arg-1 → tie.Start
+entry c = c.before.before.before.before.before.before.before.before.before
 
 abbrev read : tie.After-numbers_check-r → tie.After-read_pairs
 read c = c.before.before.before
@@ -33,8 +33,8 @@ read c = c.before.before.before
 abbrev checked : tie.After-collide-arg-4-1 → tie.Else-number-ne0
 checked c = c.before.before.before.before
 
-abbrev ran : tie.After-settle-arg3 → tie.After-collide-ran
-ran c = c.before.before.before.before.before.before.before.before.before.before.before
+abbrev ran : tie.After-settle-arg-2-1 → tie.After-collide-ran
+ran c = c.before.before.before.before.before.before.before.before.before.before
 
 abbrev settled : tie.After-slice_known-12-1 → tie.After-settle
 settled c = c.before.before.before.before

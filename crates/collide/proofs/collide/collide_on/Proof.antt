@@ -16,14 +16,13 @@ rounded c =
 
 iterate-requires : tie.Need-iterate-requires
 iterate-requires c κs =
-    let p = c.before.before.before.before in
-    (p.requires.0, rounded p, omega (arith, few_visits (rounded p) p.requires.2, p.requires.2.room))
+    let p = rounded c.before.before.before in
+    (c.requires.0, p, omega (arith, few_visits p c.requires.2, c.requires.2.room))
 
 returns : tie.Need-returns
 returns c =
-    let i = c.before.before in
-    let p = i.before.before.before.before.before in
-    (i.iterate.ensures.0, omega (arith, i.iterate.ensures.1, few_visits (rounded p) p.requires.2))
+    let p = rounded c.before.before.before.before.before.before in
+    (c.iterate.ensures.0, omega (arith, c.iterate.ensures.1, few_visits p c.requires.2))
 
 pub collide_on_spec : {M : Type 1} → statement M
 collide_on_spec = tie.close (tie.spec (λ c κs. search rules) iterate-requires (λ c. search rules) (λ c. search rules) returns)

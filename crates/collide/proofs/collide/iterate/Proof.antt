@@ -90,13 +90,13 @@ returns c =
     let a = s.args in
     let r = w.walk_all-r.ensures.0 in (
       record {
-        is = left_refused (once s) a.iterations l.loop-k.k (turn w).loop-k-test.taken (come l) w.walk_all-r.new.vs a.draws.now w.walk_all-r.result r.is c.if-number-ne0.true
+        is = left_refused (once s) a.iterations l.loop-k.k (turn w).loop-k-test.true (come l) w.walk_all-r.new.vs a.draws.now w.walk_all-r.result r.is c.if-number-ne0.true
             ∙ sym l.loop-k.invariant.4 ∙ sym (left-first (once s) a.iterations (found s));
         alpha = r.alpha ∙ l.loop-k.invariant.5;
         draws = omega (arith, r.draws, l.loop-k.invariant.2);
         late = r.late;
       },
-      omega (arith, one_more l.loop-k.k a.iterations (most s) (turn w).loop-k-test.taken, l.loop-k.invariant.3, w.walk_all-r.ensures.1),
+      omega (arith, one_more l.loop-k.k a.iterations (most s) (turn w).loop-k-test.true, l.loop-k.invariant.3, w.walk_all-r.ensures.1),
     )
 
 loop-again : tie.Need-loop-k-preserved invariant-loop decreases-loop
@@ -111,7 +111,7 @@ loop-again c =
       omega (arith, r.draws, l.loop-k.invariant.2),
       omega (arith, l.loop-k.invariant.3, w.walk_all-r.ensures.1),
       l.loop-k.invariant.4
-          ∙ left-on (once s) a.iterations l.loop-k.k (turn w).loop-k-test.taken (come l) w.walk_all-r.new.vs a.draws.now w.walk_all-r.result r.is c.if-number-ne0.false,
+          ∙ left-on (once s) a.iterations l.loop-k.k (turn w).loop-k-test.true (come l) w.walk_all-r.new.vs a.draws.now w.walk_all-r.result r.is c.if-number-ne0.false,
       r.alpha ∙ l.loop-k.invariant.5,
     )
 

@@ -56,7 +56,7 @@ abbrev children-read : tie.After-push_slots invariant-loop2 decreases-loop2 inva
 children-read c = c.before.before.before.before
 
 abbrev then1-from-children : tie.In-Continue invariant-loop2 decreases-loop2 invariant-loop decreases-loop → tie.Then-tag-eq0 invariant-loop2 decreases-loop2 invariant-loop decreases-loop
-then1-from-children c = c.before.before.before.before
+then1-from-children c = c.before.before.before
 
 abbrev read : tie.Then-tag-eq0 invariant-loop2 decreases-loop2 invariant-loop decreases-loop → tie.After-waiting_at-e invariant-loop2 decreases-loop2 invariant-loop decreases-loop
 read c = c.before.before.before.before
@@ -77,7 +77,7 @@ abbrev then1 : tie.After-push_slots-arg-1 invariant-loop2 decreases-loop2 invari
 then1 c = then1-from-children c.before.before.before.before
 
 abbrev read-from-end : tie.In_default invariant-loop2 decreases-loop2 invariant-loop decreases-loop → tie.After-waiting_at-e invariant-loop2 decreases-loop2 invariant-loop decreases-loop
-read-from-end c = read c.before.before.before.before
+read-from-end c = read c.before.before.before
 
 abbrev read-from-first-met : tie.After-meet_first-met invariant-loop2 decreases-loop2 invariant-loop decreases-loop → tie.After-waiting_at-e invariant-loop2 decreases-loop2 invariant-loop decreases-loop
 read-from-first-met c = read-from-else1 c.before.before
@@ -132,7 +132,7 @@ turn : (n : Read)
     let o = outer l in
     let a = (start o).args in
     GoesOn a.at.now a.radii.now a.strength o.loop-i.i a.m.now l.loop-w.invariant.2.0 (found o) l.loop-w.w (come l) n.waiting_at-e.result
-turn n = record { walking = (top n).loop-w.invariant.2.1; waits = (within-loop2 n.before).loop-w-test.taken; top = n.waiting_at-e.ensures }
+turn n = record { walking = (top n).loop-w.invariant.2.1; waits = (within-loop2 n.before).loop-w-test.true; top = n.waiting_at-e.ensures }
 
 waiting-at-requires : tie.Need-waiting_at-e-requires invariant-loop2 decreases-loop2 invariant-loop decreases-loop
 waiting-at-requires c κs = omega (arith, low (within-loop2 c).loop-w.invariant.2.1)
@@ -145,7 +145,7 @@ among : (l : Inside)
 among l =
     let o = outer l in
     let a = (start o).args in
-    let i = (within-loop l.before.before).loop-i-test.taken in
+    let i = (within-loop l.before.before).loop-i-test.true in
     (i, omega (arith, one_more o.loop-i.i (length a.radii.now) (nodes (radius_tree a.at.now a.radii.now)) i, o.loop-i.invariant.3))
 
 add-reached : tie.Need-overflow_add-reached invariant-loop2 decreases-loop2 invariant-loop decreases-loop
@@ -174,7 +174,7 @@ pushed c =
 
 loop2-again : tie.Need-loop-w-preserved-in-Continue invariant-loop2 decreases-loop2 invariant-loop decreases-loop
 loop2-again c =
-    let k = (children-read c).before.before.before in
+    let k = (children-read c).before.before in
     let t = k.before.before in
     let l = top (read t) in
     let a = (start (outer l)).args in (
@@ -183,14 +183,14 @@ loop2-again c =
       (
         l.loop-w.invariant.2.0,
         turn-down (turn (read t)) (inner t) (pushed c)
-            (node_step a.at.now a.radii.now a.strength (outer l).loop-i.i _ _ _ k.stop_if-below.result Continue k.skips.ensures k.stop_if-below.ensures (children-read c).before.enum_told.given.1),
+            (node_step a.at.now a.radii.now a.strength (outer l).loop-i.i _ _ _ k.stop_if-below.result Continue k.skips.ensures k.stop_if-below.ensures c.in-Continue.is),
       ),
       l.loop-w.invariant.3,
     )
 
 loop2-again-2 : tie.Need-loop-w-preserved-in_default invariant-loop2 decreases-loop2 invariant-loop decreases-loop
 loop2-again-2 c =
-    let k = c.before.before in
+    let k = c.before in
     let t = k.before.before in
     let l = top (read t) in
     let a = (start (outer l)).args in (
@@ -199,7 +199,7 @@ loop2-again-2 c =
       (
         l.loop-w.invariant.2.0,
         turn-skip (turn (read t)) (inner t)
-            (node_step a.at.now a.radii.now a.strength (outer l).loop-i.i _ _ _ k.stop_if-below.result Skip k.skips.ensures k.stop_if-below.ensures c.enum_told-in_default-1.given.1),
+            (node_step a.at.now a.radii.now a.strength (outer l).loop-i.i _ _ _ k.stop_if-below.result Skip k.skips.ensures k.stop_if-below.ensures c.in_default.is),
       ),
       l.loop-w.invariant.3,
     )
@@ -333,7 +333,7 @@ walk_all_spec =
     returns
     (λ c. falls (turn (read-from-first-met c.before.before.before)))
     loop2-again-3
-    (λ c. omega (arith, (among c.before).0, (start (outer c.before)).good.1.1.1.1.0))
+    (λ c. omega (arith, (among c.before).0))
     (λ c. omega (arith, (among c.before).0))
     loop-again
     (λ c κs. search rules)

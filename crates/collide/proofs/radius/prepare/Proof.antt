@@ -25,7 +25,7 @@ write m s x = put_value m s 0 x
 abbrev invariant-loop : tie.invariant-loop-left
 invariant-loop radii m₀ left₀ p₀ m left p =
     (q : Quadtree) (s : HoldsSomeTree (length radii) m₀ q) → steps_of p₀ ≡ rooted q.root → left₀ ≡ q.nodes
-    → Filling radius_in write (leaf_radius radii) node_radius (Below (length radii)) s.next-e s.stands.tree m₀ m p left
+    → Filling radius_in write (leaf_radius radii) node_radius (Below (length radii)) s.next s.stands.tree m₀ m p left
 
 abbrev decreases-loop : tie.decreases-loop-left
 decreases-loop radii m₀ left₀ p₀ m left p = left
@@ -34,8 +34,8 @@ decreases-loop radii m₀ left₀ p₀ m left p = left
 abbrev then1 : tie.After-slice_known-then-tag-eq0-1 invariant-loop decreases-loop → tie.Then-tag-eq0 invariant-loop decreases-loop
 then1 c = c.before.before.before.before.before
 
-abbrev advanced-from-greatest-below : tie.After-greatest-below-arg2 invariant-loop decreases-loop → tie.After-next-e invariant-loop decreases-loop
-advanced-from-greatest-below c = c.before.before.before.before.before
+abbrev advanced-from-greatest-below : tie.After-greatest_below-arg-1 invariant-loop decreases-loop → tie.After-next-e invariant-loop decreases-loop
+advanced-from-greatest-below c = c.before.before.before
 
 abbrev advanced : tie.Else-tag-eq0 invariant-loop decreases-loop → tie.After-next-e invariant-loop decreases-loop
 advanced c = c.before.before
@@ -52,12 +52,12 @@ entry c = (radii-known c).before
 loop-holds : tie.Need-loop-left-init invariant-loop decreases-loop
 loop-holds c = λ q s e k.
     let a = c.args in
-    subst⁻¹ (λ (n : ℕ). Filling radius_in write (leaf_radius a.radii.now) node_radius (Below (length a.radii.now)) s.next-e s.stands.tree a.m.now a.m.now c.begin-p.result n) k
+    subst⁻¹ (λ (n : ℕ). Filling radius_in write (leaf_radius a.radii.now) node_radius (Below (length a.radii.now)) s.next s.stands.tree a.m.now a.m.now c.begin-p.result n) k
     (start radius_in write (leaf_radius a.radii.now) node_radius (Below (length a.radii.now)) s.stands (chains-below s.at (length a.radii.now) s.stands) c.begin-p.result e c.begin-p.ensures.1)
 
 next-requires : tie.Need-next-e-requires invariant-loop decreases-loop
 next-requires c κs =
-    let l = c.before.before.before in
+    let l = c.before.before in
     let f = entry l in
     climbing (l.loop-left.invariant f.args.q f.requires l.begin-p.ensures.0 refl) c.loop-left-test.true
 
@@ -66,7 +66,7 @@ turn : (c : tie.After-next-e invariant-loop decreases-loop)
     → let l = loop c in
     let a = (entry l).args in
     (q : Quadtree) (s : HoldsSomeTree (length a.radii.now) a.m.now q) → steps_of l.begin-p.result ≡ rooted q.root → a.q.nodes ≡ q.nodes
-    → Taken radius_in write (leaf_radius a.radii.now) node_radius (Below (length a.radii.now)) s.next-e s.stands.tree a.m.now l.loop-left.m l.loop-left.p l.loop-left.left c.next-e.new.steps c.next-e.result
+    → Taken radius_in write (leaf_radius a.radii.now) node_radius (Below (length a.radii.now)) s.next s.stands.tree a.m.now l.loop-left.m l.loop-left.p l.loop-left.left c.next-e.new.steps c.next-e.result
 turn c q s e k = record { filling = (loop c).loop-left.invariant q s e k; more = c.loop-left-test.true; went = c.next-e.ensures }
 
 -- over the tree that was handed in
@@ -74,18 +74,18 @@ mine : (c : tie.After-next-e invariant-loop decreases-loop)
     → let l = loop c in
     let f = entry l in
     let a = f.args in
-    Taken radius_in write (leaf_radius a.radii.now) node_radius (Below (length a.radii.now)) f.requires.next-e f.requires.stands.tree a.m.now l.loop-left.m l.loop-left.p l.loop-left.left c.next-e.new.steps c.next-e.result
+    Taken radius_in write (leaf_radius a.radii.now) node_radius (Below (length a.radii.now)) f.requires.next f.requires.stands.tree a.m.now l.loop-left.m l.loop-left.p l.loop-left.left c.next-e.new.steps c.next-e.result
 mine c =
     let l = loop c in
     let f = entry l in
     turn c f.args.q f.requires l.begin-p.ensures.0 refl
 
-internal : (c : tie.Then-tag-eq0 invariant-loop decreases-loop) → word (loop c.before.before.before).loop-left.m c.next-e.result.slot 0 ≡ 0
+internal : (c : tie.Then-tag-eq0 invariant-loop decreases-loop) → word (loop c.before.before).loop-left.m c.next-e.result.slot 0 ≡ 0
 internal c = sym c.tag-tag.ensures ∙ c.if-tag-eq0.true
 
 loop-again : tie.Need-loop-left-preserved-then-tag-eq0 invariant-loop decreases-loop
 loop-again c = λ q s e k.
-    let n = (then1 c).before.before.before in
+    let n = (then1 c).before.before in
     turn-node (turn n q s e k) (internal (then1 c)) one_value c.put_value.new.m
     (c.put_value.ensures ∙ ap (λ (x : Float). put_value (loop n).loop-left.m n.next-e.result.slot 0 x) c.greatest_below.ensures)
 
@@ -109,7 +109,7 @@ loop-again-2 c = λ q s e k.
     (λ is f b p.
     c.put_value-else-tag-eq0.ensures
     ∙ ap (λ (x : Float). put_value (loop n).loop-left.m n.next-e.result.slot 0 x)
-    (r.radius_of.ensures ∙ rw (entry, radii-known, loop, advanced, r.index.ensures, t.tag-tag.ensures) (leaf_radius_lem a.radii.now s.next-e is _ f b.tag-tag)))
+    (r.radius_of.ensures ∙ rw (entry, radii-known, loop, advanced, r.index.ensures, t.tag-tag.ensures) (leaf_radius_lem a.radii.now s.next is _ f b.tag)))
 
 same_length : tie.Need-shape_of-m invariant-loop decreases-loop
 same_length c =
@@ -123,10 +123,10 @@ returns c = λ s.
     let l = c.loop-left in
     let z : l.left ≡ 0 = omega arith in
     record {
-      next = s.next-e;
+      next = s.next;
       valued = finish-read one_value (leaf_radius a.radii.now) node_radius (Below (length a.radii.now))
-          (λ is p. leaf_fits a.radii.now (λ j. (radii-known c.before).shared-slice-known.given j) is) node_fits s.stands (chains-below s.at (length a.radii.now) s.stands) l.p
-          (subst (λ (n : ℕ). Filling radius_in write (leaf_radius a.radii.now) node_radius (Below (length a.radii.now)) s.next-e s.stands.tree a.m.now l.m l.p n) z
+          (λ is p. leaf_fits a.radii.now (λ j. (radii-known c.before).shared_slice_known-1.given j) is) node_fits s.stands (chains-below s.at (length a.radii.now) s.stands) l.p
+          (subst (λ (n : ℕ). Filling radius_in write (leaf_radius a.radii.now) node_radius (Below (length a.radii.now)) s.next s.stands.tree a.m.now l.m l.p n) z
           (l.invariant a.q s c.begin-p.ensures.0 refl));
     }
 
@@ -140,8 +140,8 @@ prepare_spec =
     loop-holds
     next-requires
     (λ c. search rules)
-    (λ c κs. reach (mine c.before))
-    (λ c κs. (reach (mine (advanced-from-greatest-below c)), kids-lent (mine (advanced-from-greatest-below c)) (internal c.before.before)))
+    (λ c κs. reach (mine c))
+    (λ c κs. (reach (mine (advanced-from-greatest-below c)), kids-lent (mine (advanced-from-greatest-below c)) (internal c.before)))
     (λ c κs. (reach (mine (advanced-from-greatest-below c.before)), search rules))
     (λ c. search rules)
     loop-again

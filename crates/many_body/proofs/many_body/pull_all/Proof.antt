@@ -68,7 +68,7 @@ abbrev outer : Inside → At
 outer l = l.before.before.before.before.before.before
 
 abbrev top : Read → Inside
-top w = w.before.before.before.before.before
+top w = w.before.before.before.before
 
 abbrev read : Stepped → Read
 read k = k.before.before.before.before
@@ -99,7 +99,7 @@ turn : (w : Read)
     → let o = outer (top w) in
     let a = (start o).args in
     PullingAt a.t a.at.now a.strengths.now a.p.alpha o.loop-i.i a.next.now a.m.now (found o) (top w).loop-w.w (come (top w)) w.waiting_at-e.result
-turn w = record { walking = (top w).loop-w.invariant.2; waits = w.loop-w-test.taken; top = w.waiting_at-e.ensures }
+turn w = record { walking = (top w).loop-w.invariant.2; waits = w.loop-w-test.true; top = w.waiting_at-e.ensures }
 
 waiting-at-requires : tie.Need-waiting_at-e-requires invariant-loop2 decreases-loop2 invariant-loop decreases-loop
 waiting-at-requires c κs = omega (arith, low c.loop-w.invariant.2)
@@ -109,7 +109,7 @@ among : (l : Inside) → let o = outer l in let a = (start o).args in (o.loop-i.
 among l =
     let o = outer l in
     let a = (start o).args in
-    let i = l.loop-i-test.taken in
+    let i = l.loop-i-test.true in
     (i, omega (arith, one_more o.loop-i.i (length a.strengths.now) a.q.nodes i, o.loop-i.invariant.3))
 
 -- one node more
@@ -178,7 +178,7 @@ internal : (c : tie.Then-tag-eq0 invariant-loop2 decreases-loop2 invariant-loop 
 internal c = sym c.tag.ensures ∙ c.if-tag-eq0.true
 
 abbrev down : tie.After-push_slots invariant-loop2 decreases-loop2 invariant-loop decreases-loop → tie.Then-tag-eq0 invariant-loop2 decreases-loop2 invariant-loop decreases-loop
-down c = c.before.before.before.before.before.before.before
+down c = c.before.before.before.before.before.before
 
 pushed : (c : tie.After-push_slots invariant-loop2 decreases-loop2 invariant-loop decreases-loop)
     → let w = read (met (down c).before) in
@@ -192,10 +192,10 @@ pushed c =
       height = c.push_slots.ensures.1;
     }
 
-onward : (c : tie.In-Continue invariant-loop2 decreases-loop2 invariant-loop decreases-loop) → (met c.before.before.before).many_body_step-r.result.visit ≡ Continue
+onward : (c : tie.In-Continue invariant-loop2 decreases-loop2 invariant-loop decreases-loop) → (met c.before.before).many_body_step-r.result.visit ≡ Continue
 onward c = cc
 
-skipped : (c : tie.In_default invariant-loop2 decreases-loop2 invariant-loop decreases-loop) → (met c.before.before.before).many_body_step-r.result.visit ≡ Skip
+skipped : (c : tie.In_default invariant-loop2 decreases-loop2 invariant-loop decreases-loop) → (met c.before.before).many_body_step-r.result.visit ≡ Skip
 skipped c = cc
 
 loop2-again : tie.Need-loop-w-preserved-in-Continue invariant-loop2 decreases-loop2 invariant-loop decreases-loop
@@ -206,13 +206,13 @@ loop2-again c =
     let v = onward c.before.before.before.before.before in (
       (kept k).0,
       (kept k).1,
-      turn-down (turn (read k)) (internal i) (pushed c) (node_on _ d k.many_body_step-r.result (k.many_body_step-r.ensures.0 (internal i)) i.if-r.left v),
+      turn-down (turn (read k)) (internal i) (pushed c) (node_on _ d k.many_body_step-r.result (k.many_body_step-r.ensures.0 (internal i)) i.if-r.false v),
       (top (read k)).loop-w.invariant.3,
     )
 
 loop2-again-2 : tie.Need-loop-w-preserved-in_default invariant-loop2 decreases-loop2 invariant-loop decreases-loop
 loop2-again-2 c =
-    let i = c.before.before in
+    let i = c.before in
     let k = met i.before in
     let d = (start (outer (top (read k)))).args.draws.now in
     let v = skipped c in (
@@ -290,13 +290,13 @@ pull_all_spec =
     returns
     (λ c κs. (reach (turn (read c.before.before.before))).0)
     (λ c. search rules)
-    (λ c κs. (reach (turn (read (met c.before.before.before)))).0)
-    (λ c κs. let i = c.before.before.before.before in room (turn (read (met i.before))) (internal i) c.children-children.ensures)
-    (λ c κs. let i = c.before.before.before.before.before.before in room (turn (read (met i.before))) (internal i) c.children-children.ensures)
+    (λ c κs. (reach (turn (read (met c.before.before)))).0)
+    (λ c κs. let i = c.before.before.before in room (turn (read (met i.before))) (internal i) c.children-children.ensures)
+    (λ c κs. let i = c.before.before.before.before.before in room (turn (read (met i.before))) (internal i) c.children-children.ensures)
     (λ c. falls_down (turn (read (met (down c).before))) (internal (down c)) (pushed c))
     loop2-again
     (λ c. search rules)
-    (λ c. falls (turn (read (met c.before.before.before))))
+    (λ c. falls (turn (read (met c.before.before))))
     loop2-again-2
     (λ c. falls (turn (read (met c.before))))
     loop2-again-3
