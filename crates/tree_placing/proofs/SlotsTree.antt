@@ -14,6 +14,7 @@ use Rattle.tree_slots.specs.Trees.{NodeIn, Follows, Leads, EachSlot, Apart, Once
 use Rattle.tree_placing.specs.Add.{Stored, pick}
 use Rattle.tree_slots.proofs.Trees.{each_map}
 use Rattle.tree_slots.proofs.Slots.{Same, Small, leaf_shown, node_shown}
+use Rattle.tree_slots.specs.Slots.{kid}
 
 -- ---- each slot
 
@@ -248,4 +249,4 @@ stored-leads m next p none e h f = e
 stored-leads m next p (leaf s is) e h f = (e, h, f)
 stored-leads m next p (node s t0 t1 t2 t3) e h f =
     let k = h.0.kids in
-    (e, h.0, stored-leads m next _ t0 (cc) h.1 f.0, stored-leads m next _ t1 (cc) h.2 f.1, stored-leads m next _ t2 (cc) h.3 f.2, stored-leads m next _ t3 (cc) h.4 f.3)
+    (e, h.0, stored-leads m next (kid m s 0) t0 (cc) h.1 f.0, stored-leads m next (kid m s 1) t1 (cc) h.2 f.1, stored-leads m next (kid m s 2) t2 (cc) h.3 f.2, stored-leads m next (kid m s 3) t3 (cc) h.4 f.3)

@@ -8,9 +8,9 @@ use Rattle.center.proofs.center_all.Tie as tie
 returns : tie.Need-returns
 returns c ps e =
     let s = c.before.before in
-    let a = s.before.before.before.before.before.before.before.args in
+    let a = s.before.before.before.before.before.args in
     s.shift_all.ensures
-    ∙ rw (s.before.before.offset-sy.ensures, s.before.before.before.before.offset-sx.ensures, ← e) (sym (centered-places a.x a.y a.strength ps))
+    ∙ rw (s.before.before.offset-sy.ensures, s.before.before.before.offset-sx.ensures, ← e) (sym (centered-places a.x a.y a.strength ps))
 
 pub center_all_spec : {M : Type 1} → statement M
 center_all_spec =

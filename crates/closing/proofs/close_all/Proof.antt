@@ -34,7 +34,7 @@ abbrev read : tie.After-moved-q invariant-loop decreases-loop → tie.After-part
 read c = c.before.before.before
 
 abbrev loop : tie.After-particle_at-p invariant-loop decreases-loop → tie.At-loop-i invariant-loop decreases-loop
-loop c = c.before.before.before.before
+loop c = c.before.before
 
 abbrev entry : tie.At-loop-i invariant-loop decreases-loop → tie.Start invariant-loop decreases-loop
 entry c = c.before.before.before.before.before

@@ -9,5 +9,5 @@ lengths_agree_spec =
     tie.close
     (tie.spec
     (λ c κs. search rules)
-    (λ c. rw (← c.before.input_lengths.ensures, not-true c.before.input_lengths.result c.if-not-input_lengths.true-raw))
-    (λ c. rw (← c.before.input_lengths.ensures, not-false c.before.input_lengths.result c.if-not-input_lengths.false-raw)))
+    (λ c. rw (← c.input_lengths.ensures, not-true c.input_lengths.result c.if-not-input_lengths.true-raw))
+    (λ c. rw (← c.input_lengths.ensures, not-false c.input_lengths.result c.if-not-input_lengths.false-raw)))

@@ -6,11 +6,11 @@ use Rattle.collide_contact.proofs.away.Tie as tie
 
 returns : tie.Need-returns-then-beyond
 unfolding Collide.away
-returns c = rw (← c.before.beyond.ensures, c.if-beyond.true)
+returns c = rw (← c.beyond.ensures, c.if-beyond.true)
 
 returns-2 : tie.Need-returns
 unfolding Collide.away
-returns-2 c = rw (← c.before.before.before.beyond.ensures, c.before.before.if-beyond.false) c.beyond-2.ensures
+returns-2 c = rw (← c.beyond.ensures, c.if-beyond.false) c.beyond-2.ensures
 
 pub away_spec : {M : Type 1} → statement M
 away_spec =

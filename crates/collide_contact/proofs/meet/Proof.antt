@@ -9,42 +9,28 @@ use Rattle.collide_contact.proofs.meet.Tie as tie
 returns : tie.Need-returns-then-dry
 unfolding spent_of
 returns c =
-    let g = c.before in
-    let y = g.before.before in
-    let x = y.before.before in
-    let r = x.before.before in
-    let a = r.before.before.before.before.before.args in (
-      meet-dry a.at.now a.radii.now a.strength a.i a.j _ a.rj _ _ a.vs.now a.draws.now a.used r.radius_of-ri.ensures x.between-x.ensures y.between-y.ensures
-          g.before.if-l-r.true g.shaken-g.result g.shaken-g.ensures.0 c.if-dry.true,
-      g.shaken-g.ensures.1,
+    let a = c.args in (
+      meet-dry a.at.now a.radii.now a.strength a.i a.j _ a.rj _ _ a.vs.now a.draws.now a.used c.radius_of-ri.ensures c.between-x.ensures c.between-y.ensures
+          c.if-l-r.true c.shaken-g.result c.shaken-g.ensures.0 c.if-dry.true,
+      c.shaken-g.ensures.1,
     )
 
 returns-2 : tie.Need-returns-then-l-r
 unfolding spent_of
 returns-2 c =
-    let p = c.before.before in
-    let l = p.before.before in
-    let g = l.before.before in
-    let y = g.before.before in
-    let x = y.before.before in
-    let r = x.before.before in
-    let a = r.before.before.before.before.before.args in (
-      meet-parted a.at.now a.radii.now a.strength a.i a.j _ a.rj _ _ a.vs.now a.draws.now a.used r.radius_of-ri.ensures x.between-x.ensures y.between-y.ensures
-          g.before.if-l-r.true g.shaken-g.result g.shaken-g.ensures.0 l.before.if-dry.false _ p.part.new.vs
-          l.lengthen-longer.ensures p.part.ensures,
-      g.shaken-g.ensures.1,
+    let a = c.args in (
+      meet-parted a.at.now a.radii.now a.strength a.i a.j _ a.rj _ _ a.vs.now a.draws.now a.used c.radius_of-ri.ensures c.between-x.ensures c.between-y.ensures
+          c.if-l-r.true c.shaken-g.result c.shaken-g.ensures.0 c.if-dry.false _ c.part.new.vs
+          c.lengthen-longer.ensures c.part.ensures,
+      c.shaken-g.ensures.1,
     )
 
 returns-3 : tie.Need-returns
 unfolding spent_of
 returns-3 c =
-    let y = c.before in
-    let x = y.before.before in
-    let r = x.before.before in
-    let s = r.before.before.before.before.before in
-    let a = s.args in (
-      meet-far a.at.now a.radii.now a.strength a.i a.j _ a.rj _ _ a.vs.now a.draws.now a.used r.radius_of-ri.ensures x.between-x.ensures y.between-y.ensures c.if-l-r.false,
-      omega (arith, s.requires),
+    let a = c.args in (
+      meet-far a.at.now a.radii.now a.strength a.i a.j _ a.rj _ _ a.vs.now a.draws.now a.used c.radius_of-ri.ensures c.between-x.ensures c.between-y.ensures c.if-l-r.false,
+      omega (arith, c.requires),
     )
 
 pub meet_spec : {M : Type 1} → statement M

@@ -8,20 +8,17 @@ use Rattle.collide_contact.proofs.meet_first.Tie as tie
 
 returns : tie.Need-returns-then-i-j
 returns c =
-    let p = c.before.before in
-    let v = p.before.before in
-    let k = v.before.before in (
-      rw (← k.before.tag.ensures, ← k.index-j.ensures, lt-ltb _ _ v.before.if-i-j.true, ← v.node_value-rj.ensures) p.meet.ensures.0,
-      p.meet.ensures.1,
+    (
+      rw (← c.tag.ensures, ← c.index-j.ensures, lt-ltb _ _ c.if-i-j.true, ← c.node_value-rj.ensures) c.meet.ensures.0,
+      c.meet.ensures.1,
     )
 
 returns-2 : tie.Need-returns
 unfolding spent_of
 returns-2 c =
-    let k = c.before in
-    let s = k.before.before.before.before.before.before.before in (
-      rw (← k.before.tag.ensures, ← k.index-j.ensures, le-ltb _ _ c.if-i-j.false),
-      omega (arith, s.requires),
+    (
+      rw (← c.tag.ensures, ← c.index-j.ensures, le-ltb _ _ c.if-i-j.false),
+      omega (arith, c.requires),
     )
 
 pub meet_first_spec : {M : Type 1} → statement M

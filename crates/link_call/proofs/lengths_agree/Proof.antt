@@ -24,7 +24,7 @@ returns-2 c =
     let a = (entry i).args in
     rw (← i.input_lengths.ensures)
     (odd-ends i.input_lengths.result (length a.links.now % 2) (length a.distances.now) (length a.strengths.now) _ _ (ends-count a.links.now)
-    c.before.if-not-input_lengths.false-raw c.if-links-ne0.true)
+    c.if-not-input_lengths.false-raw c.if-links-ne0.true)
 
 returns-3 : tie.Need-returns-then-distances-n
 returns-3 c =
@@ -32,7 +32,7 @@ returns-3 c =
     let a = (entry i).args in
     rw (← i.input_lengths.ensures)
     (no-distances i.input_lengths.result (length a.links.now % 2) (length a.distances.now) (length a.strengths.now) _ _ (ends-count a.links.now)
-    c.before.before.if-not-input_lengths.false-raw c.before.if-links-ne0.false c.if-distances-n.true)
+    c.if-not-input_lengths.false-raw c.if-links-ne0.false c.if-distances-n.true)
 
 returns-4 : tie.Need-returns-then-strengths-eq0
 returns-4 c =
@@ -40,7 +40,7 @@ returns-4 c =
     let a = (entry i).args in
     rw (← i.input_lengths.ensures)
     (no-strength i.input_lengths.result (length a.links.now % 2) (length a.distances.now) (length a.strengths.now) _ _ (ends-count a.links.now)
-    c.before.before.before.if-not-input_lengths.false-raw c.before.before.if-links-ne0.false c.before.if-distances-n.false c.if-strengths-eq0.true)
+    c.if-not-input_lengths.false-raw c.if-links-ne0.false c.if-distances-n.false c.if-strengths-eq0.true)
 
 returns-5 : tie.Need-returns
 returns-5 c =
@@ -48,7 +48,7 @@ returns-5 c =
     let a = (entry i).args in
     rw (← i.input_lengths.ensures)
     (each-strength i.input_lengths.result (length a.links.now % 2) (length a.distances.now) (length a.strengths.now) _ _ (ends-count a.links.now)
-    c.before.before.before.if-not-input_lengths.false-raw c.before.before.if-links-ne0.false c.before.if-distances-n.false c.if-strengths-eq0.false)
+    c.if-not-input_lengths.false-raw c.if-links-ne0.false c.if-distances-n.false c.if-strengths-eq0.false)
 
 pub lengths_agree_spec : {M : Type 1} → statement M
 lengths_agree_spec = tie.close (tie.spec (λ c κs. search rules) returns returns-2 returns-3 returns-4 returns-5)

@@ -21,7 +21,7 @@ use Rattle.link_call.proofs.link_call.Tie as tie
 
 -- the points of the code, each from a later one
 abbrev entry : tie.After-lent_check-r → tie.Start
-entry c = c.before.before.before.before.before.before.before.before.before
+entry c = c.before.before.before.before.before.before.before.before
 
 abbrev tested : tie.After-with_speeds-arg-1 → tie.Else-number-ne0
 tested c = c.before.before
@@ -51,7 +51,7 @@ returns c =
     let n = c.before.before in
     let s = entry n in
     let q = n.lent_check-r.result in
-    let st = stopped (checks s) q (early s) n.lent_check-r.ensures c.before.if-number-ne0.true in
+    let st = stopped (checks s) q (early s) n.lent_check-r.ensures c.if-number-ne0.true in
     answered_refused (input s) _ q c.refused.result (result-lent (input s) (force s) (paired s) s.args.alpha q st.0) st.1 c.refused.ensures
 
 -- 1, 2 and 3 are past
@@ -60,7 +60,7 @@ module _ (d : tie.Else-number-ne0) where
   start = entry d.before
 
   past : checks start ≡ fine
-  past = passed (checks start) d.before.lent_check-r.result (early start) d.before.lent_check-r.ensures d.if-number-ne0.left
+  past = passed (checks start) d.lent_check-r.result (early start) d.lent_check-r.ensures d.if-number-ne0.left
 
   passed-lent : Lent (input start) (force start) (paired start)
   passed-lent = lent-all (input start) (force start) (paired start) past

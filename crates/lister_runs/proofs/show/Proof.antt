@@ -7,7 +7,7 @@ use Rattle.lister_runs.proofs.show.Tie as tie
 
 -- what was written lies within the buffer
 slice-aggregate-write-all : tie.Need-slice_bounds-write_all-end
-slice-aggregate-write-all c = sym (length-take-le _ _ c.before.before.list_sheet-size.ensures.1)
+slice-aggregate-write-all c = sym (length-take-le _ _ c.list_sheet-size.ensures.1)
 
 pub show_spec : {M : Type 1} → statement M
 show_spec =

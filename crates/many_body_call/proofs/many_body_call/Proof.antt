@@ -19,7 +19,7 @@ use Rattle.many_body_call.proofs.many_body_call.Tie as tie
 
 -- the points of the code, each from a later one
 abbrev entry : tie.After-lent_check-r → tie.Start
-entry c = c.before.before.before.before.before.before.before
+entry c = c.before.before.before.before.before.before
 
 abbrev tested : tie.After-with_lists-arg-1 → tie.Else-number-ne0
 tested c = c.before.before
@@ -46,7 +46,7 @@ returns c =
     let n = c.before.before in
     let s = entry n in
     let q = n.lent_check-r.result in
-    let st = stopped (checks s) q (early s) n.lent_check-r.ensures c.before.if-number-ne0.true in
+    let st = stopped (checks s) q (early s) n.lent_check-r.ensures c.if-number-ne0.true in
     answered_refused (input s) _ q c.refused.result (result-lent (input s) (force s) no_ends s.args.alpha q st.0) st.1 c.refused.ensures
 
 -- 1 and 2 are past
@@ -55,7 +55,7 @@ module _ (d : tie.Else-number-ne0) where
   start = entry d.before
 
   past : checks start ≡ fine
-  past = passed (checks start) d.before.lent_check-r.result (early start) d.before.lent_check-r.ensures d.if-number-ne0.left
+  past = passed (checks start) d.lent_check-r.result (early start) d.lent_check-r.ensures d.if-number-ne0.left
 
   passed-lent : Lent (input start) (force start) no_ends
   passed-lent = lent-all (input start) (force start) no_ends past

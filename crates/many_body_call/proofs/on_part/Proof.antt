@@ -29,7 +29,7 @@ abbrev entry : tie.After-read-pairs-arg2 → tie.Start
 entry c = c.before.before.before.before.before.before.before.before.before.before
 
 abbrev read : tie.After-numbers_check-r → tie.After-read_pairs
-read c = c.before.before.before.before
+read c = c.before.before.before
 
 abbrev tuned : tie.After-many_body-arg-4-1 → tie.After-standard
 tuned c = c.before.before.before.before
@@ -83,7 +83,7 @@ returns c =
     let d = read n in
     let s = start d in
     let q = n.numbers_check-r.result in
-    let st = stopped (numbers d) q (early d) n.numbers_check-r.ensures c.before.if-number-ne0.true in
+    let st = stopped (numbers d) q (early d) n.numbers_check-r.ensures c.if-number-ne0.true in
     answered_refused (input s) _ q c.refused.result (result-numbers (input s) (force s) no_ends s.args.alpha s.requires.0 (vs d) (vs-are d) q st.0) st.1 c.refused.ensures
 
 -- 4 and 5 are past

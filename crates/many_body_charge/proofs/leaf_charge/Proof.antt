@@ -7,17 +7,17 @@ use Rattle.many_body_charge.proofs.leaf_charge.Statement.{statement}
 use Rattle.many_body_charge.proofs.leaf_charge.Tie as tie
 
 returns : tie.Need-returns
-returns c = λ h. leaf_charge_lem h _ _ _ (c.before.before.chain_strength-strength.ensures h)
+returns c = λ h. leaf_charge_lem h _ _ _ (c.chain_strength-strength.ensures h)
 
 pub leaf_charge_spec : {M : Type 1} → statement M
 leaf_charge_spec =
     tie.close
     (tie.spec
     (λ c κs. search rules)
-    (λ c. omega (arith, chain_first c.before.before.before.before.requires.0))
-    (λ c. omega (arith, chain_first c.before.before.before.before.requires.0))
-    (λ c. omega (arith, chain_first c.before.before.before.before.before.requires.0))
-    (λ c. omega (arith, chain_first c.before.before.before.before.before.requires.0))
-    (λ c. omega (arith, chain_first c.before.before.before.before.before.requires.0))
-    (λ c. omega (arith, chain_first c.before.before.before.before.before.before.requires.0))
+    (λ c. omega (arith, chain_first c.requires.0))
+    (λ c. omega (arith, chain_first c.requires.0))
+    (λ c. omega (arith, chain_first c.requires.0))
+    (λ c. omega (arith, chain_first c.requires.0))
+    (λ c. omega (arith, chain_first c.requires.0))
+    (λ c. omega (arith, chain_first c.requires.0))
     returns)

@@ -9,11 +9,9 @@ use Rattle.many_body_charge.proofs.node_charge.Tie as tie
 
 returns : tie.Need-returns
 returns c =
-    let d = c.before.before in
-    let s = d.before.before.before.before.before.before in
-    node_charge_lem (sums_of d.with_link-s3.result) _
-    (fold_children read_charge with_child _ s.args.m.now s.args.s d.before.before.before.before.children-children.ensures
-    d.before.before.before.with_link-s0.ensures d.before.before.with_link-s1.ensures d.before.with_link-s2.ensures d.with_link-s3.ensures)
+    node_charge_lem (sums_of c.with_link-s3.result) _
+    (fold_children read_charge with_child _ c.args.m.now c.args.s c.children-children.ensures
+    c.with_link-s0.ensures c.with_link-s1.ensures c.with_link-s2.ensures c.with_link-s3.ensures)
 
 pub node_charge_spec : {M : Type 1} → statement M
 node_charge_spec =
@@ -21,11 +19,11 @@ node_charge_spec =
     (tie.spec
     (λ c κs. search rules)
     (λ c. search rules)
-    (λ c κs. rw c.children-children.ensures c.before.before.requires.1.0)
+    (λ c κs. rw c.children-children.ensures c.requires.1.0)
     (λ c. search rules)
-    (λ c κs. rw c.before.children-children.ensures c.before.before.before.requires.1.1)
+    (λ c κs. rw c.children-children.ensures c.requires.1.1)
     (λ c. search rules)
-    (λ c κs. rw c.before.before.children-children.ensures c.before.before.before.before.requires.1.2)
+    (λ c κs. rw c.children-children.ensures c.requires.1.2)
     (λ c. search rules)
-    (λ c κs. rw c.before.before.before.children-children.ensures c.before.before.before.before.before.requires.1.3)
+    (λ c κs. rw c.children-children.ensures c.requires.1.3)
     returns)

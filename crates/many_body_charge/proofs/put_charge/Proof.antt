@@ -5,10 +5,7 @@ use Rattle.many_body_charge.proofs.put_charge.Tie as tie
 
 returns : tie.Need-returns
 returns c =
-    let third = c.before.before in
-    let second = third.before.before.before.before in
-    let first = second.before.before.before.before in
-    rw (third.put_value-3.ensures, second.put_value-2.ensures, first.put_value.ensures)
+    rw (c.put_value-3.ensures, c.put_value-2.ensures, c.put_value.ensures)
 
 pub put_charge_spec : {M : Type 1} → statement M
 put_charge_spec = tie.close (tie.spec (λ c κs. search rules) (λ c κs. search rules) (λ c κs. search rules) (λ c. search rules) returns)

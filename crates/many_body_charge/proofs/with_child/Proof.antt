@@ -7,9 +7,7 @@ use Rattle.many_body_charge.proofs.with_child.Tie as tie
 returns : tie.Need-returns
 unfolding with_child
 returns c =
-    let y = c.before.before.before.before in
-    let x = y.before.before in
-    rw (y.weighed-2.ensures, x.weighed.ensures, x.before.abs-c.ensures)
+    rw (c.weighed-2.ensures, c.weighed.ensures, c.abs-c.ensures)
 
 pub with_child_spec : {M : Type 1} → statement M
 with_child_spec = tie.close (tie.spec (λ c κs. search rules) (λ c κs. search rules) (λ c κs. search rules) returns)

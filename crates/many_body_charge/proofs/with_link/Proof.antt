@@ -10,13 +10,13 @@ abbrev entry : tie.After-wide → tie.Start
 entry c = c.before.before.before
 
 returns : tie.Need-returns-then-child-eq0
-returns c = rw (values_none read_charge c.before.before.args.m.now _ c.if-child-eq0.true)
+returns c = rw (values_none read_charge c.args.m.now _ c.if-child-eq0.true)
 
 charge-at-requires : tie.Need-charge_at-requires
-charge-at-requires c κs = rw c.wide.ensures (lent-some _ _ (entry c).requires c.before.if-child-eq0.false)
+charge-at-requires c κs = rw c.wide.ensures (lent-some _ _ (entry c).requires c.if-child-eq0.false)
 
 returns-2 : tie.Need-returns
-returns-2 c = rw (values_some read_charge (entry c.before.before).args.m.now _ c.before.before.before.if-child-eq0.false, ← c.before.before.wide.ensures, c.with_child.ensures, c.before.charge_at.ensures)
+returns-2 c = rw (values_some read_charge (entry c.before.before).args.m.now _ c.if-child-eq0.false, ← c.wide.ensures, c.with_child.ensures, c.charge_at.ensures)
 
 pub with_link_spec : {M : Type 1} → statement M
 with_link_spec = tie.close (tie.spec returns (λ c. search rules) (λ c κs. search rules) charge-at-requires (λ c κs. search rules) returns-2)

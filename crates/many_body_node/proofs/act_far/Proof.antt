@@ -11,22 +11,20 @@ use Rattle.many_body_node.proofs.act_far.Tie as tie
 returns : tie.Need-returns-then-dry
 unfolding spent_of
 returns c =
-    let a = c.before.before.before.before.before.before.args in
-    (far-dry a.t a.alpha a.i (charge_of a.q) (gap a.x a.y) a.l a.vs.now _ a.draws.now c.before.take_aim-a.result c.before.before.if-l-t.true c.before.take_aim-a.ensures.0 c.if-dry.true, c.before.take_aim-a.ensures.1)
+    let a = c.args in
+    (far-dry a.t a.alpha a.i (charge_of a.q) (gap a.x a.y) a.l a.vs.now _ a.draws.now c.take_aim-a.result c.if-l-t.true c.take_aim-a.ensures.0 c.if-dry.true, c.take_aim-a.ensures.1)
 
 returns-2 : tie.Need-returns-then-l-t
 unfolding spent_of
 returns-2 c =
-    let d = c.before.before in
-    let k = d.before.before.before.before.before.before.before in
-    let a = k.before.before.before.before.before.args in
-    (far-on a.t a.alpha a.i (charge_of a.q) (gap a.x a.y) a.l a.vs.now _ a.draws.now k.take_aim-a.result k.before.if-l-t.true k.take_aim-a.ensures.0 d.before.before.before.before.before.before.if-dry.false d.push_on.ensures, k.take_aim-a.ensures.1)
+    let a = c.args in
+    (far-on a.t a.alpha a.i (charge_of a.q) (gap a.x a.y) a.l a.vs.now _ a.draws.now c.take_aim-a.result c.if-l-t.true c.take_aim-a.ensures.0 c.if-dry.false c.push_on.ensures, c.take_aim-a.ensures.1)
 
 returns-3 : tie.Need-returns
 unfolding spent_of
 returns-3 c =
-    let a = c.before.before.before.before.args in
-    (far_none a.t a.alpha a.i (charge_of a.q) (gap a.x a.y) a.l a.vs.now _ c.if-l-t.false, omega (arith, c.before.before.before.before.requires))
+    let a = c.args in
+    (far_none a.t a.alpha a.i (charge_of a.q) (gap a.x a.y) a.l a.vs.now _ c.if-l-t.false, omega (arith, c.requires))
 
 pub act_far_spec : {M : Type 1} → statement M
 act_far_spec = tie.close (tie.spec (λ c κs. search rules) returns (λ c κs. search rules) (λ c. search rules) returns-2 returns-3)

@@ -12,41 +12,32 @@ use Rattle.many_body_node.proofs.act_near.Tie as tie
 returns : tie.Need-returns-then-is_alone
 unfolding spent_of
 returns c =
-    let s = c.before.before.before.before.before.before in
-    let a = s.args in
-    (λ h. near-alone a.t a.strengths.now a.alpha a.i (gap a.x a.y) a.l h.members _ (sym (c.before.is_alone.ensures _ h) ∙ c.if-is_alone.true), omega (arith, s.requires.4))
+    let a = c.args in
+    (λ h. near-alone a.t a.strengths.now a.alpha a.i (gap a.x a.y) a.l h.members _ (sym (c.is_alone.ensures _ h) ∙ c.if-is_alone.true), omega (arith, c.requires.4))
 
 returns-2 : tie.Need-returns-then-t-l
 unfolding spent_of
 returns-2 c =
-    let s = c.before.before.before.before.before.before.before.before in
-    let a = s.args in
-    (λ h. near-beyond a.t a.strengths.now a.alpha a.i (gap a.x a.y) a.l h.members _ c.if-t-l.true, omega (arith, s.requires.4))
+    let a = c.args in
+    (λ h. near-beyond a.t a.strengths.now a.alpha a.i (gap a.x a.y) a.l h.members _ c.if-t-l.true, omega (arith, c.requires.4))
 
 returns-3 : tie.Need-returns-then-dry
 unfolding spent_of
 returns-3 c =
-    let k = c.before in
-    let b = k.before.before.before.before in
-    let s = b.before.before.before.before.before in
-    let a = s.args in
-    (λ h. near-dry a.t a.strengths.now a.alpha a.i (gap a.x a.y) a.l h.members a.vs.now _ a.draws.now k.take_aim-a.result (sym (b.is_alone.ensures _ h) ∙ k.before.before.before.if-is_alone.false) k.before.if-t-l.false k.take_aim-a.ensures.0 c.if-dry.true, k.take_aim-a.ensures.1)
+    let a = c.args in
+    (λ h. near-dry a.t a.strengths.now a.alpha a.i (gap a.x a.y) a.l h.members a.vs.now _ a.draws.now c.take_aim-a.result (sym (c.is_alone.ensures _ h) ∙ c.if-is_alone.false) c.if-t-l.false c.take_aim-a.ensures.0 c.if-dry.true, c.take_aim-a.ensures.1)
 
 returns-4 : tie.Need-returns
 unfolding spent_of
 returns-4 c =
-    let p = c.before.before in
-    let k = p.before.before.before in
-    let b = k.before.before.before.before in
-    let s = b.before.before.before.before.before in
-    let a = s.args in
-    (λ h. near_on a.t a.strengths.now a.alpha a.i (gap a.x a.y) a.l h.members a.vs.now _ a.draws.now k.take_aim-a.result (sym (b.is_alone.ensures _ h) ∙ k.before.before.before.if-is_alone.false) k.before.if-t-l.false k.take_aim-a.ensures.0 p.before.before.if-dry.false (p.pull_members.ensures h), k.take_aim-a.ensures.1)
+    let a = c.args in
+    (λ h. near_on a.t a.strengths.now a.alpha a.i (gap a.x a.y) a.l h.members a.vs.now _ a.draws.now c.take_aim-a.result (sym (c.is_alone.ensures _ h) ∙ c.if-is_alone.false) c.if-t-l.false c.take_aim-a.ensures.0 c.if-dry.false (c.pull_members.ensures h), c.take_aim-a.ensures.1)
 
 pub act_near_spec : {M : Type 1} → statement M
 act_near_spec =
     tie.close
     (tie.spec
-    (λ c κs. omega (arith, chain_first c.before.before.before.before.requires.1, c.before.before.before.before.requires.2))
+    (λ c κs. omega (arith, chain_first c.requires.1, c.requires.2))
     returns
     returns-2
     (λ c κs. search rules)

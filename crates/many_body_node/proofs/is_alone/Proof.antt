@@ -5,7 +5,7 @@ use Rattle.many_body_node.proofs.is_alone.Statement.{statement}
 use Rattle.many_body_node.proofs.is_alone.Tie as tie
 
 returns : tie.Need-returns-then-f-i
-returns c = λ n h. alone-own _ h c.before.if-f-i.true
+returns c = λ n h. alone-own _ h c.if-f-i.true
 
 returns-2 : tie.Need-returns
 returns-2 c = λ n h. alone-other _ h c.if-f-i.false

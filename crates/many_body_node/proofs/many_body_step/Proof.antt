@@ -34,7 +34,7 @@ returns c =
     let s = entry d in
     let a = s.args in
     let σ = flow a.vs.now (drop a.used a.draws.now) in
-    let e = sym k.is_far.ensures ∙ f.before.before.if-is_far.true in (
+    let e = sym k.is_far.ensures ∙ f.if-is_far.true in (
       λ z. far-inner a.t a.at.now a.strengths.now a.alpha a.i a.c (charge_of d.charge_at-q.result) (read_charge a.m.now a.s) d.charge_at-q.ensures σ f.act_far-a.new.vs a.draws.now f.act_far-a.result e f.act_far-a.ensures.0,
       (
         λ z h. far-leaf a.t a.at.now a.strengths.now a.alpha a.i a.c (charge_of d.charge_at-q.result) (read_charge a.m.now a.s) d.charge_at-q.ensures σ f.act_far-a.new.vs a.draws.now f.act_far-a.result e f.act_far-a.ensures.0 h.members,
@@ -51,7 +51,7 @@ returns-2 c =
     let s = entry d in
     let a = s.args in
     let σ = flow a.vs.now (drop a.used a.draws.now) in
-    let e = sym k.is_far.ensures ∙ g.before.if-is_far.false in (
+    let e = sym k.is_far.ensures ∙ g.if-is_far.false in (
       λ z. near-inner a.t a.at.now a.strengths.now a.alpha a.i a.c (charge_of d.charge_at-q.result) (read_charge a.m.now a.s) d.charge_at-q.ensures σ e,
       (λ z h. absurd (z (sym g.tag-tag.ensures ∙ c.if-tag-eq0.true)), omega (arith, s.requires.0)),
     )
@@ -60,12 +60,12 @@ returns-2 c =
 followed : (c : tie.After-index-f)
     → let s = entry-from-index c in
     (h : Chain s.args.next.now (length s.args.strengths.now) (word s.args.m.now s.args.s 0 - 1)) → Chain s.args.next.now (length s.args.strengths.now) c.index-f.result
-followed c h = record { members = h.members; follows = h.follows; starts = h.starts ∙ sym (c.index-f.ensures ∙ ap (λ (n : ℕ). n - 1) c.before.before.tag-tag.ensures); good = h.good }
+followed c h = record { members = h.members; follows = h.follows; starts = h.starts ∙ sym (c.index-f.ensures ∙ ap (λ (n : ℕ). n - 1) c.tag-tag.ensures); good = h.good }
 
 leaf : (c : tie.After-index-f)
     → let s = entry-from-index c in
     word s.args.m.now s.args.s 0 ≡ 0 → ⊥
-leaf c z = c.before.if-tag-eq0.false (c.before.before.tag-tag.ensures ∙ z)
+leaf c z = c.if-tag-eq0.false (c.tag-tag.ensures ∙ z)
 
 act-near-requires : tie.Need-act_near-a-requires
 act-near-requires c κs =
@@ -84,7 +84,7 @@ returns-3 c =
     let s = entry d in
     let a = s.args in
     let σ = flow a.vs.now (drop a.used a.draws.now) in
-    let e = sym k.is_far.ensures ∙ i.before.before.before.if-is_far.false in (
+    let e = sym k.is_far.ensures ∙ i.if-is_far.false in (
       λ z. absurd (leaf i z),
       (
         λ z h. near-leaf a.t a.at.now a.strengths.now a.alpha a.i a.c (charge_of d.charge_at-q.result) (read_charge a.m.now a.s) d.charge_at-q.ensures σ e n.act_near-a.new.vs a.draws.now n.act_near-a.result h.members (n.act_near-a.ensures.0 (followed i h)),

@@ -20,7 +20,7 @@ returns : tie.Need-returns
 returns c =
     let k = copied c.before.before.before in
     let s = entry k.before in
-    c.before.before.copy_to-2.ensures ∙ ap (λ (l : List Float). overwritten l (length s.args.places.now) s.args.speeds.now) k.copy_to.ensures ∙ laid s.args.kept.now s.args.places.now s.args.speeds.now s.requires
+    c.copy_to-2.ensures ∙ ap (λ (l : List Float). overwritten l (length s.args.places.now) s.args.speeds.now) k.copy_to.ensures ∙ laid s.args.kept.now s.args.places.now s.args.speeds.now s.requires
 
 pub keep_spec : {M : Type 1} → statement M
 keep_spec =
@@ -28,5 +28,5 @@ keep_spec =
     (tie.spec
     (λ c κs. omega (arith, (entry c).requires))
     (λ c κs. omega (arith, (entry (copied c).before).requires, (copied c).copy_to.auto.to))
-    (λ c. c.before.before.copy_to-2.auto.to ∙ (copied c.before.before.before).copy_to.auto.to)
+    (λ c. c.copy_to-2.auto.to ∙ (copied c.before.before.before).copy_to.auto.to)
     returns)

@@ -40,7 +40,7 @@ abbrev put : tie.After-slice_known-then-number-ne0-2-1 invariant-loop decreases-
 put c = c.before.before.before.before
 
 abbrev stopped : tie.After-put_back invariant-loop decreases-loop → tie.Then-number-ne0 invariant-loop decreases-loop
-stopped c = c.before.before.before.before
+stopped c = c.before.before.before
 
 abbrev after-refusal : tie.After-put_back-arg-1 invariant-loop decreases-loop → tie.After-refusal-1 invariant-loop decreases-loop
 after-refusal c = c.before.before
@@ -49,10 +49,10 @@ abbrev ticked : tie.After-refusal-1 invariant-loop decreases-loop → tie.After-
 ticked c = c.before.before.before.before.before.before.before.before.before.before.before
 
 abbrev lent : tie.After-tick_on-arg-in-loop-t-4-1 invariant-loop decreases-loop → tie.After-keep invariant-loop decreases-loop
-lent c = c.before.before.before.before.before.before.before.before
+lent c = c.before.before.before.before.before.before.before
 
 abbrev begun : tie.After-keep invariant-loop decreases-loop → tie.Then-alpha_min-p invariant-loop decreases-loop
-begun c = c.before.before.before.before
+begun c = c.before.before
 
 abbrev turn : tie.Then-alpha_min-p invariant-loop decreases-loop → tie.At-loop-t invariant-loop decreases-loop
 turn c = c.before.before.before
@@ -142,7 +142,7 @@ returns c =
     (b.put_back.ensures.0 ∙ first_part (kept g) (before g).places (before g).speeds _ g.keep.ensures m.tick_on-r.auto.places)
     (b.put_back.ensures.1 ∙ second_part (kept g) (before g).places (before g).speeds _ _ g.keep.ensures m.tick_on-r.auto.places m.tick_on-r.auto.speeds)
     m.tick_on-r.ensures.late
-    (ticks_stop q.settings q.alpha_min (fs s) (slots_of a.work.now) q.budget l.t (state_of (before g) a.draws.now l.p) i.before.before.loop-t-test.taken i.if-alpha_min-p.taken r.refusal
+    (ticks_stop q.settings q.alpha_min (fs s) (slots_of a.work.now) q.budget l.t (state_of (before g) a.draws.now l.p) i.loop-t-test.taken i.if-alpha_min-p.taken r.refusal
     (tick-stops q.settings (fs s) (slots_of a.work.now) (before g) (after m) a.draws.now l.p r _ (home g) l.invariant.0.places (staged m) w.if-number-ne0.taken)
     ∙ sym l.invariant.10 ∙ sym (ticks_first q.settings q.alpha_min (fs s) (slots_of a.work.now) q.budget _))
 
@@ -175,10 +175,10 @@ loop-again c =
       e.1.1.1.1.1.1.1.1.1.0 ∙ l.invariant.5,
       e.1.1.1.1.1.1.1.1.1.1.0 ∙ l.invariant.6,
       e.1.1.1.1.1.1.1.1.1.1.1.0 ∙ l.invariant.7,
-      omega (arith, i.before.before.loop-t-test.taken),
+      omega (arith, i.loop-t-test.taken),
       omega (arith, t.few z, l.invariant.9),
       l.invariant.10
-          ∙ ticks-on q.settings q.alpha_min (fs s) (slots_of a.work.now) q.budget l.t (state_of (before g) a.draws.now l.p) i.before.before.loop-t-test.taken i.if-alpha_min-p.taken
+          ∙ ticks-on q.settings q.alpha_min (fs s) (slots_of a.work.now) q.budget l.t (state_of (before g) a.draws.now l.p) i.loop-t-test.taken i.if-alpha_min-p.taken
           (state_of (after m) a.draws.now r.progress)
           (tick_goes q.settings (fs s) (slots_of a.work.now) (before g) (after m) a.draws.now l.p r _ (home g) l.invariant.0.places (staged m) z),
     )
@@ -194,7 +194,7 @@ returns-2 c =
     let m = state_of now a.draws.now l.p in
     ended_steps now a.draws.now l.p _ q.budget l.t _ l.invariant.0 l.invariant.8 l.invariant.9 c.unrefused.result c.unrefused.ensures
     (⊎_elim (λ w. ticks-low q.settings q.alpha_min (fs s) (slots_of a.work.now) q.budget l.t m w.0.taken w.2.left)
-    (λ w. ticks_end q.settings q.alpha_min (fs s) (slots_of a.work.now) q.budget l.t m w.left) c.before.loop-t-test.branch
+    (λ w. ticks_end q.settings q.alpha_min (fs s) (slots_of a.work.now) q.budget l.t m w.left) c.loop-t-test.branch
     ∙ sym l.invariant.10 ∙ sym (ticks_first q.settings q.alpha_min (fs s) (slots_of a.work.now) q.budget _))
 
 pub step_on_spec : {M : Type 1} → statement M
@@ -216,14 +216,14 @@ step_on_spec =
     (λ c. let b = put c in let m = ticked (stopped b).before in m.tick_on-r.auto.tail ∙ (turn (begun (lent m.before))).loop-t.invariant.6)
     (λ c. let b = put c in let m = ticked (stopped b).before in m.tick_on-r.auto.work ∙ (turn (begun (lent m.before))).loop-t.invariant.7)
     returns
-    (λ c. let i = begun (lent (ticked c.before.before).before) in omega (arith, i.before.before.loop-t-test.taken, (entry (turn i)).requires.0.1))
-    (λ c. let i = begun (lent (ticked c.before.before).before) in omega (arith, i.before.before.loop-t-test.taken))
+    (λ c. let i = begun (lent (ticked c.before.before).before) in omega (arith, i.loop-t-test.taken, (entry (turn i)).requires.0.1))
+    (λ c. let i = begun (lent (ticked c.before.before).before) in omega (arith, i.loop-t-test.taken))
     loop-again
     (λ c κs. search rules)
-    (λ c. c.before.before.loop-t.invariant.2)
-    (λ c. c.before.before.loop-t.invariant.3)
-    (λ c. c.before.before.loop-t.invariant.4)
-    (λ c. c.before.before.loop-t.invariant.5)
-    (λ c. c.before.before.loop-t.invariant.6)
-    (λ c. c.before.before.loop-t.invariant.7)
+    (λ c. c.loop-t.invariant.2)
+    (λ c. c.loop-t.invariant.3)
+    (λ c. c.loop-t.invariant.4)
+    (λ c. c.loop-t.invariant.5)
+    (λ c. c.loop-t.invariant.6)
+    (λ c. c.loop-t.invariant.7)
     returns-2)

@@ -22,7 +22,7 @@ abbrev ran : tie.After-settle-step-arg5 → tie.After-step_on-stepped
 ran c = c.before.before.before.before.before.before.before.before.before.before.before.before.before.before.before
 
 abbrev columns-read : tie.After-step_on-arg-4-1 → tie.After-read_columns
-columns-read c = c.before.before.before.before.before.before.before.before.before.before
+columns-read c = c.before.before.before.before.before.before.before.before.before.before.before.before
 
 abbrev start : tie.After-read-columns-arg4 → tie.Start
 start c = c.before.before.before.before.before.before.before.before.before.before.before.before.before

@@ -17,7 +17,7 @@ abbrev input : tie.Start → SheetInput
 input s = let a = s.args in lent_sheet a.sheet.now a.alpha.now a.words.now a.numbers.now a.links.now a.draws.now a.work.now
 
 abbrev start : tie.After-step_check-r → tie.Start
-start d = d.before.before.before.before.before.before.before.before.before
+start d = d.before.before.before.before.before.before.before.before
 
 -- what the check answered
 answer : (d : tie.After-step_check-r) → let s = start d in d.step_check-r.result ≡ refusal_of (sheet_check (input s) (count_check most_ticks s.args.budget) (tick_settings (input s) s.args.s ++ (s.args.alpha_min ∷ [])))
@@ -26,20 +26,20 @@ answer d =
     answered (input s) s.args.budget (tick_settings (input s) s.args.s ++ (s.args.alpha_min ∷ [])) d.step_check-r.result
     (d.step_check-r.ensures
     ∙ ap (λ (a : Float). refusal_of (sheet_check (lent_sheet s.args.sheet.now 0 s.args.words.now s.args.numbers.now s.args.links.now s.args.draws.now []) (count_check most_ticks s.args.budget) ((a ∷ s.args.s.target ∷ s.args.s.alpha_decay ∷ s.args.s.velocity_decay ∷ []) ++ (s.args.alpha_min ∷ []))))
-    d.before.before.float_of-first_alpha.ensures)
+    d.float_of-first_alpha.ensures)
 
 returns : tie.Need-returns-then-number-ne0
 returns c =
     let d = c.before.before in
     let s = start d in
-    step-stopped (input s) s.args.s s.args.alpha_min s.args.budget d.step_check-r.result c.refused_step.result (stopped (input s) s.args.budget (tick_settings (input s) s.args.s ++ (s.args.alpha_min ∷ [])) d.step_check-r.result (answer d) c.before.if-number-ne0.true) c.refused_step.ensures
+    step-stopped (input s) s.args.s s.args.alpha_min s.args.budget d.step_check-r.result c.refused_step.result (stopped (input s) s.args.budget (tick_settings (input s) s.args.s ++ (s.args.alpha_min ∷ [])) d.step_check-r.result (answer d) c.if-number-ne0.true) c.refused_step.ensures
 
 with-lists-requires : tie.Need-with_lists-requires
 with-lists-requires c κs =
     let e = c.before.before.before in
     let s = start e.before in (
-      past (input s) s.args.budget (tick_settings (input s) s.args.s ++ (s.args.alpha_min ∷ [])) e.before.step_check-r.result (answer e.before) e.if-number-ne0.false,
-      e.before.before.before.float_of-first_alpha.ensures,
+      past (input s) s.args.budget (tick_settings (input s) s.args.s ++ (s.args.alpha_min ∷ [])) e.step_check-r.result (answer e.before) e.if-number-ne0.false,
+      e.float_of-first_alpha.ensures,
     )
 
 pub step_spec : {M : Type 1} → statement M

@@ -6,8 +6,7 @@ use Rattle.talemiku.proofs.talemiku_step.Tie as tie
 -- the settings are those of the contract
 returns : tie.Need-returns
 returns c =
-    let stepped = c.before.before.before.before in
-    rw stepped.before.before.before.before.settings_of-s.ensures at stepped.step.ensures
+    rw c.settings_of-s.ensures at c.step.ensures
 
 pub talemiku_step_spec : {M : Type 1} → statement M
 talemiku_step_spec =

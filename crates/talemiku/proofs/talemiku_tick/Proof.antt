@@ -6,8 +6,7 @@ use Rattle.talemiku.proofs.talemiku_tick.Tie as tie
 -- the settings are those of the contract
 returns : tie.Need-returns
 returns c =
-    let ticked = c.before.before.before.before in
-    rw ticked.before.before.before.before.settings_of-s.ensures at ticked.tick.ensures
+    rw c.settings_of-s.ensures at c.tick.ensures
 
 pub talemiku_tick_spec : {M : Type 1} → statement M
 talemiku_tick_spec =

@@ -6,7 +6,7 @@ use Rattle.talemiku.proofs.talemiku_unwrap.Statement.{statement}
 use Rattle.talemiku.proofs.talemiku_unwrap.Tie as tie
 
 returns : tie.Need-returns
-returns c = let s = c.before.before.before in rw (to_z-of_z w64 s.args.centre s.ranges.centre) at c.before.unwrap.ensures
+returns c = rw (to_z-of_z w64 c.args.centre c.ranges.centre) at c.unwrap.ensures
 
 pub talemiku_unwrap_spec : {M : Type 1} → statement M
 talemiku_unwrap_spec = tie.close (tie.spec (λ c κs. search rules) (λ c. search rules) returns)

@@ -61,9 +61,9 @@ returns c =
     let s = entry x in
     subst⁻¹ (λ (r : Ran). Stages (begun x) s.args.draws.now (cooled s.args.turn.settings s.args.turn.progress) (most x) r
     (tick_home s.args.turn.settings s.args.home.now (forces x) (slots_of s.args.work.now) (state_of (begun x) s.args.draws.now s.args.turn.progress)))
-    (c.refused.ensures ∙ ap₂ ended c.before.at.ensures (same x))
+    (c.refused.ensures ∙ ap₂ ended c.at.ensures (same x))
     (hot_tick s.args.turn.settings s.args.home.now (forces x) (slots_of s.args.work.now) (begun x) s.args.draws.now s.args.turn.progress (most x) (begun x) s.requires.1.0.drawn
-    (ap within (sym x.next_alpha-alpha.ensures) ∙ sym w.within.ensures ∙ not-true w.within.result c.before.before.if-not-within.true-raw))
+    (ap within (sym x.next_alpha-alpha.ensures) ∙ sym w.within.ensures ∙ not-true w.within.result c.if-not-within.true-raw))
 
 run-forces-requires : tie.Need-run_forces-ran-requires
 run-forces-requires c κs = let p = (entry (tested (lent c))).requires in (p.0.0, p.1)
@@ -84,7 +84,7 @@ returns-2 c =
     let t = s.args.turn.settings in
     let to = columns m.close.new.places m.close.new.speeds s.args.flags.now in
     cool_tick t s.args.home.now (forces x) (slots_of s.args.work.now) (begun x) s.args.draws.now s.args.turn.progress (most x)
-    (ap within (sym x.next_alpha-alpha.ensures) ∙ sym k.before.within.ensures ∙ not-false k.before.within.result k.if-not-within.left) to m.close.result
+    (ap within (sym x.next_alpha-alpha.ensures) ∙ sym k.within.ensures ∙ not-false k.within.result k.if-not-within.left) to m.close.result
     (subst (λ (p : Progress). Stages to s.args.draws.now p (most x) m.close.result
     (closed t.velocity_decay s.args.home.now (fold_stages (force_stage t.tuning (slots_of s.args.work.now)) (state_of (begun x) s.args.draws.now p) (forces x))))
     (same x) (m.close.ensures s.args.draws.now (now x) (most x) _ g.run_forces-ran.ensures))

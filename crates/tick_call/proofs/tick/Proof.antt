@@ -16,7 +16,7 @@ abbrev input : tie.Start → SheetInput
 input s = let a = s.args in lent_sheet a.sheet.now a.alpha.now a.words.now a.numbers.now a.links.now a.draws.now a.work.now
 
 abbrev start : tie.After-tick_check-r → tie.Start
-start d = d.before.before.before.before.before.before.before.before.before
+start d = d.before.before.before.before.before.before.before.before
 
 -- what the check answered
 answer : (d : tie.After-tick_check-r) → let s = start d in d.tick_check-r.result ≡ refusal_of (sheet_check (input s) fine (tick_settings (input s) s.args.s))
@@ -25,19 +25,19 @@ answer d =
     answered (input s) 0 (tick_settings (input s) s.args.s) d.tick_check-r.result
     (d.tick_check-r.ensures
     ∙ ap (λ (a : Float). refusal_of (sheet_check (lent_sheet s.args.sheet.now 0 s.args.words.now s.args.numbers.now s.args.links.now s.args.draws.now []) fine (a ∷ s.args.s.target ∷ s.args.s.alpha_decay ∷ s.args.s.velocity_decay ∷ [])))
-    d.before.float_of.ensures)
+    d.float_of.ensures)
 
 returns : tie.Need-returns-then-number-ne0
 returns c =
     let d = c.before.before in
     let s = start d in
-    tick-stopped (input s) s.args.s d.tick_check-r.result c.refused.result (stopped (input s) 0 (tick_settings (input s) s.args.s) d.tick_check-r.result (answer d) c.before.if-number-ne0.true) c.refused.ensures
+    tick-stopped (input s) s.args.s d.tick_check-r.result c.refused.result (stopped (input s) 0 (tick_settings (input s) s.args.s) d.tick_check-r.result (answer d) c.if-number-ne0.true) c.refused.ensures
 
 with-lists-requires : tie.Need-with_lists-requires
 with-lists-requires c κs =
     let e = c.before.before.before in
     let s = start e.before in
-    past (input s) 0 (tick_settings (input s) s.args.s) e.before.tick_check-r.result (answer e.before) e.if-number-ne0.false
+    past (input s) 0 (tick_settings (input s) s.args.s) e.tick_check-r.result (answer e.before) e.if-number-ne0.false
 
 pub tick_spec : {M : Type 1} → statement M
 tick_spec =

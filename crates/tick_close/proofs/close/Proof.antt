@@ -12,7 +12,7 @@ abbrev entry : tie.After-refusal-1 → tie.Start
 entry c = c.before.before.before.before.before
 
 abbrev moved : tie.After-ranged → tie.After-close_all
-moved c = c.before.before.before.before.before.before.before
+moved c = c.before.before.before.before.before
 
 abbrev passed : tie.After-close_all → tie.Else-number-ne0
 passed c = c.before.before.before

@@ -18,21 +18,19 @@ decreases-loop from at to₀ i₀ to i = length to₀ - i
 
 loop-again : tie.Need-loop-i-preserved invariant-loop decreases-loop
 loop-again c =
-    let l = c.before.before.loop-i in
-    let s = c.before.before.before in
-    let part = drop s.args.at s.args.from.now in
-    let long : l.i < length part = simp length-drop (omega (arith, s.requires)) in (
+    let l = c.loop-i in
+    let part = drop c.args.at c.args.from.now in
+    let long : l.i < length part = simp length-drop (omega (arith, c.requires)) in (
       omega arith,
       simp length-set l.invariant.1,
-      rw (add-one, take-suc-set l.to l.i _ (omega (arith, l.invariant.1)), l.invariant.2, take-suc part l.i nan long, get_or-drop s.args.at s.args.from.now l.i nan),
+      rw (add-one, take-suc-set l.to l.i _ (omega (arith, l.invariant.1)), l.invariant.2, take-suc part l.i nan long, get_or-drop c.args.at c.args.from.now l.i nan),
     )
 
 returns : tie.Need-returns invariant-loop decreases-loop
 returns c =
-    let l = c.before.loop-i in
-    let s = c.before.before in
-    let all : l.i ≡ length s.args.to.now = omega (arith, l.invariant.1, l.invariant.0) in
-    sym (take_all l.i l.to (omega (arith, l.invariant.1))) ∙ l.invariant.2 ∙ ap (λ (k : ℕ). take k (drop s.args.at s.args.from.now)) all
+    let l = c.loop-i in
+    let all : l.i ≡ length c.args.to.now = omega (arith, l.invariant.1, l.invariant.0) in
+    sym (take_all l.i l.to (omega (arith, l.invariant.1))) ∙ l.invariant.2 ∙ ap (λ (k : ℕ). take k (drop c.args.at c.args.from.now)) all
 
 pub copy_from_spec : {M : Type 1} → statement M
 copy_from_spec =
@@ -41,13 +39,13 @@ copy_from_spec =
     invariant-loop
     decreases-loop
     (λ c. (omega arith, refl, refl))
-    (λ c. omega (arith, c.before.before.requires))
-    (λ c. omega (arith, c.before.before.requires))
-    (λ c. omega (arith, c.before.before.before.requires, c.before.before.loop-i.invariant.1))
+    (λ c. omega (arith, c.requires))
+    (λ c. omega (arith, c.requires))
+    (λ c. omega (arith, c.requires, c.loop-i.invariant.1))
     (λ c. omega arith)
     (λ c. omega arith)
     (λ c. omega arith)
-    (λ c. omega (arith, c.before.before.loop-i.invariant.1))
+    (λ c. omega (arith, c.loop-i.invariant.1))
     loop-again
-    (λ c. omega (arith, c.before.loop-i.invariant.1))
+    (λ c. omega (arith, c.loop-i.invariant.1))
     returns)

@@ -22,26 +22,24 @@ decreases-loop from to₀ at i₀ to i = length from - i
 
 loop-again : tie.Need-loop-i-preserved invariant-loop decreases-loop
 loop-again c =
-    let l = c.before.before.loop-i in
-    let s = c.before.before.before in
-    let from = s.args.from.now in
+    let l = c.loop-i in
+    let from = c.args.from.now in
     let rest = drop (l.i + 1) from in
     let first : drop l.i from ≡ get_or from l.i nan ∷ rest = drop-cons from l.i nan (omega arith) ∙ ap (λ (k : ℕ). get_or from l.i nan ∷ drop k from) (sym (add-one l.i)) in
-    let room : s.args.at + l.i + length (get_or from l.i nan ∷ rest) ≤ length l.to = omega (arith, l.invariant.1, s.requires, length-drop (l.i + 1) from) in (
+    let room : c.args.at + l.i + length (get_or from l.i nan ∷ rest) ≤ length l.to = omega (arith, l.invariant.1, c.requires, length-drop (l.i + 1) from) in (
       omega arith,
       simp length-set l.invariant.1,
       l.invariant.2
-          ∙ ap (overwritten l.to (s.args.at + l.i)) first
-          ∙ store_first l.to (s.args.at + l.i) (get_or from l.i nan) rest room
-          ∙ ap (λ (k : ℕ). overwritten (set l.to (s.args.at + l.i) (get_or from l.i nan)) k rest) (add_assoc s.args.at l.i 1),
+          ∙ ap (overwritten l.to (c.args.at + l.i)) first
+          ∙ store_first l.to (c.args.at + l.i) (get_or from l.i nan) rest room
+          ∙ ap (λ (k : ℕ). overwritten (set l.to (c.args.at + l.i) (get_or from l.i nan)) k rest) (add_assoc c.args.at l.i 1),
     )
 
 returns : tie.Need-returns invariant-loop decreases-loop
 returns c =
-    let l = c.before.loop-i in
-    let s = c.before.before in
-    let from = s.args.from.now in
-    sym (l.invariant.2 ∙ ap (overwritten l.to (s.args.at + l.i)) (drop_of_length-le from {i = l.i} (omega arith)) ∙ overwritten-none l.to (s.args.at + l.i))
+    let l = c.loop-i in
+    let from = c.args.from.now in
+    sym (l.invariant.2 ∙ ap (overwritten l.to (c.args.at + l.i)) (drop_of_length-le from {i = l.i} (omega arith)) ∙ overwritten-none l.to (c.args.at + l.i))
 
 pub copy_to_spec : {M : Type 1} → statement M
 copy_to_spec =
@@ -52,11 +50,11 @@ copy_to_spec =
     (λ c. (omega arith, refl, rw add-zero))
     (λ c. omega arith)
     (λ c. omega arith)
-    (λ c. omega (arith, c.before.before.before.requires))
-    (λ c. omega (arith, c.before.before.before.requires))
-    (λ c. omega (arith, c.before.before.before.requires, c.before.before.loop-i.invariant.1))
+    (λ c. omega (arith, c.requires))
+    (λ c. omega (arith, c.requires))
+    (λ c. omega (arith, c.requires, c.loop-i.invariant.1))
     (λ c. omega arith)
     (λ c. omega arith)
     loop-again
-    (λ c. omega (arith, c.before.loop-i.invariant.1))
+    (λ c. omega (arith, c.loop-i.invariant.1))
     returns)

@@ -53,9 +53,8 @@ passed c = c.before.before
 
 loop-holds : tie.Need-loop-i-init invariant-loop decreases-loop
 loop-holds c =
-    let s = c.before.before.before.before.before.before.before.before.before in
-    let a = s.args in
-    let p = s.requires in
+    let a = c.args in
+    let p = c.requires in
     (left-first (length a.flags.now) a.words.now a.numbers.now a.links.now p.0, p.1.0, p.1.1, refl, refl, refl, refl, refl, refl, omega (arith, p.1.0.drawn), omega arith, refl)
 
 -- the slot's own lists, from what is left
@@ -70,13 +69,13 @@ module _ (c : tie.After-entry_at-e invariant-loop decreases-loop) where
   slot =
       let l = (turn c).loop-i in
       let a = (entry (turn c)).args in
-      left-slot n a.words.now a.numbers.now a.links.now l.i l.a l.b l.invariant.0 (omega (arith, c.before.loop-i-test.true)) e c.entry_at-e.ensures
+      left-slot n a.words.now a.numbers.now a.links.now l.i l.a l.b l.invariant.0 (omega (arith, c.loop-i-test.true)) e c.entry_at-e.ensures
 
   next : let l = (turn c).loop-i in let a = (entry (turn c)).args in Left n a.words.now a.numbers.now a.links.now (l.i + 1) (l.a + numbers_needed n e) (l.b + links_needed e * 2)
   next =
       let l = (turn c).loop-i in
       let a = (entry (turn c)).args in
-      left-next n a.words.now a.numbers.now a.links.now l.i l.a l.b l.invariant.0 (omega (arith, c.before.loop-i-test.true)) e c.entry_at-e.ensures
+      left-next n a.words.now a.numbers.now a.links.now l.i l.a l.b l.invariant.0 (omega (arith, c.loop-i-test.true)) e c.entry_at-e.ensures
 
   -- the force of this turn, and those after it
   forces : let l = (turn c).loop-i in let a = (entry (turn c)).args in
@@ -84,7 +83,7 @@ module _ (c : tie.After-entry_at-e invariant-loop decreases-loop) where
   forces =
       let l = (turn c).loop-i in
       let a = (entry (turn c)).args in
-      left-forces n a.words.now a.numbers.now a.links.now l.i l.a l.b l.invariant.0 (omega (arith, c.before.loop-i-test.true)) e c.entry_at-e.ensures
+      left-forces n a.words.now a.numbers.now a.links.now l.i l.a l.b l.invariant.0 (omega (arith, c.loop-i-test.true)) e c.entry_at-e.ensures
 
 stage-requires : tie.Need-stage-r-requires invariant-loop decreases-loop
 stage-requires c κs =
@@ -134,7 +133,7 @@ loop-again c =
     let kept = g.stage-r.auto in
     let r = g.stage-r.ensures in
     let z = i.if-number-ne0.left in (
-      rw (c.before.numbers_needed-a.ensures, c.links_needed.ensures) (next k),
+      rw (c.numbers_needed-a.ensures, c.links_needed.ensures) (next k),
       record {
         few = l.invariant.1.few;
         places = kept.1.1.1.0 ∙ l.invariant.1.places;
@@ -151,7 +150,7 @@ loop-again c =
       r.alpha ∙ l.invariant.8,
       omega (arith, r.draws, l.invariant.9),
       omega (arith, r.few z, l.invariant.10),
-      rw (c.before.numbers_needed-a.ensures, c.links_needed.ensures)
+      rw (c.numbers_needed-a.ensures, c.links_needed.ensures)
           (l.invariant.11
           ∙ stage-on (after g) a.draws.now g.stage-r.result a.t (slots_of a.work.now) _ _ _ (forces_left (n k) a.words.now a.numbers.now a.links.now l.i l.a l.b) (forces k) (staged g) z),
     )
@@ -160,7 +159,7 @@ returns-2 : tie.Need-returns invariant-loop decreases-loop
 unfolding staged_of ran_check zeroes_work
 returns-2 c =
     rw c.done.ensures
-    (let l = c.before.before.loop-i in
+    (let l = c.loop-i in
     let a = (entry c.before.before).args in
     record {
       is =
@@ -211,9 +210,9 @@ run_forces_spec =
     (λ c. omega arith)
     loop-again
     (λ c κs. search rules)
-    (λ c. c.before.before.loop-i.invariant.3)
-    (λ c. c.before.before.loop-i.invariant.4)
-    (λ c. c.before.before.loop-i.invariant.5)
-    (λ c. c.before.before.loop-i.invariant.6)
-    (λ c. c.before.before.loop-i.invariant.7)
+    (λ c. c.loop-i.invariant.3)
+    (λ c. c.loop-i.invariant.4)
+    (λ c. c.loop-i.invariant.5)
+    (λ c. c.loop-i.invariant.6)
+    (λ c. c.loop-i.invariant.7)
     returns-2)

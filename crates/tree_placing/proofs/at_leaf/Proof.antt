@@ -21,50 +21,37 @@ nodes-few : (s : tie.Start) → s.args.q.nodes ≤ 262144
 nodes-few s = few _ _ _ _ _ s.requires.1
 
 shared-few : (c : tie.After-shared_levels-g) → c.shared_levels-g.result ≤ 64
-shared-few c = let s = start c in shared-most _ _ _ _ _ s.requires.1 _ _ _ _ s.requires.2 s.requires.3 c.shared_levels-g.result c.shared_levels-g.ensures
+shared-few c = shared-most _ _ _ _ _ c.requires.1 _ _ _ _ c.requires.2 c.requires.3 c.shared_levels-g.result c.shared_levels-g.ensures
 
 shared-levels-requires : tie.Need-shared_levels-g-requires
 shared-levels-requires c κs =
-    let s = c.before.before in
-    let l = before-p s in
-    let r = s.requires.1.read in
+    let l = before-p c.before.before in
+    let r = c.requires.1.read in
     omega arith
 
 returns : tie.Need-returns-then-g-left
 returns c is g h =
-    let k = c.before in
-    let s = start k in
-    grown-deep _ _ _ _ _ g _ _ _ _ h s.requires.3 k.shared_levels-g.result k.shared_levels-g.ensures c.if-g-left.true s.args.m.now
+    grown-deep _ _ _ _ _ g _ _ _ _ h c.requires.3 c.shared_levels-g.result c.shared_levels-g.ensures c.if-g-left.true c.args.m.now
 
 returns-2 : tie.Need-returns-then-slots-q
 returns-2 c is g h =
-    let b = c.before.before.before.before in
-    let k = b.before in
-    grown-split-full _ _ _ _ _ g _ _ _ _ h (start k).requires.3 k.shared_levels-g.result k.shared_levels-g.ensures b.if-g-left.false (omega (arith, c.before.before.slots.ensures, c.if-slots-q.true))
+    grown-split-full _ _ _ _ _ g _ _ _ _ h c.requires.3 c.shared_levels-g.result c.shared_levels-g.ensures c.if-g-left.false (omega (arith, c.slots.ensures, c.if-slots-q.true))
 
 -- there is room
-fits : (c : tie.Else-slots-q) → let k = c.before.before.before.before.before in (start k).args.q.nodes + k.shared_levels-g.result + 2 ≤ slots_of (start k).args.m.now
-fits c = omega (arith, c.before.before.slots.ensures, c.if-slots-q.false)
+fits : (c : tie.Else-slots-q) → c.args.q.nodes + c.shared_levels-g.result + 2 ≤ slots_of c.args.m.now
+fits c = omega (arith, c.slots.ensures, c.if-slots-q.false)
 
 split-requires : tie.Need-split-requires
 split-requires c κs =
-    let e = c.before in
-    let b = e.before.before.before.before in
-    let k = b.before in
-    let s = start k in
-    split-asks _ _ _ _ _ s.requires.1 _ _ _ _ s.requires.2 s.requires.3 k.shared_levels-g.result k.shared_levels-g.ensures b.if-g-left.false (fits e)
+    split-asks _ _ _ _ _ c.requires.1 _ _ _ _ c.requires.2 c.requires.3 c.shared_levels-g.result c.shared_levels-g.ensures c.if-g-left.false (fits c.before)
 
 returns-3 : tie.Need-returns
 returns-3 c is g h =
-    let w = c.before.before.before in
-    let e = w.before.before in
-    let b = e.before.before.before.before in
-    let k = b.before in
-    grown-split _ _ _ _ _ g _ _ _ _ h (start k).requires.3 k.shared_levels-g.result k.shared_levels-g.ensures b.if-g-left.false (fits e) w.split.new.m c.more.result w.split.ensures c.more.ensures
+    grown-split _ _ _ _ _ g _ _ _ _ h c.requires.3 c.shared_levels-g.result c.shared_levels-g.ensures c.if-g-left.false (fits c.before.before.before.before.before) c.split.new.m c.more.result c.split.ensures c.more.ensures
 
 -- from after the split back to the count
 abbrev shared : tie.After-slice_known-2-1 → tie.After-shared_levels-g
-shared c = c.before.before.before.before.before.before.before.before.before
+shared c = c.before.before.before.before.before.before.before.before
 
 pub at_leaf_spec : {M : Type 1} → statement M
 at_leaf_spec =
@@ -74,14 +61,14 @@ at_leaf_spec =
     shared-levels-requires
     returns
     (λ c κs. search rules)
-    (λ c. let k = c.before.before.before.before in let g = shared-few k in let n = nodes-few (start k) in omega arith)
-    (λ c. let k = c.before.before.before.before in let g = shared-few k in let n = nodes-few (start k) in omega arith)
+    (λ c. let g = shared-few c.before.before.before in let n = nodes-few c.before.before.before.before.before.before in omega arith)
+    (λ c. let g = shared-few c.before.before.before in let n = nodes-few c.before.before.before.before.before.before in omega arith)
     (λ c. search rules)
     returns-2
     split-requires
     (λ c. search rules)
-    (λ c. let g = shared-few (shared c) in let l = level-most (start (shared c)) in omega arith)
-    (λ c. let g = shared-few (shared c) in let l = level-most (start (shared c)) in omega arith)
-    (λ c κs. let g = shared-few (shared c) in (nodes-few (start (shared c)), omega arith))
+    (λ c. let g = shared-few c.before.before.before.before.before.before.before.before in let l = level-most c.before.before.before.before.before.before.before.before.before.before.before in omega arith)
+    (λ c. let g = shared-few c.before.before.before.before.before.before.before.before in let l = level-most c.before.before.before.before.before.before.before.before.before.before.before in omega arith)
+    (λ c κs. let g = shared-few c.before.before.before.before.before.before.before.before in (nodes-few (start c.before.before.before.before.before.before.before.before), omega arith))
     (λ c. search rules)
     returns-3)

@@ -8,9 +8,8 @@ use Rattle.tree_placing.proofs.more.Tie as tie
 
 returns : tie.Need-returns
 returns c =
-    let s = c.before.before.before in
-    let q : Quadtree = s.args.q in
-    ap (λ (d : ℕ). record { extent = q.extent; root = q.root; nodes = q.nodes + s.args.nodes; deepest = d }) c.greater.ensures
+    let q : Quadtree = c.args.q in
+    ap (λ (d : ℕ). record { extent = q.extent; root = q.root; nodes = q.nodes + c.args.nodes; deepest = d }) c.greater.ensures
 
 pub more_spec : {M : Type 1} → statement M
 more_spec = tie.close (tie.spec (λ c. search rules) (λ c κs. search rules) returns)

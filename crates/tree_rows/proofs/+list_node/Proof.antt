@@ -11,13 +11,13 @@ use Rattle.rules.specs.Tree.{Tree, row, rows_from, chains_of}
 use Rattle.tree_rows.specs.List.{Listable, ListableLeaf, RowsWritten}
 use Rattle.tree_rows.proofs.ListRows.{wrote_none}
 use Rattle.tree_rows.proofs.ListTree.{Some, stands_none, stands_some, IsLeaf, stands_leaf, leaf_listable, IsNode, stands_node, Listing, node_listed, listing_rows, listing-chains, next_child, child_listed}
-use Rattle.tree_rows.proofs.list_node-a.Reads as list-node
-use Rattle.tree_rows.proofs.list_node-a.Kinds as list-node-kinds
+use Rattle.tree_rows.proofs.list_node.Reads as list-node
+use Rattle.tree_rows.proofs.list_node.Kinds as list-node-kinds
 use Rattle.tree_rows.proofs.+list_node.Lts-list_node as list-node-lts
 use Rattle.tree_rows.proofs.list_leaf.Reads as list-leaf-reads
 use Rattle.tree_rows.proofs.put_row.Reads as put-row-reads
-use Rattle.tree_slots.proofs.store.children-kids.Reads as children-reads
-use Rattle.tree_slots.proofs.store.tag-first.Reads as tag-reads
+use Rattle.tree_slots.proofs.store.children.Reads as children-reads
+use Rattle.tree_slots.proofs.store.tag.Reads as tag-reads
 use Rattle.tree_rows.proofs.+list_node.{statement}
 use Rattle.tree_rows.proofs.+list_node.Tie.{close}
 
@@ -111,29 +111,29 @@ some t c = let s = entry-from-if1 c.before in stands_some _ _ _ _ _ s.requires.1
 
 -- it is a leaf
 a-leaf : (t : ℕ) (c : list-node-lts.Then-first-ne0 (rd t) (list-node-at t) list-node.Post) (x : Tree ℕ) (w : Entry t (entry c) x)
-    → let a = (entry c).args in IsLeaf a.m.now a.next.now a.p a.level c.before.tag-first.result x
-a-leaf t c x w = stands_leaf _ _ _ _ _ _ w.stands c.before.before.if-p-eq0.false c.before.tag-first.ensures c.if-first-ne0.true
+    → let a = (entry c).args in IsLeaf a.m.now a.next.now a.p a.level c.tag-first.result x
+a-leaf t c x w = stands_leaf _ _ _ _ _ _ w.stands c.if-p-eq0.false c.tag-first.ensures c.if-first-ne0.true
 
 -- that can be listed
 leaf_of : (t : ℕ) (c : list-node-lts.Then-first-ne0 (rd t) (list-node-at t) list-node.Post) (x : Tree ℕ) (w : Entry t (entry c) x)
-    → let a = (entry c).args in ListableLeaf a.next.now c.before.tag-first.result (length a.rows.now) (length a.chains.now) a.at (a-leaf t c x w).chain
+    → let a = (entry c).args in ListableLeaf a.next.now c.tag-first.result (length a.rows.now) (length a.chains.now) a.at (a-leaf t c x w).chain
 leaf_of t c x w = leaf_listable w (a-leaf t c x w)
 
 -- it is internal
 opened : (t : ℕ) (c : list-node-lts.After-children-kids (rd t) (list-node-at t) list-node.Post) (x : Tree ℕ) (w : Entry t (entry-from-children-read c) x)
     → let a = (entry-from-children-read c).args in IsNode a.m.now a.next.now c.children-kids.result a.level x
 opened t c x w =
-    stands_node _ _ _ _ _ _ _ w.stands (else1 c).if-p-eq0.false (else2 c).before.tag-first.ensures (else2 c).if-first-ne0.false c.children-kids.ensures
+    stands_node _ _ _ _ _ _ _ w.stands (else1 c).if-p-eq0.false (else2 c).tag-first.ensures (else2 c).if-first-ne0.false c.children-kids.ensures
 
 state0 : (t : ℕ) (c : list-node-lts.After-children-kids (rd t) (list-node-at t) list-node.Post) (x : Tree ℕ) (w : Entry t (entry-from-children-read c) x)
     → let a = (entry-from-children-read c).args in let n = opened t c x w in
     Listing a.rows.now a.chains.now a.at (row a.level a.quadrant 1 0 ∷ []) [] (n.t0 ∷ n.t1 ∷ n.t2 ∷ n.t3 ∷ [])
-    c.before.before.before.put_row.new.rows a.chains.now (record { nodes = a.at.nodes + 1; chained = a.at.chained })
-state0 t c x w = node_listed w (opened t c x w) c.before.before.before.put_row.ensures
+    c.put_row.new.rows a.chains.now (record { nodes = a.at.nodes + 1; chained = a.at.chained })
+state0 t c x w = node_listed w (opened t c x w) c.put_row.ensures
 
 child0 : (t : ℕ) (c : list-node-lts.After-children-kids (rd t) (list-node-at t) list-node.Post) (x : Tree ℕ) (w : Entry t (entry-from-children-read c) x)
     → let a = (entry-from-children-read c).args in
-    Listable a.m.now a.next.now (get_or c.children-kids.result 0 0) (a.level + 1) (length c.before.before.before.put_row.new.rows) (length a.chains.now) (record { nodes = a.at.nodes + 1; chained = a.at.chained }) (opened t c x w).t0
+    Listable a.m.now a.next.now (get_or c.children-kids.result 0 0) (a.level + 1) (length c.put_row.new.rows) (length a.chains.now) (record { nodes = a.at.nodes + 1; chained = a.at.chained }) (opened t c x w).t0
 child0 t c x w = next_child (state0 t c x w) (opened t c x w).l0 w.few
 
 state1 : (t : ℕ) (c : list-node-lts.After-list_node-a (rd t) (list-node-at t) list-node.Post) (x : Tree ℕ) (w : Entry t (entry-from-listed1 c) x)
@@ -198,7 +198,7 @@ cast-s t c = search rules
 tag-requires : (t : ℕ) → list-node-lts.Need-tag-first-requires (rd t) (list-node-at t) list-node.Post
 tag-requires t c κs = (some t c).slot
 
-cast-list-leaf : (t : ℕ) → list-node-lts.Need-overflow-cast-list-leaf (rd t) (list-node-at t) list-node.Post
+cast-list-leaf : (t : ℕ) → list-node-lts.Need-overflow_cast-first (rd t) (list-node-at t) list-node.Post
 cast-list-leaf t c = omega (arith, (a-leaf t c (entry c).requires.1.0 (entry c).requires.1.1).small, (entry c).requires.1.1.few)
 
 list-leaf-requires : (t : ℕ) → list-node-lts.Need-list_leaf-requires (rd t) (list-node-at t) list-node.Post
@@ -225,7 +225,7 @@ children-requires t c κs = (some t (else1-from-put-row c.before.before.before))
 add-below : (t : ℕ) → list-node-lts.Need-overflow_add-below (rd t) (list-node-at t) list-node.Post
 add-below t c = omega (arith, (some t (else1 c)).shallow)
 
-add-t30 : (t : ℕ) → list-node-lts.Need-overflow-add-t30 (rd t) (list-node-at t) list-node.Post
+add-t30 : (t : ℕ) → list-node-lts.Need-overflow_add-from (rd t) (list-node-at t) list-node.Post
 add-t30 t c = omega (arith, (some t (else1 c)).one, (entry-from-children-read c).requires.1.1.room)
 
 array-read-list-node : (t : ℕ) → list-node-lts.Need-bounds-kids-0 (rd t) (list-node-at t) list-node.Post

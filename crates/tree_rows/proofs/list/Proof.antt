@@ -7,19 +7,17 @@ use Rattle.tree_rows.proofs.list.Statement.{statement}
 use Rattle.tree_rows.proofs.list.Tie as tie
 
 list-node-requires : tie.Need-list_node-end-requires
-list-node-requires c κs = (_, whole_listable c.before.before.before.before.before.before.requires.1)
+list-node-requires c κs = (_, whole_listable c.requires.1)
 
 clear-from-requires-2 : tie.Need-clear_from-requires-2
 clear-from-requires-2 c κs =
-    let d = c.before.before.before.before.before.before.before.before.before in
-    let w = d.before.before.before.before.before.before.before.requires.1 in
-    omega (arith, chains-end w (d.list_node-end.ensures _ (whole_listable w)) refl)
+    let w = c.requires.1 in
+    omega (arith, chains-end w (c.list_node-end.ensures _ (whole_listable w)) refl)
 
 returns : tie.Need-returns
 returns c t w =
-    let d = c.before.before.before.before.before.before in
-    let v = d.before.before.before.before.before.before.list_node-end.ensures _ (whole_listable w) in
-    (rows-listed w v refl d.clear_from.ensures, chains-listed w v refl c.before.before.clear_from-2.ensures)
+    let v = c.list_node-end.ensures _ (whole_listable w) in
+    (rows-listed w v refl c.clear_from.ensures, chains-listed w v refl c.clear_from-2.ensures)
 
 pub list_spec : {M : Type 1} → statement M
 list_spec =

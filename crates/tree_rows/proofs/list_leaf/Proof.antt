@@ -6,26 +6,23 @@ use Rattle.tree_rows.proofs.list_leaf.Statement.{statement}
 use Rattle.tree_rows.proofs.list_leaf.Tie as tie
 
 put-chain-requires : tie.Need-put_chain-end-requires
-put-chain-requires c κs = let p = c.before.before.before.before.requires in (p.0, p.1.chain)
+put-chain-requires c κs = let p = c.requires in (p.0, p.1.chain)
 
 -- the chain's length
 sub-put-row : tie.Need-overflow_sub-end
 sub-put-row c =
-    let d = c.before.before.before in
-    let p = d.before.before.before.before.before.requires in
-    omega (arith, d.put_chain-end.ensures p.0 p.1.chain)
+    let p = c.requires in
+    omega (arith, c.put_chain-end.ensures p.0 p.1.chain)
 
 cast-put-row : tie.Need-overflow_cast-end
 cast-put-row c =
-    let d = c.before.before.before in
-    let p = d.before.before.before.before.before.requires in
-    omega (arith, d.put_chain-end.ensures p.0 p.1.chain, p.1.chain.room, p.1.few)
+    let p = c.requires in
+    omega (arith, c.put_chain-end.ensures p.0 p.1.chain, p.1.chain.room, p.1.few)
 
 returns : tie.Need-returns
 returns c is w =
-    let d = c.before.before.before.before.before.before in
-    let e = d.put_chain-end.ensures is w.chain in
-    wrote_leaf e.0 e.1 c.before.before.put_row.ensures
+    let e = c.put_chain-end.ensures is w.chain in
+    wrote_leaf e.0 e.1 c.put_row.ensures
 
 pub list_leaf_spec : {M : Type 1} → statement M
 list_leaf_spec =

@@ -13,9 +13,9 @@ abbrev decreases-loop : tie.decreases-loop-link
 decreases-loop next p chains₀ at link₀ end₀ chains link end = length chains₀ - end
 
 here : (c : tie.In-loop-link invariant-loop decreases-loop)
-    → let a = c.before.before.args in
-    Here a.next.now a.chains.now a.p a.at c.before.loop-link.link c.before.loop-link.end
-here c = chaining_here _ _ _ _ _ _ _ c.before.loop-link.invariant c.loop-link-test.true
+    → let a = c.args in
+    Here a.next.now a.chains.now a.p a.at c.loop-link.link c.loop-link.end
+here c = chaining_here _ _ _ _ _ _ _ c.loop-link.invariant c.loop-link-test.true
 
 pub put_chain_spec : {M : Type 1} → statement M
 put_chain_spec =
@@ -32,6 +32,6 @@ put_chain_spec =
     (λ c. omega (arith, here c))
     (λ c. (here c.before).inside)
     (λ c. omega (arith, here c.before))
-    (λ c. chaining_turn _ _ _ _ _ _ _ c.before.before.loop-link.invariant c.before.loop-link-test.true)
-    (λ c. c.before.loop-link.invariant.size)
-    (λ c. chaining_end _ _ _ _ _ _ _ c.before.loop-link.invariant c.loop-link-test.false))
+    (λ c. chaining_turn _ _ _ _ _ _ _ c.loop-link.invariant c.loop-link-test.true)
+    (λ c. c.loop-link.invariant.size)
+    (λ c. chaining_end _ _ _ _ _ _ _ c.loop-link.invariant c.loop-link-test.false))

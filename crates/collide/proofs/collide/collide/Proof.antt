@@ -46,7 +46,7 @@ returns c =
     let a = s.args in
     rw c.done.ensures (
       ran_done a.vs.now a.draws.now a.p a.p refl (omega (arith, s.requires.1.drawn))
-          (run_none a.at.now a.radii.now a.strength a.iterations (slots_of a.m.now) (found s) c.before.if-iterations-eq0.true),
+          (run_none a.at.now a.radii.now a.strength a.iterations (slots_of a.m.now) (found s) c.if-iterations-eq0.true),
       omega arith,
     )
 

@@ -66,13 +66,12 @@ most s = let a = s.args in length a.radii.now * nodes (radius_tree a.at.now a.ra
 
 loop-holds : tie.Need-loop-k-init invariant-loop decreases-loop
 loop-holds c =
-    let s = c.before.before.before.before.before in
-    (omega arith, refl, omega (arith, s.requires.0.drawn), omega arith, refl, refl)
+    (omega arith, refl, omega (arith, c.requires.0.drawn), omega arith, refl, refl)
 
 walk-all-requires : tie.Need-walk_all-r-requires invariant-loop decreases-loop
 walk-all-requires c κs =
     let t = c.before in
-    let l = t.before.loop-k in
+    let l = t.loop-k in
     let s = start t.before in (
       record { places = s.requires.0.places; speeds = l.invariant.1 ∙ s.requires.0.speeds; drawn = l.invariant.2.reach },
       s.requires.1,
@@ -112,7 +111,7 @@ loop-again c =
       omega (arith, r.draws, l.loop-k.invariant.2),
       omega (arith, l.loop-k.invariant.3, w.walk_all-r.ensures.1),
       l.loop-k.invariant.4
-          ∙ left-on (once s) a.iterations l.loop-k.k (turn w).loop-k-test.taken (come l) w.walk_all-r.new.vs a.draws.now w.walk_all-r.result r.is c.before.if-number-ne0.false,
+          ∙ left-on (once s) a.iterations l.loop-k.k (turn w).loop-k-test.taken (come l) w.walk_all-r.new.vs a.draws.now w.walk_all-r.result r.is c.if-number-ne0.false,
       r.alpha ∙ l.loop-k.invariant.5,
     )
 
@@ -143,5 +142,5 @@ iterate_spec =
     (λ c. omega arith)
     loop-again
     (λ c κs. search rules)
-    (λ c. c.before.before.loop-k.invariant.1)
+    (λ c. c.loop-k.invariant.1)
     returns-2)

@@ -65,7 +65,7 @@ abbrev read-from-else1 : tie.Else-tag-eq0 invariant-loop2 decreases-loop2 invari
 read-from-else1 c = c.before.before.before.before
 
 abbrev within-loop2 : tie.After-waiting_at-arg-in-loop-w-1 invariant-loop2 decreases-loop2 invariant-loop decreases-loop → tie.In-loop-w invariant-loop2 decreases-loop2 invariant-loop decreases-loop
-within-loop2 c = c.before.before.before
+within-loop2 c = c.before.before
 
 abbrev within-loop : tie.After-push_slot-arg-1 invariant-loop2 decreases-loop2 invariant-loop decreases-loop → tie.In-loop-i invariant-loop2 decreases-loop2 invariant-loop decreases-loop
 within-loop c = c.before.before.before
@@ -121,7 +121,7 @@ loop2-holds c =
       (
         (start o).requires.1.next,
         sets-out a.at.now a.radii.now a.strength o.loop-i.i (start o).requires.1 (found o)
-            (record { sized = o.loop-i.invariant.5; slots = c.push_slot.ensures.0; cells = c.before.before.push_cell.ensures.0; height = c.push_slot.ensures.1 }),
+            (record { sized = o.loop-i.invariant.5; slots = c.push_slot.ensures.0; cells = c.push_cell.ensures.0; height = c.push_slot.ensures.1 }),
       ),
       refl,
     )
@@ -135,7 +135,7 @@ turn : (n : Read)
 turn n = record { walking = (top n).loop-w.invariant.2.1; waits = (within-loop2 n.before).loop-w-test.taken; top = n.waiting_at-e.ensures }
 
 waiting-at-requires : tie.Need-waiting_at-e-requires invariant-loop2 decreases-loop2 invariant-loop decreases-loop
-waiting-at-requires c κs = omega (arith, low (within-loop2 c).before.loop-w.invariant.2.1)
+waiting-at-requires c κs = omega (arith, low (within-loop2 c).loop-w.invariant.2.1)
 
 -- this walk is one of them all
 among : (l : Inside)
@@ -155,20 +155,20 @@ skips-requires : tie.Need-skips-requires invariant-loop2 decreases-loop2 invaria
 skips-requires c κs = let n = read c in ((start (outer (top n))).requires.0.places, (among (top n)).0, (reach (turn n)).0)
 
 inner : (c : tie.Then-tag-eq0 invariant-loop2 decreases-loop2 invariant-loop decreases-loop) → let n = read c in word (start (outer (top n))).args.m.now n.waiting_at-e.result.slot 0 ≡ 0
-inner c = sym c.before.tag.ensures ∙ c.if-tag-eq0.true
+inner c = sym c.tag.ensures ∙ c.if-tag-eq0.true
 
 leaf : (c : tie.Else-tag-eq0 invariant-loop2 decreases-loop2 invariant-loop decreases-loop) → let n = read-from-else1 c in word (start (outer (top n))).args.m.now n.waiting_at-e.result.slot 0 ≡ 0 → ⊥
-leaf c z = c.if-tag-eq0.false (c.before.tag.ensures ∙ z)
+leaf c z = c.if-tag-eq0.false (c.tag.ensures ∙ z)
 
 pushed : (c : tie.After-push_slots invariant-loop2 decreases-loop2 invariant-loop decreases-loop)
     → let n = read (then1 c.before) in
-    Pushed (start (outer (top n))).args.m.now n.waiting_at-e.result (top n).loop-w.w (record { slots = c.push_slots.new.slots; cells = c.before.before.push_cells.new.cells; height = c.push_slots.result })
+    Pushed (start (outer (top n))).args.m.now n.waiting_at-e.result (top n).loop-w.w (record { slots = c.push_slots.new.slots; cells = c.push_cells.new.cells; height = c.push_slots.result })
 pushed c =
     record {
       children = (children-read c).children-children.result;
       these = (children-read c).children-children.ensures;
       slots = c.push_slots.ensures.0;
-      cells = c.before.before.push_cells.ensures;
+      cells = c.push_cells.ensures;
       height = c.push_slots.ensures.1;
     }
 
@@ -183,7 +183,7 @@ loop2-again c =
       (
         l.loop-w.invariant.2.0,
         turn-down (turn (read t)) (inner t) (pushed c)
-            (node_step a.at.now a.radii.now a.strength (outer l).loop-i.i _ _ _ k.stop_if-below.result Continue k.before.skips.ensures k.stop_if-below.ensures (children-read c).before.enum_told.given.1),
+            (node_step a.at.now a.radii.now a.strength (outer l).loop-i.i _ _ _ k.stop_if-below.result Continue k.skips.ensures k.stop_if-below.ensures (children-read c).before.enum_told.given.1),
       ),
       l.loop-w.invariant.3,
     )
@@ -199,7 +199,7 @@ loop2-again-2 c =
       (
         l.loop-w.invariant.2.0,
         turn-skip (turn (read t)) (inner t)
-            (node_step a.at.now a.radii.now a.strength (outer l).loop-i.i _ _ _ k.stop_if-below.result Skip k.before.skips.ensures k.stop_if-below.ensures c.enum_told-in_default-1.given.1),
+            (node_step a.at.now a.radii.now a.strength (outer l).loop-i.i _ _ _ k.stop_if-below.result Skip k.skips.ensures k.stop_if-below.ensures c.enum_told-in_default-1.given.1),
       ),
       l.loop-w.invariant.3,
     )
@@ -245,7 +245,7 @@ returns c =
       ran_dry v a.draws.now a.p _ (alike l) (omega (arith, p.meet_first-met.ensures.1, l.loop-w.invariant.1, o.loop-i.invariant.2))
           (left-stops f k o.loop-i.i (among l).0 (found o)
           (turn-refused-leaf (turn n) (leaf t)
-          (λ is e b h. leaf-dry a.at.now a.radii.now a.strength o.loop-i.i _ l.loop-w.invariant.2.0 is _ _ e b.tag v a.draws.now r p.meet_first-met.ensures.0 c.before.if-dry.true))
+          (λ is e b h. leaf-dry a.at.now a.radii.now a.strength o.loop-i.i _ l.loop-w.invariant.2.0 is _ _ e b.tag v a.draws.now r p.meet_first-met.ensures.0 c.if-dry.true))
           ∙ sym o.loop-i.invariant.4 ∙ sym (left-first f k (flow_at a.vs.now a.draws.now a.p))),
       omega (arith, (reach (turn n)).1, (among l).1),
     )
@@ -320,8 +320,8 @@ walk_all_spec =
     (λ c κs. search rules)
     (λ c. search rules)
     (λ c κs. (reach (turn (read (then1-from-children c)))).0)
-    (λ c κs. let t = then1-from-children c.before.before in room (turn (read t)) (inner t) c.before.children-children.ensures)
-    (λ c κs. let t = then1 c in room (turn (read t)) (inner t) c.before.before.before.children-children.ensures)
+    (λ c κs. let t = then1-from-children c.before.before in room (turn (read t)) (inner t) c.children-children.ensures)
+    (λ c κs. let t = then1 c in room (turn (read t)) (inner t) c.children-children.ensures)
     (λ c. let t = then1 c.before in falls_down (turn (read t)) (inner t) (pushed c))
     loop2-again
     (λ c. search rules)
@@ -337,5 +337,5 @@ walk_all_spec =
     (λ c. omega (arith, (among c.before).0))
     loop-again
     (λ c κs. search rules)
-    (λ c. c.before.before.loop-i.invariant.1)
+    (λ c. c.loop-i.invariant.1)
     returns-2)

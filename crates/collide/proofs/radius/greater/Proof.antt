@@ -6,13 +6,13 @@ use Rattle.collide.proofs.radius.greater.Statement.{statement}
 use Rattle.collide.proofs.radius.greater.Tie as tie
 
 node-value-requires : tie.Need-node_value-below-requires
-node-value-requires c κs = (rw c.wide.ensures (lent-some _ _ c.before.before.before.requires c.before.if-child-eq0.false), search rules)
+node-value-requires c κs = (rw c.wide.ensures (lent-some _ _ c.requires c.if-child-eq0.false), search rules)
 
 returns-2 : tie.Need-returns-then-r-below
-returns-2 c = child_greater _ _ _ _ _ c.before.before.before.if-child-eq0.false c.before.before.wide.ensures c.before.node_value-below.ensures c.if-r-below.true
+returns-2 c = child_greater _ _ _ _ _ c.if-child-eq0.false c.wide.ensures c.node_value-below.ensures c.if-r-below.true
 
 returns-3 : tie.Need-returns
-returns-3 c = child_less _ _ _ _ _ c.before.before.before.if-child-eq0.false c.before.before.wide.ensures c.before.node_value-below.ensures c.if-r-below.false
+returns-3 c = child_less _ _ _ _ _ c.if-child-eq0.false c.wide.ensures c.node_value-below.ensures c.if-r-below.false
 
 pub greater_spec : {M : Type 1} → statement M
 greater_spec =

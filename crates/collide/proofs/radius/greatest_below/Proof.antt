@@ -8,21 +8,21 @@ use Rattle.collide.proofs.radius.greatest_below.Statement.{statement}
 use Rattle.collide.proofs.radius.greatest_below.Tie as tie
 
 greater-requires : tie.Need-greater-r0-requires
-greater-requires c κs = rw c.children-children.ensures c.before.before.requires.1.0
+greater-requires c κs = rw c.children-children.ensures c.requires.1.0
 
 greater-requires-2 : tie.Need-greater-r1-requires
-greater-requires-2 c κs = rw c.before.children-children.ensures c.before.before.before.requires.1.1
+greater-requires-2 c κs = rw c.children-children.ensures c.requires.1.1
 
 greater-requires-3 : tie.Need-greater-r2-requires
-greater-requires-3 c κs = rw c.before.before.children-children.ensures c.before.before.before.before.requires.1.2
+greater-requires-3 c κs = rw c.children-children.ensures c.requires.1.2
 
 greater-requires-4 : tie.Need-greater-requires
-greater-requires-4 c κs = rw c.before.before.before.children-children.ensures c.before.before.before.before.before.requires.1.3
+greater-requires-4 c κs = rw c.children-children.ensures c.requires.1.3
 
 returns : tie.Need-returns
 returns c =
-    let a = c.before.before.before.before.before.before.args in
-    fold_children radius_in Collide.greater 0· a.m.now a.s c.before.before.before.before.children-children.ensures c.before.before.before.greater-r0.ensures c.before.before.greater-r1.ensures c.before.greater-r2.ensures c.greater.ensures
+    let a = c.args in
+    fold_children radius_in Collide.greater 0· a.m.now a.s c.children-children.ensures c.greater-r0.ensures c.greater-r1.ensures c.greater-r2.ensures c.greater.ensures
 
 pub greatest_below_spec : {M : Type 1} → statement M
 greatest_below_spec =

@@ -8,7 +8,7 @@ use Rattle.edits_call.proofs.call.edits.Tie as tie
 
 -- where the function begins
 abbrev start : tie.After-input_check-bad → tie.Start
-start c = c.before.before.before.before.before.before.before.before
+start c = c.before.before.before.before.before
 
 returns : tie.Need-returns-then-number-ne0
 returns c =
@@ -40,4 +40,4 @@ edits_spec =
     (λ c. search rules)
     (λ c. search rules)
     (λ c. search rules)
-    (λ c. c.before.before.before.before.before.before.edits_passed.ensures))
+    (λ c. c.edits_passed.ensures))

@@ -13,16 +13,15 @@ use Rattle.edits_call.proofs.call.edits_passed.Tie as tie
 
 -- not too many insertions
 few : (c : tie.After-insertions-made) → c.insertions-made.result ≤ most_edits
-few c = let s = c.before.before.before.before.before in omega (arith, c.insertions-made.ensures, (passing (lent s.args.edits.now s.args.rows.now s.args.chains.now s.args.work.now) s.requires).made)
+few c = omega (arith, c.insertions-made.ensures, (passing (lent c.args.edits.now c.args.rows.now c.args.chains.now c.args.work.now) c.requires).made)
 
 edits-with-requires : tie.Need-edits_with-requires
 edits-with-requires c κs =
     let i = c.before.before.before.before.before.before.before in
-    let s = i.before.before.before.before.before in
     let e = i.insertions-made.ensures in
     let n = i.insertions-made.result in
     record {
-      passed = s.requires;
+      passed = i.requires;
       pairs = room (n * 2) (2 * most_edits) 0· (omega (arith, few i)) ∙ ap (λ (k : ℕ). k * 2) e;
       flags = room {A = ℕ} n most_edits 0 (few i) ∙ e;
       links = room {A = ℕ} n most_edits 0 (few i) ∙ e;

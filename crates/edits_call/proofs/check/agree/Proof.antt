@@ -11,5 +11,5 @@ agree_spec =
     (λ c. search rules)
     (λ c. rw (ne_eqb _ _ c.if-words.true))
     (λ c. search rules)
-    (λ c. rw (eq-eqb _ _ c.before.if-words.false, eq-eqb _ _ c.if-rows-slots.true))
-    (λ c. rw (eq-eqb _ _ c.before.if-words.false, ne_eqb _ _ c.if-rows-slots.false)))
+    (λ c. rw (eq-eqb _ _ c.if-words.false, eq-eqb _ _ c.if-rows-slots.true))
+    (λ c. rw (eq-eqb _ _ c.if-words.false, ne_eqb _ _ c.if-rows-slots.false)))

@@ -23,7 +23,7 @@ returns-2 c =
     let e = g.before.before in
     let k = e.before in
     let a = (start k).args in
-    went_on (lent a.edits.now a.rows.now a.chains.now a.work.now) _ _ _ _ g.agree-agreed.result k.count_check-many.ensures e.if-number-ne0.false (rw g.before.insertions.ensures at g.agree-agreed.ensures) l.lengths_check-lengths.ensures w.words_check-bad.ensures c.first.ensures
+    went_on (lent a.edits.now a.rows.now a.chains.now a.work.now) _ _ _ _ g.agree-agreed.result k.count_check-many.ensures e.if-number-ne0.false (rw g.insertions.ensures at g.agree-agreed.ensures) l.lengths_check-lengths.ensures w.words_check-bad.ensures c.first.ensures
 
 pub input_check_spec : {M : Type 1} → statement M
 input_check_spec =

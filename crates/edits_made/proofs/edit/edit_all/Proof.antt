@@ -42,7 +42,7 @@ abbrev start : tie.At-loop-k invariant-loop decreases-loop → tie.Start invaria
 start c = start-from-loop-start c.before
 
 -- there is an edit more
-more : (c : tie.In-loop-k invariant-loop decreases-loop) → c.before.loop-k.k * edit_words + edit_words ≤ length (start c.before).args.edits.now
+more : (c : tie.In-loop-k invariant-loop decreases-loop) → c.loop-k.k * edit_words + edit_words ≤ length (start c.before).args.edits.now
 more c = omega (arith, c.loop-k-test.true)
 
 -- no more insertions were made than there are points
@@ -101,7 +101,7 @@ loop-again c =
       k.edit_one-answer.auto.tail ∙ d.loop-k.invariant.2,
       k.edit_one-answer.auto.m ∙ d.loop-k.invariant.3,
       omega (arith, i.loop-k-test.taken),
-      edit-next _ _ _ _ _ _ _ _ _ _ d.loop-k.invariant.5 (more i) _ _ _ _ _ (changed k _ c.before.before.answer-in-Tree-1.given.1) (s.requires.0.known d.loop-k.k (more i)) c.if-kind-eq0.made
+      edit-next _ _ _ _ _ _ _ _ _ _ d.loop-k.invariant.5 (more i) _ _ _ _ _ (changed k _ c.answer-in-Tree-1.given.1) (s.requires.0.known d.loop-k.k (more i)) c.if-kind-eq0.made
           (⊎_elim (λ t. inl (t.0.taken, t.1)) (λ e. inr (e.0.left, e.1)) c.if-kind-eq0.branch),
     )
 

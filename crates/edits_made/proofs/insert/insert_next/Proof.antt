@@ -34,8 +34,7 @@ size c = c.add_next-answer.auto.m
 
 add-next-requires : tie.Need-add_next-answer-requires
 add-next-requires c κs =
-    let s = c.before.before.before.before.before.before.before.before in
-    (_, insert_follows _ _ _ _ _ _ _ s.requires.1 s.requires.2 s.requires.3, insert-puts _ _ _ _ _ _ _ s.requires.1 s.requires.2 s.requires.3)
+    (_, insert_follows _ _ _ _ _ _ _ c.requires.1 c.requires.2 c.requires.3, insert-puts _ _ _ _ _ _ _ c.requires.1 c.requires.2 c.requires.3)
 
 returns : tie.Need-returns-in-Done
 returns c is x y h =
@@ -55,7 +54,7 @@ returns-3 : tie.Need-returns-in-Full
 returns-3 c is x y h =
     let i = c.before.before.before.before.before.before.before.before.before in
     let s = start i in
-    told _ _ _ _ _ _ _ _ _ _ _ c.refused-in-Full.ensures (insert-refused _ _ _ _ _ _ _ h s.requires.2 s.requires.3 s.args.k x y i.add_next-answer.new.m (size i) 7 (placed i _ c.before.enum_told-in-Full-1.given.1 is h))
+    told _ _ _ _ _ _ _ _ _ _ _ c.refused-in-Full.ensures (insert-refused _ _ _ _ _ _ _ h s.requires.2 s.requires.3 s.args.k x y i.add_next-answer.new.m (size i) 7 (placed i _ c.enum_told-in-Full-1.given.1 is h))
 
 pub insert_next_spec : {M : Type 1} → statement M
 insert_next_spec =

@@ -23,17 +23,17 @@ decreases-loop edits n k₀ k = n - k
 
 returns : tie.Need-returns-then-edits-k-gt1 invariant-loop decreases-loop
 returns c =
-    let o = c.before.before.before.before.loop-k in
-    let w = c.before.before.before.before.before.before.args.edits.now in
+    let o = c.loop-k in
+    let w = c.args.edits.now in
     c.at.ensures
     ∙ rw o.invariant.1
     (answer_stop (λ k e. require (known e) 5 k) (λ k. edits_of (drop (k * edit_words) w)) o.k (edit_at w o.k) (edits-next w o.k (omega arith)) (refusal 5 o.k)
-    (kind_refused o.k (get_or w (o.k * edit_words) 0) _ _ (omega (arith, c.before.if-edits-k-gt1.true))) (λ z. omega arith))
+    (kind_refused o.k (get_or w (o.k * edit_words) 0) _ _ (omega (arith, c.if-edits-k-gt1.true))) (λ z. omega arith))
 
 loop-again : tie.Need-loop-k-preserved invariant-loop decreases-loop
 loop-again c =
-    let o = c.before.before.before.loop-k in
-    let w = c.before.before.before.before.before.args.edits.now in (
+    let o = c.loop-k in
+    let w = c.args.edits.now in (
       omega arith,
       o.invariant.1
           ∙ answer_on (λ k e. require (known e) 5 k) (λ k. edits_of (drop (k * edit_words) w)) o.k (edit_at w o.k) (edits-next w o.k (omega arith)) no_refusal
@@ -42,8 +42,8 @@ loop-again c =
 
 returns-2 : tie.Need-returns invariant-loop decreases-loop
 returns-2 c =
-    let o = c.before.before.loop-k in
-    let w = c.before.before.before.before.args.edits.now in
+    let o = c.loop-k in
+    let w = c.args.edits.now in
     c.none.ensures ∙ rw (o.invariant.1, edits_end w o.k (omega arith))
 
 pub kinds_check_spec : {M : Type 1} → statement M

@@ -19,27 +19,25 @@ decreases-loop edits n k₀ k = n - k
 
 returns : tie.Need-returns-then-number-ne0 invariant-loop decreases-loop
 returns c =
-    let p = c.before in
-    let o = p.before.before.before.before.before.loop-k in
-    let w = p.before.before.before.before.before.before.before.args.edits.now in
+    let o = c.loop-k in
+    let w = c.args.edits.now in
     rw o.invariant.1
-    (answer_stop point_check (λ k. edits_of (drop (k * edit_words) w)) o.k (edit_at w o.k) (edits-next w o.k (omega arith)) p.point_check-r.result p.point_check-r.ensures c.if-number-ne0.true)
+    (answer_stop point_check (λ k. edits_of (drop (k * edit_words) w)) o.k (edit_at w o.k) (edits-next w o.k (omega arith)) c.point_check-r.result c.point_check-r.ensures c.if-number-ne0.true)
 
 loop-again : tie.Need-loop-k-preserved invariant-loop decreases-loop
 loop-again c =
-    let p = c.before in
-    let o = p.before.before.before.before.before.loop-k in
-    let w = p.before.before.before.before.before.before.before.args.edits.now in (
+    let o = c.loop-k in
+    let w = c.args.edits.now in (
       omega arith,
       o.invariant.1
-          ∙ answer_on point_check (λ k. edits_of (drop (k * edit_words) w)) o.k (edit_at w o.k) (edits-next w o.k (omega arith)) p.point_check-r.result p.point_check-r.ensures
+          ∙ answer_on point_check (λ k. edits_of (drop (k * edit_words) w)) o.k (edit_at w o.k) (edits-next w o.k (omega arith)) c.point_check-r.result c.point_check-r.ensures
           (point_early o.k (edit_at w o.k)) c.if-number-ne0.false,
     )
 
 returns-2 : tie.Need-returns invariant-loop decreases-loop
 returns-2 c =
-    let o = c.before.before.loop-k in
-    let w = c.before.before.before.before.args.edits.now in
+    let o = c.loop-k in
+    let w = c.args.edits.now in
     c.none.ensures ∙ rw (o.invariant.1, edits_end w o.k (omega arith))
 
 pub points_check_spec : {M : Type 1} → statement M

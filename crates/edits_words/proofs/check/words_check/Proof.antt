@@ -11,9 +11,9 @@ use Rattle.edits_words.proofs.check.words_check.Tie as tie
 
 returns : tie.Need-returns
 returns c =
-    let es = edits_of c.before.before.before.before.args.edits.now in
+    let es = edits_of c.args.edits.now in
     c.first.ensures
-    ∙ rw (c.before.kinds_check-kinds.ensures, c.before.before.points_check-points.ensures)
+    ∙ rw (c.kinds_check-kinds.ensures, c.points_check-points.ensures)
     (first_then (check_each point_check es) (check_each (λ k e. require (known e) 5 k) es) (of_each point_early es))
 
 pub words_check_spec : {M : Type 1} → statement M

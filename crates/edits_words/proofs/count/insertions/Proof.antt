@@ -18,8 +18,8 @@ decreases-loop edits n made₀ k₀ made k = n - k
 
 loop-again : tie.Need-loop-k-preserved invariant-loop decreases-loop
 loop-again c =
-    let o = c.before.before.before.loop-k in
-    let w = c.before.before.before.before.args.edits.now in
+    let o = c.loop-k in
+    let w = c.args.edits.now in
     ⊎_elim
     (λ a. omega (arith, a.1, o.invariant, count-here w o.k (omega arith) (omega (arith, a.0.taken))))
     (λ a. omega (arith, a.1, o.invariant, count_past w o.k (omega arith) (λ z. omega (arith, a.0.left))))
@@ -27,8 +27,8 @@ loop-again c =
 
 returns : tie.Need-returns invariant-loop decreases-loop
 returns c =
-    let o = c.before.loop-k in
-    let w = c.before.before.args.edits.now in
+    let o = c.loop-k in
+    let w = c.args.edits.now in
     omega (arith, o.invariant, ap insertions (edits_end w o.k (omega arith)))
 
 pub insertions_spec : {M : Type 1} → statement M

@@ -23,16 +23,16 @@ abbrev decreases-loop : tie.decreases-loop-k
 decreases-loop edits places₀ n i₀ k₀ places i k = n - k
 
 -- an insertion has room for its point
-fits : (c : tie.Then-edits-j-eq0 invariant-loop decreases-loop) → let o = c.before.before.before.loop-k in o.i + 2 ≤ length o.places
+fits : (c : tie.Then-edits-j-eq0 invariant-loop decreases-loop) → let o = c.loop-k in o.i + 2 ≤ length o.places
 fits c =
-    let o = c.before.before.before.loop-k in
-    let w = c.before.before.before.before.before.before.args.edits.now in
+    let o = c.loop-k in
+    let w = c.args.edits.now in
     omega (arith, o.invariant, count-here w o.k (omega arith) c.if-edits-j-eq0.true)
 
 loop-again : tie.Need-loop-k-preserved invariant-loop decreases-loop
 loop-again c =
-    let o = c.before.before.before.loop-k in
-    let w = c.before.before.before.before.before.before.args.edits.now in
+    let o = c.loop-k in
+    let w = c.args.edits.now in
     ⊎_elim
     (λ a. (
       omega arith,
@@ -50,8 +50,8 @@ loop-again c =
 
 returns : tie.Need-returns invariant-loop decreases-loop
 returns c =
-    let o = c.before.loop-k in
-    let w = c.before.before.before.before.args.edits.now in
+    let o = c.loop-k in
+    let w = c.args.edits.now in
     sym (read_end w o.k o.places o.i (omega arith) (omega (arith, o.invariant, ap insertions (edits_end w o.k (omega arith))))) ∙ o.invariant.3
 
 pub read_points_spec : {M : Type 1} → statement M
@@ -81,5 +81,5 @@ read_points_spec =
     (λ c. omega arith)
     (λ c. omega arith)
     loop-again
-    (λ c. c.before.loop-k.invariant.1)
+    (λ c. c.loop-k.invariant.1)
     returns)

@@ -21,29 +21,24 @@ decreases-loop links counts₀ n k₀ counts k = n - k
 
 count-link-requires : tie.Need-count_link-requires invariant-loop decreases-loop
 count-link-requires c κs =
-    let b = c.before.before.before.before.before in
-    let l = b.before.loop-k in
-    count_room b.before.before.before.before.requires.0 l.k b.loop-k-test.true l.counts l.invariant.2 c.before.before.wide.result c.wide-in-loop-k.result
-    c.before.before.wide.ensures c.wide-in-loop-k.ensures
+    let l = c.loop-k in
+    count_room c.requires.0 l.k c.loop-k-test.true l.counts l.invariant.2 c.wide.result c.wide-in-loop-k.result
+    c.wide.ensures c.wide-in-loop-k.ensures
 
 loop-again : tie.Need-loop-k-preserved invariant-loop decreases-loop
 loop-again c =
-    let d = c.before.before in
-    let i = d.before in
-    let b = i.before.before.before.before.before in
-    let l = b.before.loop-k in (
+    let l = c.loop-k in (
       omega arith,
-      d.count_link.auto.counts ∙ l.invariant.1,
-      count_turn b.before.before.before.before.requires.0 l.k b.loop-k-test.true l.counts l.invariant.2 i.before.before.wide.result i.wide-in-loop-k.result
-          i.before.before.wide.ensures i.wide-in-loop-k.ensures d.count_link.new.counts d.count_link.ensures,
+      c.count_link.auto.counts ∙ l.invariant.1,
+      count_turn c.requires.0 l.k c.loop-k-test.true l.counts l.invariant.2 c.wide.result c.wide-in-loop-k.result
+          c.wide.ensures c.wide-in-loop-k.ensures c.count_link.new.counts c.count_link.ensures,
     )
 
 returns : tie.Need-returns invariant-loop decreases-loop
 returns c =
-    let l = c.before.loop-k in
-    let s = c.before.before.before.before in
-    let e : l.k ≡ length s.args.links.now / 2 = omega arith in
-    l.invariant.2 ∙ ap (λ k. tallies (length s.args.counts.now) (ends_from s.args.links.now k)) e
+    let l = c.loop-k in
+    let e : l.k ≡ length c.args.links.now / 2 = omega arith in
+    l.invariant.2 ∙ ap (λ k. tallies (length c.args.counts.now) (ends_from c.args.links.now k)) e
 
 pub count_ends_spec : {M : Type 1} → statement M
 count_ends_spec =
@@ -51,7 +46,7 @@ count_ends_spec =
     (tie.spec
     invariant-loop
     decreases-loop
-    (λ c. (omega arith, refl, c.before.before.requires.1))
+    (λ c. (omega arith, refl, c.requires.1))
     (λ c. omega arith)
     (λ c. omega arith)
     (λ c. omega arith)

@@ -104,7 +104,7 @@ returns c =
     rw c.dry.ensures
     (ran_dry p.pull_all-s.new.vs a.draws.now a.p _ l.loop-i.invariant.3 (used-on p)
     (ap (visited a.p.visits)
-    (left-stops (once s) a.iterations l.loop-i.i (turn p).loop-i-test.taken (come l) (sym p.pull_all-s.ensures.0 ∙ spent_dry p.pull_all-s.new.vs a.draws.now p.pull_all-s.result c.before.if-dry.true)
+    (left-stops (once s) a.iterations l.loop-i.i (turn p).loop-i-test.taken (come l) (sym p.pull_all-s.ensures.0 ∙ spent_dry p.pull_all-s.new.vs a.draws.now p.pull_all-s.result c.if-dry.true)
     ∙ sym l.loop-i.invariant.6
     ∙ sym (left-first (once s) a.iterations (found s)))))
 

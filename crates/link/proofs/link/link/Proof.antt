@@ -13,15 +13,14 @@ use Rattle.link.proofs.link.link.Tie as tie
 
 iterate-requires : tie.Need-iterate-requires
 iterate-requires c κs =
-    let s = c.before.before.before.before.before.before.before.before in
-    let n = length s.args.vs.now / 2 in
-    let e = room {A = ℕ} n most_particles 0 (omega (arith, s.requires.4)) in (
-      subst⁻¹ (λ (k : ℕ). EndsLent k s.args.links.now) e s.requires.0,
-      s.requires.1,
-      zeros_tallied n most_particles (omega (arith, s.requires.4)),
-      omega (arith, e, s.requires.2, s.requires.3),
-      omega (arith, e, s.requires.3),
-      s.requires.5,
+    let n = length c.args.vs.now / 2 in
+    let e = room {A = ℕ} n most_particles 0 (omega (arith, c.requires.4)) in (
+      subst⁻¹ (λ (k : ℕ). EndsLent k c.args.links.now) e c.requires.0,
+      c.requires.1,
+      zeros_tallied n most_particles (omega (arith, c.requires.4)),
+      omega (arith, e, c.requires.2, c.requires.3),
+      omega (arith, e, c.requires.3),
+      c.requires.5,
     )
 
 pub link_spec : {M : Type 1} → statement M

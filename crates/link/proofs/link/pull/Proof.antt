@@ -14,7 +14,7 @@ use Rattle.link.proofs.link.pull.Tie as tie
 
 -- the points of the code, each from a later one
 abbrev else1 : tie.After-shaken-g → tie.Else-source-target
-else1 c = c.before.before.before.before.before
+else1 c = c.before.before.before
 
 abbrev widened2 : tie.After-between-arg2 → tie.After-wide-target
 widened2 c = c.before.before.before.before
@@ -25,11 +25,11 @@ entry c = c.before.before.before.before.before.before.before.before.before.befor
 -- both ends are particles
 both : (c : tie.After-wide-target)
     → let n = length (entry c).args.counts.now in
-    (c.before.before.wide-source.result < n) × (c.wide-target.result < n)
+    (c.wide-source.result < n) × (c.wide-target.result < n)
 both c =
     let s = entry c in
     let b = ready-ends s.requires.0 s.args.k s.requires.3 in
-    (rw (entry, c.before.before.wide-source.ensures) b.0, rw (entry, c.wide-target.ensures) b.1)
+    (rw (entry, c.wide-source.ensures) b.0, rw (entry, c.wide-target.ensures) b.1)
 
 returns : tie.Need-returns-then-source-target
 unfolding spent_of
@@ -38,7 +38,7 @@ returns c =
     let s = entry d in
     let a = s.args in (
       pull_self a.at.now (ends_of a.links.now) a.strengths.now a.distances.now a.alpha a.k (ends_at a.links.now a.k) _
-          (sym d.before.before.wide-source.ensures ∙ c.if-source-target.true ∙ d.wide-target.ensures),
+          (sym d.wide-source.ensures ∙ c.if-source-target.true ∙ d.wide-target.ensures),
       omega (arith, s.requires),
     )
 
@@ -50,9 +50,9 @@ returns-2 c =
     let s = entry d in
     let a = s.args in (
       pull-dry a.at.now (ends_of a.links.now) a.strengths.now a.distances.now a.alpha a.k (ends_at a.links.now a.k)
-          a.vs.now a.draws.now a.used d.before.before.wide-source.result d.wide-target.result _ _ g.shaken-g.result
-          d.before.before.wide-source.ensures d.wide-target.ensures (else1 g).if-source-target.false
-          g.before.before.before.between-x.ensures g.before.between-y.ensures g.shaken-g.ensures.0 c.if-dry.true,
+          a.vs.now a.draws.now a.used d.wide-source.result d.wide-target.result _ _ g.shaken-g.result
+          d.wide-source.ensures d.wide-target.ensures (else1 g).if-source-target.false
+          g.between-x.ensures g.between-y.ensures g.shaken-g.ensures.0 c.if-dry.true,
       g.shaken-g.ensures.1,
     )
 
@@ -65,9 +65,9 @@ returns-3 c =
     let s = entry d in
     let a = s.args in (
       pull-tied a.at.now (ends_of a.links.now) a.strengths.now a.distances.now a.alpha a.k (ends_at a.links.now a.k)
-          a.vs.now a.draws.now a.used d.before.before.wide-source.result d.wide-target.result _ _ g.shaken-g.result
-          d.before.before.wide-source.ensures d.wide-target.ensures (else1 g).if-source-target.false
-          g.before.before.before.between-x.ensures g.before.between-y.ensures g.shaken-g.ensures.0 e.before.before.if-dry.false
+          a.vs.now a.draws.now a.used d.wide-source.result d.wide-target.result _ _ g.shaken-g.result
+          d.wide-source.ensures d.wide-target.ensures (else1 g).if-source-target.false
+          g.between-x.ensures g.between-y.ensures g.shaken-g.ensures.0 e.if-dry.false
           e.tie.new.vs e.tie.ensures,
       g.shaken-g.ensures.1,
     )

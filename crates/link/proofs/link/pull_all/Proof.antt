@@ -37,7 +37,7 @@ returns : tie.Need-returns-then-dry invariant-loop decreases-loop
 unfolding spent_of
 returns c =
     let p = c.before.before.before in
-    let l = p.before.before.before.loop-k in
+    let l = p.loop-k in
     let s = entry p.before.before.before in
     let a = s.args in (
       all-dry a.at.now a.links.now a.strengths.now a.distances.now a.alpha l.k (omega arith) (flow l.vs (drop l.spent a.draws.now))
@@ -50,7 +50,7 @@ returns c =
 loop-again : tie.Need-loop-k-preserved invariant-loop decreases-loop
 loop-again c =
     let p = c.before.before.before in
-    let l = p.before.before.before.loop-k in
+    let l = p.loop-k in
     let s = entry p.before.before.before in
     let a = s.args in (
       omega arith,
@@ -64,7 +64,7 @@ loop-again c =
 returns-2 : tie.Need-returns invariant-loop decreases-loop
 unfolding spent_of
 returns-2 c =
-    let l = c.before.loop-k in
+    let l = c.loop-k in
     let s = entry c.before in
     let a = s.args in (
       all_end a.at.now a.links.now a.strengths.now a.distances.now a.alpha l.k (flow l.vs (drop l.spent a.draws.now)) (omega arith)

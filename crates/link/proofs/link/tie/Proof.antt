@@ -24,11 +24,11 @@ entry c = c.before.before.before.before.before.before.before.before.before
 -- both ends are particles
 both : (c : tie.After-wide-target)
     → let n = length (entry c).args.counts.now in
-    (c.before.before.wide-source.result < n) × (c.wide-target.result < n)
+    (c.wide-source.result < n) × (c.wide-target.result < n)
 both c =
     let s = entry c in
     let b = ready-ends s.requires.0 s.args.k s.requires.2 in
-    (rw (entry, c.before.before.wide-source.ensures) b.0, rw (entry, c.wide-target.ensures) b.1)
+    (rw (entry, c.wide-source.ensures) b.0, rw (entry, c.wide-target.ensures) b.1)
 
 strength-at-requires : tie.Need-strength_at-requires
 strength-at-requires c κs h =
@@ -39,7 +39,7 @@ bias-requires : tie.Need-bias-requires
 bias-requires c κs =
     let d = widened2 c in
     let s = entry d in
-    omega (arith, ready-small s.requires.0 d.before.before.wide-source.result (both d).0, ready-small s.requires.0 d.wide-target.result (both d).1)
+    omega (arith, ready-small s.requires.0 d.wide-source.result (both d).0, ready-small s.requires.0 d.wide-target.result (both d).1)
 
 returns : tie.Need-returns
 returns c =
@@ -48,13 +48,13 @@ returns c =
     let s = entry d in
     let a = s.args in
     tied_is (ends_of a.links.now) a.strengths.now a.distances.now a.alpha a.k (ends_at a.links.now a.k)
-    a.x a.y a.vs.now e.share.new.vs d.before.before.wide-source.result d.wide-target.result _ _ _ _ _
-    d.before.before.wide-source.ensures d.wide-target.ensures
-    (ready-count s.requires.0 d.before.before.wide-source.result (both d).0 ∙ rw (entry, widened2, strength-read, d.before.before.wide-source.ensures))
+    a.x a.y a.vs.now e.share.new.vs d.wide-source.result d.wide-target.result _ _ _ _ _
+    d.wide-source.ensures d.wide-target.ensures
+    (ready-count s.requires.0 d.wide-source.result (both d).0 ∙ rw (entry, widened2, strength-read, d.wide-source.ensures))
     (ready-count s.requires.0 d.wide-target.result (both d).1 ∙ rw (entry, widened2, strength-read, d.wide-target.ensures))
     (strength-read e).strength_at.ensures
-    e.before.before.before.pull_of-l.ensures
-    e.before.bias.ensures
+    e.pull_of-l.ensures
+    e.bias.ensures
     e.share.ensures
 
 pub tie_spec : {M : Type 1} → statement M

@@ -6,7 +6,7 @@ use Rattle.lister_text.proofs.input.list_records.Statement.{statement}
 use Rattle.lister_text.proofs.input.list_records.Tie as tie
 
 list-tree-requires : tie.Need-list_tree-requires
-list-tree-requires c κs = let s = c.before.before.before.before.before.before in ((refl, first-chains _ s.requires.0, refl), s.requires.1)
+list-tree-requires c κs = ((refl, first-chains _ c.requires.0, refl), c.requires.1)
 
 pub list_records_spec : {M : Type 1} → statement M
 list_records_spec =
@@ -14,7 +14,7 @@ list_records_spec =
     (tie.spec
     (λ c. search rules)
     (λ c. search rules)
-    (λ c. sym (first-chains _ c.before.before.before.before.requires.0))
+    (λ c. sym (first-chains _ c.requires.0))
     (λ c. search rules)
     list-tree-requires
     (λ c. search rules)

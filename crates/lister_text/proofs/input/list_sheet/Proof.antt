@@ -21,13 +21,13 @@ returns : tie.Need-returns-then-total-ne0
 returns c = (λ sheet n k. rw (bad_input sheet n (then1 c).if-total-ne0.true) c.before.before.Put-refused.ensures, within _ _ _ _ c.before.before.Put-refused.ensures)
 
 returns-2 : tie.Need-returns-then-total-gt-MOST_LISTED
-returns-2 c = (λ sheet n k. rw (many-input sheet n (then2 c).before.if-total-ne0.false (then2 c).if-total-gt-MOST_LISTED.true) c.before.before.put_refused-then-total-gt-MOST_LISTED.ensures, within _ _ _ _ c.before.before.put_refused-then-total-gt-MOST_LISTED.ensures)
+returns-2 c = (λ sheet n k. rw (many-input sheet n (then2 c).if-total-ne0.false (then2 c).if-total-gt-MOST_LISTED.true) c.put_refused-then-total-gt-MOST_LISTED.ensures, within _ _ _ _ c.put_refused-then-total-gt-MOST_LISTED.ensures)
 
 list-records-requires : tie.Need-list_records-requires
 list-records-requires c κs = let s = entry c in (kept-few s.args.kept.now s.args.total s.requires.0, s.requires.1)
 
 returns-3 : tie.Need-returns
-returns-3 c = (λ sheet n k. rw (kept-input sheet n (else2 c).before.if-total-ne0.false (else2 c).if-total-gt-MOST_LISTED.false _ k) c.before.before.list_records.ensures, within _ _ _ _ c.before.before.list_records.ensures)
+returns-3 c = (λ sheet n k. rw (kept-input sheet n (else2 c).if-total-ne0.false (else2 c).if-total-gt-MOST_LISTED.false _ k) c.list_records.ensures, within _ _ _ _ c.list_records.ensures)
 
 pub list_sheet_spec : {M : Type 1} → statement M
 list_sheet_spec =

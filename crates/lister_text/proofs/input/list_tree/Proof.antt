@@ -28,7 +28,7 @@ lengths s = record { rows = s.requires.0.0; chains = s.requires.0.1; work = s.re
 put-refused-requires : tie.Need-put_refused-requires
 put-refused-requires c κs =
     let s = entry (tree-built c.before.before) in
-    let small = (refuses (lengths s) (tree-built c.before.before).tree_within-answer.ensures c.before.if-number-ne0.true).small in
+    let small = (refuses (lengths s) (tree-built c.before.before).tree_within-answer.ensures c.if-number-ne0.true).small in
     (omega (arith, small), omega (arith, s.requires.1))
 
 returns : tie.Need-returns-then-number-ne0
@@ -44,7 +44,7 @@ write-listing-requires c κs =
 returns-2 : tie.Need-returns
 returns-2 c =
     let k = lists (lengths (entry (tree-built-from-write-listing c.before.before.before))) (tree-built-from-write-listing c.before.before.before).tree_within-answer.ensures (else1 c.before.before.before).if-number-ne0.false in
-    rw k.text (c.before.before.write_listing.ensures k.some.covered k.some.tree k.some.told)
+    rw k.text (c.write_listing.ensures k.some.covered k.some.tree k.some.told)
 
 pub list_tree_spec : {M : Type 1} → statement M
 list_tree_spec =

@@ -19,36 +19,36 @@ abbrev decreases-loop : tie.decreases-loop-i
 decreases-loop out₀ at chain next₀ i₀ out next i = length chain - i
 
 loop-holds : tie.Need-loop-i-init invariant-loop decreases-loop
-loop-holds c = left-all _ _ _ c.before.before.requires
+loop-holds c = left-all _ _ _ c.requires
 
 number-left : (c : tie.In-loop-i invariant-loop decreases-loop)
-    → let e = c.before.before.before.before.args in
-    let i = c.before.loop-i.i in
-    Next e.out.now e.at (other_words (map decimal e.chain.now)) c.before.loop-i.out c.before.loop-i.next (32 ∷ decimal (get_or e.chain.now i 0)) (other_words (map decimal (drop (i + 1) e.chain.now)))
-number-left c = left-next _ _ (rw (from_index _ _ c.loop-i-test.true) at c.before.loop-i.invariant)
+    → let e = c.args in
+    let i = c.loop-i.i in
+    Next e.out.now e.at (other_words (map decimal e.chain.now)) c.loop-i.out c.loop-i.next (32 ∷ decimal (get_or e.chain.now i 0)) (other_words (map decimal (drop (i + 1) e.chain.now)))
+number-left c = left-next _ _ (rw (from_index _ _ c.loop-i-test.true) at c.loop-i.invariant)
 
 cast-put-number : tie.Need-overflow_cast-chain invariant-loop decreases-loop
-cast-put-number c = omega (arith, c.shared_slice_known-in-loop-i-1.given c.before.before.before.loop-i.i)
+cast-put-number c = omega (arith, c.shared_slice_known-in-loop-i-1.given c.loop-i.i)
 
 put-number-requires : tie.Need-put_number-next-requires invariant-loop decreases-loop
-put-number-requires c κs = (omega (arith, c.shared_slice_known-in-loop-i-1.given c.before.before.before.loop-i.i), (number-left c.before.before).room)
+put-number-requires c κs = (omega (arith, c.shared_slice_known-in-loop-i-1.given c.loop-i.i), (number-left c.before.before).room)
 
 loop-again : tie.Need-loop-i-preserved invariant-loop decreases-loop
-loop-again c = (number-left c.before.before.before.before.before).after c.before.before.put_number-next.ensures
+loop-again c = (number-left c.before.before.before.before.before).after c.put_number-next.ensures
 
 end-left : (c : tie.After-loop-i invariant-loop decreases-loop)
-    → let e = c.before.before.before.before.args in
-    Left e.out.now e.at (other_words (map decimal e.chain.now)) c.before.loop-i.out c.before.loop-i.next (10 ∷ [])
-end-left c = rw (drop_of_length-le _ c.loop-i-test.false) at c.before.loop-i.invariant
+    → let e = c.args in
+    Left e.out.now e.at (other_words (map decimal e.chain.now)) c.loop-i.out c.loop-i.next (10 ∷ [])
+end-left c = rw (drop_of_length-le _ c.loop-i-test.false) at c.loop-i.invariant
 
 put-byte-requires : tie.Need-put_byte-requires invariant-loop decreases-loop
 put-byte-requires c κs = (end-left c.before).fits
 
 same_length : tie.Need-shape_of-out invariant-loop decreases-loop
-same_length c = c.before.before.put_byte.auto.out ∙ c.before.before.before.before.before.loop-i.invariant.same
+same_length c = c.put_byte.auto.out ∙ c.loop-i.invariant.same
 
 returns : tie.Need-returns invariant-loop decreases-loop
-returns c = left-last (end-left c.before.before.before.before) c.before.before.put_byte.ensures
+returns c = left-last (end-left c.before.before.before.before) c.put_byte.ensures
 
 pub put_chain_spec : {M : Type 1} → statement M
 put_chain_spec =

@@ -28,7 +28,7 @@ abbrev text-put : tie.After-put_end-arg-1 → tie.After-put_text-next
 text-put c = c.before.before.before
 
 abbrev entry : tie.After-put_text-next → tie.Start
-entry c = c.before.before.before.before
+entry c = c.before.before.before.before.before
 
 abbrev entry-from-put-end2 : tie.After-put_end-arg-2-1 → tie.Start
 entry-from-put-end2 c = entry (text-put (end-put c).before)
@@ -76,7 +76,7 @@ put-byte-requires : tie.Need-put_byte-requires
 put-byte-requires c κs = (line-end (end-put4 c)).fits
 
 returns : tie.Need-returns
-returns c = left-last (line-end (end-put4 c.before.before.before)) c.before.before.put_byte.ensures
+returns c = left-last (line-end (end-put4 c.before.before.before)) c.put_byte.ensures
 
 pub put_extent_spec : {M : Type 1} → statement M
 put_extent_spec =

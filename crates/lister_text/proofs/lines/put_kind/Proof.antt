@@ -14,29 +14,29 @@ leaf-word (suc zero) n m = absurd (m refl)
 leaf-word (suc (suc k)) n m = refl
 
 returns : tie.Need-returns-then-kind-eq0
-returns c = left-none (left_as c.before.before.args.out.now _ _ _ (ap row_letter c.if-kind-eq0.true) c.before.before.requires)
+returns c = left-none (left_as c.args.out.now _ _ _ (ap row_letter c.if-kind-eq0.true) c.requires)
 
 internal : (c : tie.Then-kind-eq1)
-    → let e = c.before.before.before.args in
+    → let e = c.args in
     Left e.out.now e.at (row_letter e.kind) e.out.now e.at (73 ∷ [])
-internal c = left_as c.before.before.before.args.out.now _ _ _ (ap row_letter c.if-kind-eq1.true) c.before.before.before.requires
+internal c = left_as c.args.out.now _ _ _ (ap row_letter c.if-kind-eq1.true) c.requires
 
 put-byte-requires : tie.Need-put_byte-requires
 put-byte-requires c κs = (internal c.before).fits
 
 returns-2 : tie.Need-returns-then-kind-eq1
-returns-2 c = left-last (internal c.before.before.before.before) c.before.before.put_byte.ensures
+returns-2 c = left-last (internal c.before.before.before.before) c.put_byte.ensures
 
 leaf : (c : tie.Else-kind-eq1)
-    → let e = c.before.before.before.args in
+    → let e = c.args in
     Left e.out.now e.at (row_letter e.kind) e.out.now e.at (76 ∷ [])
-leaf c = left_as c.before.before.before.args.out.now _ _ _ (leaf-word _ c.before.if-kind-eq0.false c.if-kind-eq1.false) c.before.before.before.requires
+leaf c = left_as c.args.out.now _ _ _ (leaf-word _ c.if-kind-eq0.false c.if-kind-eq1.false) c.requires
 
 put-byte-requires-2 : tie.Need-put_byte-requires-2
 put-byte-requires-2 c κs = (leaf c.before).fits
 
 returns-3 : tie.Need-returns
-returns-3 c = left-last (leaf c.before.before.before.before) c.before.before.put_byte-2.ensures
+returns-3 c = left-last (leaf c.before.before.before.before) c.put_byte-2.ensures
 
 pub put_kind_spec : {M : Type 1} → statement M
 put_kind_spec = tie.close (tie.spec returns put-byte-requires (λ c. search rules) returns-2 put-byte-requires-2 (λ c. search rules) returns-3)

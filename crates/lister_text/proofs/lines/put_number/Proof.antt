@@ -8,8 +8,7 @@ use Rattle.lister_text.proofs.lines.put_number.Tie as tie
 
 returns : tie.Need-returns
 returns c =
-    let e = c.before.before.before.before.before.before.before.before.before in
-    wrote_both e.args.out.now _ (32 ∷ []) _ _ _ _ _ (omega (arith, e.requires.1)) c.before.before.before.before.before.before.put_byte-next.ensures c.before.before.put_decimal.ensures
+    wrote_both c.args.out.now _ (32 ∷ []) _ _ _ _ _ (omega (arith, c.requires.1)) c.put_byte-next.ensures c.put_decimal.ensures
 
 pub put_number_spec : {M : Type 1} → statement M
 put_number_spec = tie.close (tie.spec (λ c κs. search rules) (λ c κs. search rules) (λ c. search rules) returns)

@@ -14,15 +14,15 @@ room : (s : tie.Start) → s.args.at + length (line (ascii "refused" ∷ decimal
 room s = omega (arith, s.requires.1, refused_length s.args.number)
 
 number-left : (c : tie.After-put_text-next)
-    → let e = c.before.before.before.before.args in
+    → let e = c.args in
     Next e.out.now e.at (line (ascii "refused" ∷ decimal e.number ∷ [])) c.put_text-next.new.out c.put_text-next.result (32 ∷ decimal e.number) (10 ∷ [])
 number-left c = left-next _ _ ((left-next (ascii "refused") _ (left-all _ _ _ (room c.before.before.before.before))).after c.put_text-next.ensures)
 
 put-number-requires : tie.Need-put_number-next-requires
-put-number-requires c κs = (c.before.before.before.before.before.before.before.requires.0, (number-left c.before.before.before).room)
+put-number-requires c κs = (c.requires.0, (number-left c.before.before.before).room)
 
 end-left : (c : tie.After-put_number-next)
-    → let e = c.before.before.before.before.before.before.before.before.args in
+    → let e = c.args in
     Left e.out.now e.at (line (ascii "refused" ∷ decimal e.number ∷ [])) c.put_number-next.new.out c.put_number-next.result (10 ∷ [])
 end-left c = (number-left c.before.before.before.before).after c.put_number-next.ensures
 
@@ -30,7 +30,7 @@ put-byte-requires : tie.Need-put_byte-requires
 put-byte-requires c κs = (end-left c.before.before.before).fits
 
 returns : tie.Need-returns
-returns c = left-last (end-left c.before.before.before.before.before.before) c.before.before.put_byte.ensures
+returns c = left-last (end-left c.before.before.before.before.before.before) c.put_byte.ensures
 
 pub put_refused_spec : {M : Type 1} → statement M
 put_refused_spec = tie.close (tie.spec (λ c. search rules) (λ c κs. search rules) put-number-requires put-byte-requires (λ c. search rules) returns)

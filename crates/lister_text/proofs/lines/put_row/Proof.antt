@@ -74,7 +74,7 @@ put-chain-requires : tie.Need-put_chain-requires
 put-chain-requires c κs = (chain_left (kind-put c)).fits
 
 returns : tie.Need-returns
-returns c = left-last (chain_left (kind-put c.before.before.before)) c.before.before.put_chain.ensures
+returns c = left-last (chain_left (kind-put c.before.before.before)) c.put_chain.ensures
 
 pub put_row_spec : {M : Type 1} → statement M
 put_row_spec =

@@ -31,8 +31,8 @@ loop-holds c =
 
 chain-within : (c : tie.In-loop-i invariant-loop decreases-loop)
     → let s = entry c.before.before in
-    c.before.loop-i.from + get_or s.args.rows.now (row_numbers * c.before.loop-i.i + 3) 0 ≤ length s.args.chains.now
-chain-within c = going-chain _ _ _ _ _ _ _ _ _ c.before.loop-i.invariant c.loop-i-test.true
+    c.loop-i.from + get_or s.args.rows.now (row_numbers * c.loop-i.i + 3) 0 ≤ length s.args.chains.now
+chain-within c = going-chain _ _ _ _ _ _ _ _ _ c.loop-i.invariant c.loop-i-test.true
 
 cast-to : tie.Need-overflow_cast-to invariant-loop decreases-loop
 cast-to c = omega (arith, chain-within c.before)
@@ -44,13 +44,13 @@ part-put-row-end : tie.Need-slice_bounds-put_row-end invariant-loop decreases-lo
 part-put-row-end c = chain-within (within-loop c)
 
 put-row-requires : tie.Need-put_row-next-requires invariant-loop decreases-loop
-put-row-requires c κs = let l = within-loop c.before in (going-row _ _ _ _ _ _ _ _ _ l.before.loop-i.invariant l.loop-i-test.taken).room
+put-row-requires c κs = let l = within-loop c.before in (going-row _ _ _ _ _ _ _ _ _ l.loop-i.invariant l.loop-i-test.taken).room
 
 loop-again : tie.Need-loop-i-preserved invariant-loop decreases-loop
-loop-again c = let l = within-loop-from-end c in going_next _ _ _ _ _ _ _ _ _ l.before.loop-i.invariant l.loop-i-test.taken _ _ c.before.before.put_row-next.ensures
+loop-again c = let l = within-loop-from-end c in going_next _ _ _ _ _ _ _ _ _ l.loop-i.invariant l.loop-i-test.taken _ _ c.put_row-next.ensures
 
 returns : tie.Need-returns invariant-loop decreases-loop
-returns c = going_end _ _ _ _ _ _ _ _ _ c.before.loop-i.invariant c.loop-i-test.false
+returns c = going_end _ _ _ _ _ _ _ _ _ c.loop-i.invariant c.loop-i-test.false
 
 pub put_rows_spec : {M : Type 1} → statement M
 put_rows_spec =
@@ -81,5 +81,5 @@ put_rows_spec =
     (λ c. omega arith)
     (λ c. omega arith)
     loop-again
-    (λ c. c.before.loop-i.invariant.left.same)
+    (λ c. c.loop-i.invariant.left.same)
     returns)

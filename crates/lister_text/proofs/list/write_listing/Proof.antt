@@ -27,7 +27,7 @@ fits s cov t h = omega (arith, listing-length cov t h.listed, s.requires.1)
 returns : tie.Need-returns-then-nodes-eq0
 returns c = λ cov t h.
     let s = c.before.before.before.before.before.before.before.before in
-    left-last (left_as s.args.out.now 0 _ _ (none_told cov t _ _ _ _ h c.before.before.before.before.if-nodes-eq0.true) (fits s cov t h)) c.before.before.put_empty.ensures
+    left-last (left_as s.args.out.now 0 _ _ (none_told cov t _ _ _ _ h c.if-nodes-eq0.true) (fits s cov t h)) c.put_empty.ensures
 
 extent-ahead : (c : tie.Else-nodes-eq0)
     → let s = c.before.before.before.before in
@@ -37,8 +37,8 @@ extent-ahead c cov t h = let s = c.before.before.before.before in left-next _ _ 
 
 put-extent-requires : tie.Need-put_extent-next-requires
 put-extent-requires c κs =
-    let given = c.before.before.before.before.before.requires.0 in
-    (some_extent _ _ _ _ _ _ given.told c.before.if-nodes-eq0.false, (extent-ahead c.before _ _ given.told).room)
+    let given = c.requires.0 in
+    (some_extent _ _ _ _ _ _ given.told c.if-nodes-eq0.false, (extent-ahead c.before _ _ given.told).room)
 
 rows_left : (c : tie.After-put_extent-next)
     → let s = c.before.before.before.before.before.before in
@@ -48,11 +48,11 @@ rows_left c cov t h = (extent-ahead c.before.before cov t h).after c.put_extent-
 
 put-rows-requires : tie.Need-put_rows-requires
 put-rows-requires c κs =
-    let given = c.before.before.before.before.before.before.before.before.before.requires.0 in
+    let given = c.requires.0 in
     (rows_room _ _ _ _ _ _ given.told, (chains-room _ _ _ _ _ _ given.told, (rows_left c.before.before.before _ _ given.told).fits))
 
 returns-2 : tie.Need-returns
-returns-2 c = λ cov t h. left-last (rows_left c.before.before.before.before.before.before cov t h) c.before.before.put_rows.ensures
+returns-2 c = λ cov t h. left-last (rows_left c.before.before.before.before.before.before cov t h) c.put_rows.ensures
 
 pub write_listing_spec : {M : Type 1} → statement M
 write_listing_spec =

@@ -7,14 +7,14 @@ use Rattle.lister_text.proofs.Decimal.{spelt}
 use Rattle.lister_text.proofs.text.put_decimal.Statement.{statement}
 use Rattle.lister_text.proofs.text.put_decimal.Tie as tie
 
-digits_are : (c : tie.After-decimal-size) → take c.decimal-size.result c.decimal-size.new.out ≡ decimal c.before.before.before.args.n
-digits_are c = c.decimal-size.ensures.1.1 ∙ spelt c.before.before.before.args.n c.decimal-size.result c.before.before.before.requires.0 c.decimal-size.ensures.1.0
+digits_are : (c : tie.After-decimal-size) → take c.decimal-size.result c.decimal-size.new.out ≡ decimal c.args.n
+digits_are c = c.decimal-size.ensures.1.1 ∙ spelt c.args.n c.decimal-size.result c.requires.0 c.decimal-size.ensures.1.0
 
 put-text-requires : tie.Need-put_text-requires
-put-text-requires c κs = let d = c.before.before in rw (digits_are d) d.before.before.before.requires.1
+put-text-requires c κs = let d = c.before.before in rw (digits_are d) d.requires.1
 
 returns : tie.Need-returns
-returns c = let d = c.before.before.before.before.before in rw (← digits_are d) c.before.before.put_text.ensures
+returns c = let d = c.before.before.before.before.before in rw (← digits_are d) c.put_text.ensures
 
 pub put_decimal_spec : {M : Type 1} → statement M
 put_decimal_spec = tie.close (tie.spec (λ c κs. search rules) (λ c. search rules) (λ c. search rules) put-text-requires (λ c. search rules) returns)

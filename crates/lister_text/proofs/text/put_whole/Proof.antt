@@ -11,19 +11,19 @@ use Rattle.lister_text.proofs.text.put_whole.Tie as tie
 
 -- ---- below zero
 
-minus : (c : tie.Then-x) → Cast (neg c.before.before.args.x) (45 ∷ []) (signed (integer c.before.before.args.x))
-minus c = below c.before.before.args.x c.before.before.requires.0 c.if-x.true
+minus : (c : tie.Then-x) → Cast (neg c.args.x) (45 ∷ []) (signed (integer c.args.x))
+minus c = below c.args.x c.requires.0 c.if-x.true
 
 minus-left : (c : tie.Then-x)
-    → let e = c.before.before.args in
+    → let e = c.args in
     Next e.out.now e.at (signed (integer e.x)) e.out.now e.at (45 ∷ []) (decimal (to_unsigned 64 (neg e.x)))
-minus-left c = left-next _ _ (left_as c.before.before.args.out.now _ _ _ (minus c).is c.before.before.requires.1)
+minus-left c = left-next _ _ (left_as c.args.out.now _ _ _ (minus c).is c.requires.1)
 
 put-byte-requires : tie.Need-put_byte-next-requires
 put-byte-requires c κs = (minus-left c.before).room
 
 digits-left : (c : tie.After-put_byte-next)
-    → let e = c.before.before.before.before.args in
+    → let e = c.args in
     Left e.out.now e.at (signed (integer e.x)) c.put_byte-next.new.out c.put_byte-next.result (decimal (to_unsigned 64 (neg e.x)))
 digits-left c = (minus-left c.before.before).after c.put_byte-next.ensures
 
@@ -31,23 +31,23 @@ put-decimal-requires : tie.Need-put_decimal-requires
 put-decimal-requires c κs = ((minus c.before.before.before.before.before.before).small, (digits-left c.before.before.before.before).fits)
 
 returns : tie.Need-returns-then-x
-returns c = left-last (digits-left c.before.before.before.before.before.before.before) c.before.before.put_decimal.ensures
+returns c = left-last (digits-left c.before.before.before.before.before.before.before) c.put_decimal.ensures
 
 -- ---- else
 
-plain : (c : tie.Else-x) → Cast c.before.before.args.x [] (signed (integer c.before.before.args.x))
-plain c = above c.before.before.args.x c.before.before.requires.0 c.if-x.false
+plain : (c : tie.Else-x) → Cast c.args.x [] (signed (integer c.args.x))
+plain c = above c.args.x c.requires.0 c.if-x.false
 
 plain-left : (c : tie.Else-x)
-    → let e = c.before.before.args in
+    → let e = c.args in
     Left e.out.now e.at (signed (integer e.x)) e.out.now e.at (decimal (to_unsigned 64 e.x))
-plain-left c = left_as c.before.before.args.out.now _ _ _ (plain c).is c.before.before.requires.1
+plain-left c = left_as c.args.out.now _ _ _ (plain c).is c.requires.1
 
 put-decimal-requires-2 : tie.Need-put_decimal-requires-2
 put-decimal-requires-2 c κs = ((plain c.before.before).small, (plain-left c.before.before).fits)
 
 returns-2 : tie.Need-returns
-returns-2 c = left-last (plain-left c.before.before.before.before.before) c.before.before.put_decimal-2.ensures
+returns-2 c = left-last (plain-left c.before.before.before.before.before) c.put_decimal-2.ensures
 
 pub put_whole_spec : {M : Type 1} → statement M
 put_whole_spec =

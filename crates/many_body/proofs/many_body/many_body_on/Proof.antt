@@ -24,7 +24,7 @@ returns : tie.Need-returns
 returns c =
     let s = entry c.before.before.before in
     let a = s.args in
-    (c.before.before.pull_all.ensures.0, omega (arith, c.before.before.pull_all.ensures.1, all_fit a.at.now (length a.strengths.now) s.requires.0 s.requires.1.0.few))
+    (c.pull_all.ensures.0, omega (arith, c.pull_all.ensures.1, all_fit a.at.now (length a.strengths.now) s.requires.0 s.requires.1.0.few))
 
 pub many_body_on_spec : {M : Type 1} → statement M
 many_body_on_spec = tie.close (tie.spec (λ c κs. search rules) pull-all-requires (λ c. search rules) (λ c. search rules) returns)

@@ -81,7 +81,7 @@ abbrev come : Inside → Counted Flow
 come l = flow_at l.loop-w.vs (start (outer l)).args.draws.now l.loop-w.reached
 
 loop-holds : tie.Need-loop-i-init invariant-loop2 decreases-loop2 invariant-loop decreases-loop
-loop-holds c = (omega arith, refl, omega (arith, c.before.before.before.before.before.before.before.before.requires.1.1), omega arith, refl, c.empty-w.ensures, refl)
+loop-holds c = (omega arith, refl, omega (arith, c.requires.1.1), omega arith, refl, c.empty-w.ensures, refl)
 
 loop2-holds : tie.Need-loop-w-init invariant-loop2 decreases-loop2 invariant-loop decreases-loop
 loop2-holds c =
@@ -90,7 +90,7 @@ loop2-holds c =
       refl,
       omega (arith, o.loop-i.invariant.2),
       pull-start a.at.now a.strengths.now (start o).requires.0 a.t a.p.alpha o.loop-i.i (found o)
-          (record { sized = o.loop-i.invariant.5; slots = c.push_slot.ensures.0; cells = c.before.before.push_cell.ensures.0; height = c.push_slot.ensures.1 }),
+          (record { sized = o.loop-i.invariant.5; slots = c.push_slot.ensures.0; cells = c.push_cell.ensures.0; height = c.push_slot.ensures.1 }),
       refl,
     )
 
@@ -99,17 +99,17 @@ turn : (w : Read)
     → let o = outer (top w) in
     let a = (start o).args in
     PullingAt a.t a.at.now a.strengths.now a.p.alpha o.loop-i.i a.next.now a.m.now (found o) (top w).loop-w.w (come (top w)) w.waiting_at-e.result
-turn w = record { walking = (top w).loop-w.invariant.2; waits = w.before.before.before.before.loop-w-test.taken; top = w.waiting_at-e.ensures }
+turn w = record { walking = (top w).loop-w.invariant.2; waits = w.loop-w-test.taken; top = w.waiting_at-e.ensures }
 
 waiting-at-requires : tie.Need-waiting_at-e-requires invariant-loop2 decreases-loop2 invariant-loop decreases-loop
-waiting-at-requires c κs = omega (arith, low c.before.before.before.before.loop-w.invariant.2)
+waiting-at-requires c κs = omega (arith, low c.loop-w.invariant.2)
 
 -- this walk is one of them all
 among : (l : Inside) → let o = outer l in let a = (start o).args in (o.loop-i.i < length a.strengths.now) × (o.loop-i.reached.visits + a.q.nodes ≤ a.p.visits + length a.strengths.now * a.q.nodes)
 among l =
     let o = outer l in
     let a = (start o).args in
-    let i = l.before.before.before.before.before.loop-i-test.taken in
+    let i = l.loop-i-test.taken in
     (i, omega (arith, one_more o.loop-i.i (length a.strengths.now) a.q.nodes i, o.loop-i.invariant.3))
 
 -- one node more
@@ -158,7 +158,7 @@ returns c =
     let f = pulled_for a.t a.at.now a.strengths.now a.p.alpha in
     let n = length a.strengths.now in
     let r = k.many_body_step-r.result in
-    let d = c.before.if-r.true in
+    let d = c.if-r.true in
     rw c.dry.ensures (
       ran_dry k.many_body_step-r.new.vs a.draws.now a.p _ (alike l) (omega (arith, k.many_body_step-r.ensures.1.1, l.loop-w.invariant.1, o.loop-i.invariant.2))
           (left-stops f n o.loop-i.i (among l).0 (found o)
@@ -175,20 +175,20 @@ kept : (k : Stepped)
 kept k = (k.many_body_step-r.auto.vs ∙ (top (read k)).loop-w.invariant.0, omega (arith, (top (read k)).loop-w.invariant.1, k.many_body_step-r.ensures.1.1))
 
 internal : (c : tie.Then-tag-eq0 invariant-loop2 decreases-loop2 invariant-loop decreases-loop) → let w = read (met c.before) in word (start (outer (top w))).args.m.now w.waiting_at-e.result.slot 0 ≡ 0
-internal c = sym c.before.tag.ensures ∙ c.if-tag-eq0.true
+internal c = sym c.tag.ensures ∙ c.if-tag-eq0.true
 
 abbrev down : tie.After-push_slots invariant-loop2 decreases-loop2 invariant-loop decreases-loop → tie.Then-tag-eq0 invariant-loop2 decreases-loop2 invariant-loop decreases-loop
 down c = c.before.before.before.before.before.before.before
 
 pushed : (c : tie.After-push_slots invariant-loop2 decreases-loop2 invariant-loop decreases-loop)
     → let w = read (met (down c).before) in
-    Pushed (start (outer (top w))).args.m.now w.waiting_at-e.result (top w).loop-w.w (record { slots = c.push_slots.new.slots; cells = c.before.before.push_cells.new.cells; height = c.push_slots.result })
+    Pushed (start (outer (top w))).args.m.now w.waiting_at-e.result (top w).loop-w.w (record { slots = c.push_slots.new.slots; cells = c.push_cells.new.cells; height = c.push_slots.result })
 pushed c =
     record {
-      children = c.before.before.before.before.children-children.result;
-      these = c.before.before.before.before.children-children.ensures;
+      children = c.children-children.result;
+      these = c.children-children.ensures;
       slots = c.push_slots.ensures.0;
-      cells = c.before.before.push_cells.ensures;
+      cells = c.push_cells.ensures;
       height = c.push_slots.ensures.1;
     }
 
@@ -206,7 +206,7 @@ loop2-again c =
     let v = onward c.before.before.before.before.before in (
       (kept k).0,
       (kept k).1,
-      turn-down (turn (read k)) (internal i) (pushed c) (node_on _ d k.many_body_step-r.result (k.many_body_step-r.ensures.0 (internal i)) i.before.before.if-r.left v),
+      turn-down (turn (read k)) (internal i) (pushed c) (node_on _ d k.many_body_step-r.result (k.many_body_step-r.ensures.0 (internal i)) i.if-r.left v),
       (top (read k)).loop-w.invariant.3,
     )
 
@@ -218,12 +218,12 @@ loop2-again-2 c =
     let v = skipped c in (
       (kept k).0,
       (kept k).1,
-      turn-skip (turn (read k)) (internal i) (node_on _ d k.many_body_step-r.result (k.many_body_step-r.ensures.0 (internal i)) i.before.before.if-r.false v),
+      turn-skip (turn (read k)) (internal i) (node_on _ d k.many_body_step-r.result (k.many_body_step-r.ensures.0 (internal i)) i.if-r.false v),
       (top (read k)).loop-w.invariant.3,
     )
 
 leaf : (c : tie.Else-tag-eq0 invariant-loop2 decreases-loop2 invariant-loop decreases-loop) → let w = read (met c.before) in word (start (outer (top w))).args.m.now w.waiting_at-e.result.slot 0 ≡ 0 → ⊥
-leaf c z = c.if-tag-eq0.false (c.before.tag.ensures ∙ z)
+leaf c z = c.if-tag-eq0.false (c.tag.ensures ∙ z)
 
 loop2-again-3 : tie.Need-loop-w-preserved invariant-loop2 decreases-loop2 invariant-loop decreases-loop
 unfolding handed
@@ -233,7 +233,7 @@ loop2-again-3 c =
       (kept k).0,
       (kept k).1,
       turn-leaf (turn (read k)) (leaf c) k.many_body_step-r.result.visit
-          (λ is f b p. node_on _ a.draws.now k.many_body_step-r.result (k.many_body_step-r.ensures.1.0 (leaf c) (handed a.next.now a.m.now (length a.strengths.now) _ is f b p)) c.before.before.if-r.false refl),
+          (λ is f b p. node_on _ a.draws.now k.many_body_step-r.result (k.many_body_step-r.ensures.1.0 (leaf c) (handed a.next.now a.m.now (length a.strengths.now) _ is f b p)) c.if-r.false refl),
       (top (read k)).loop-w.invariant.3,
     )
 
@@ -291,8 +291,8 @@ pull_all_spec =
     (λ c κs. (reach (turn (read c.before.before.before))).0)
     (λ c. search rules)
     (λ c κs. (reach (turn (read (met c.before.before.before)))).0)
-    (λ c κs. let i = c.before.before.before.before in room (turn (read (met i.before))) (internal i) c.before.children-children.ensures)
-    (λ c κs. let i = c.before.before.before.before.before.before in room (turn (read (met i.before))) (internal i) c.before.before.before.children-children.ensures)
+    (λ c κs. let i = c.before.before.before.before in room (turn (read (met i.before))) (internal i) c.children-children.ensures)
+    (λ c κs. let i = c.before.before.before.before.before.before in room (turn (read (met i.before))) (internal i) c.children-children.ensures)
     (λ c. falls_down (turn (read (met (down c).before))) (internal (down c)) (pushed c))
     loop2-again
     (λ c. search rules)
@@ -304,5 +304,5 @@ pull_all_spec =
     (λ c. omega (arith, (among c.before).0))
     loop-again
     (λ c κs. search rules)
-    (λ c. c.before.before.loop-i.invariant.1)
+    (λ c. c.loop-i.invariant.1)
     returns-2)

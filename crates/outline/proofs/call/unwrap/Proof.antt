@@ -15,48 +15,43 @@ use Rattle.outline.proofs.call.unwrap.Statement.{statement}
 use Rattle.outline.proofs.call.unwrap.Tie as tie
 
 -- what was answered for the checks
-checked : (f : tie.After-outline_check-check) → let s = f.before in f.outline_check-check.result ≡ refusal_of (outline_check s.args.corners.now s.args.centre (length s.args.unwrapped.now))
-checked f = let s = f.before in rw (to_z-of_z w64 s.args.centre s.ranges.centre) at f.outline_check-check.ensures
+checked : (f : tie.After-outline_check-check) → f.outline_check-check.result ≡ refusal_of (outline_check f.args.corners.now f.args.centre (length f.args.unwrapped.now))
+checked f = rw (to_z-of_z w64 f.args.centre f.ranges.centre) at f.outline_check-check.ensures
 
 returns : tie.Need-returns-then-number-ne0
 returns c =
     let f = c.before in
-    let s = f.before in
-    ended-early (lent_outline s.args.corners.now s.args.centre s.args.unwrapped.now) f.outline_check-check.result (checked f) c.if-number-ne0.true
+    ended-early (lent_outline f.args.corners.now f.args.centre f.args.unwrapped.now) f.outline_check-check.result (checked f) c.if-number-ne0.true
 
 -- past them
-fit : (c : tie.Else-number-ne0) → let s = c.before.before in outline_check s.args.corners.now s.args.centre (length s.args.unwrapped.now) ≡ fine
+fit : (c : tie.Else-number-ne0) → outline_check c.args.corners.now c.args.centre (length c.args.unwrapped.now) ≡ fine
 fit c =
-    let s = c.before.before in
-    passed (outline_check s.args.corners.now s.args.centre (length s.args.unwrapped.now)) c.before.outline_check-check.result (outline-early s.args.corners.now s.args.centre (length s.args.unwrapped.now)) (checked c.before) c.if-number-ne0.false
+    passed (outline_check c.args.corners.now c.args.centre (length c.args.unwrapped.now)) c.outline_check-check.result (outline-early c.args.corners.now c.args.centre (length c.args.unwrapped.now)) (checked c.before) c.if-number-ne0.false
 
-fit-sound : (c : tie.Else-number-ne0) → let s = c.before.before in Sound s.args.corners.now s.args.centre × (length s.args.corners.now ≤ length s.args.unwrapped.now)
-fit-sound c = let s = c.before.before in sound s.args.corners.now s.args.centre (length s.args.unwrapped.now) (fit c)
+fit-sound : (c : tie.Else-number-ne0) → Sound c.args.corners.now c.args.centre × (length c.args.corners.now ≤ length c.args.unwrapped.now)
+fit-sound c = sound c.args.corners.now c.args.centre (length c.args.unwrapped.now) (fit c)
 
 closing-check-requires : tie.Need-closing_check-closing-requires
-closing-check-requires c κs = let s = c.before.before in rw (to_z-of_z w64 s.args.centre s.ranges.centre) (fit-sound c).0
+closing-check-requires c κs = rw (to_z-of_z w64 c.args.centre c.ranges.centre) (fit-sound c).0
 
 returns-2 : tie.Need-returns-then-unclosed-ne0
 returns-2 c =
     let k = c.before in
-    let s = k.before.before.before in
-    unclosed (lent_outline s.args.corners.now s.args.centre s.args.unwrapped.now) (fit k.before) k.closing_check-closing.result
-    (rw (to_z-of_z w64 s.args.centre s.ranges.centre) at k.closing_check-closing.ensures) c.if-unclosed-ne0.true
+    unclosed (lent_outline k.args.corners.now k.args.centre k.args.unwrapped.now) (fit k.before) k.closing_check-closing.result
+    (rw (to_z-of_z w64 k.args.centre k.ranges.centre) at k.closing_check-closing.ensures) c.if-unclosed-ne0.true
 
 lay-requires : tie.Need-lay-requires
 lay-requires c κs =
     let e = c.before.before.before in
-    let s = e.before.before in
-    rw (to_z-of_z w64 s.args.centre s.ranges.centre) (fit-sound e)
+    rw (to_z-of_z w64 e.args.centre e.ranges.centre) (fit-sound e)
 
 returns-3 : tie.Need-returns
 returns-3 c =
     let y = c.before in
     let m = y.before.before in
     let k = m.before in
-    let s = k.before.before.before in
-    let e = to_z-of_z w64 s.args.centre s.ranges.centre in
-    closed (lent_outline s.args.corners.now s.args.centre s.args.unwrapped.now) (fit k.before) k.closing_check-closing.result y.lay.new.unwrapped
+    let e = to_z-of_z w64 k.args.centre k.ranges.centre in
+    closed (lent_outline k.args.corners.now k.args.centre k.args.unwrapped.now) (fit k.before) k.closing_check-closing.result y.lay.new.unwrapped
     (rw e at k.closing_check-closing.ensures) m.if-unclosed-ne0.false (rw e at y.lay.ensures)
 
 pub unwrap_spec : {M : Type 1} → statement M

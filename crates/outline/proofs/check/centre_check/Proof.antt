@@ -10,8 +10,7 @@ use Rattle.outline.proofs.check.centre_check.Tie as tie
 
 returns : tie.Need-returns
 returns c =
-    let s = c.before.before in
-    let e = rw (to_z-of_z w64 s.args.centre s.ranges.centre) at c.before.longitude_range.ensures in
+    let e = rw (to_z-of_z w64 c.args.centre c.ranges.centre) at c.longitude_range.ensures in
     c.unless.ensures ∙ ap (λ (so : Bool). refusal_of (require so 5 0)) e
 
 pub centre_check_spec : {M : Type 1} → statement M

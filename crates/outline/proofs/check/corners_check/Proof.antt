@@ -20,30 +20,30 @@ abbrev decreases-loop : tie.decreases-loop-i
 decreases-loop corners i₀ i = length corners - i
 
 -- what was tested is the corner itself
-tested : (w : tie.After-longitude_range invariant-loop decreases-loop) → w.longitude_range.result ≡ longitude_range (get_or w.before.before.before.before.args.corners.now w.before.before.before.loop-i.i (pos 0))
+tested : (w : tie.After-longitude_range invariant-loop decreases-loop) → w.longitude_range.result ≡ longitude_range (get_or w.args.corners.now w.loop-i.i (pos 0))
 tested w =
-    let a = get_or w.before.before.before.before.args.corners.now w.before.before.before.loop-i.i (pos 0) in
+    let a = get_or w.args.corners.now w.loop-i.i (pos 0) in
     rw (to_z-of_z w64 a (sfits_of w.before.longitude-range-arg.given)) at w.longitude_range.ensures
 
 returns : tie.Need-returns-then-not-longitude_range invariant-loop decreases-loop
 returns c =
     let w = c.before.before in
-    let o = w.before.before.before.loop-i in
-    let l = w.before.before.before.before.args.corners.now in
+    let o = w.loop-i in
+    let l = w.args.corners.now in
     c.at.ensures
     ∙ rw o.invariant.1
-    (test_stop longitude_range 5 (λ i. drop i l) o.i (get_or l o.i (pos 0)) (list_left l o.i (pos 0) (omega arith)) w.longitude_range.result (tested w) c.before.if-not-longitude_range.true-raw)
+    (test_stop longitude_range 5 (λ i. drop i l) o.i (get_or l o.i (pos 0)) (list_left l o.i (pos 0) (omega arith)) w.longitude_range.result (tested w) c.if-not-longitude_range.true-raw)
 
 loop-again : tie.Need-loop-i-preserved invariant-loop decreases-loop
 loop-again c =
-    let o = c.before.before.before.before.loop-i in
-    let l = c.before.before.before.before.before.args.corners.now in
-    (omega arith, o.invariant.1 ∙ test_on longitude_range 5 (λ i. drop i l) o.i (get_or l o.i (pos 0)) (list_left l o.i (pos 0) (omega arith)) c.before.longitude_range.result (tested c.before) c.if-not-longitude_range.false-raw)
+    let o = c.loop-i in
+    let l = c.args.corners.now in
+    (omega arith, o.invariant.1 ∙ test_on longitude_range 5 (λ i. drop i l) o.i (get_or l o.i (pos 0)) (list_left l o.i (pos 0) (omega arith)) c.longitude_range.result (tested c.before) c.if-not-longitude_range.false-raw)
 
 returns-2 : tie.Need-returns invariant-loop decreases-loop
 returns-2 c =
-    let o = c.before.before.loop-i in
-    let l = c.before.before.before.args.corners.now in
+    let o = c.loop-i in
+    let l = c.args.corners.now in
     c.none.ensures ∙ rw (o.invariant.1, drop_of_length-le l {i = o.i} (omega arith))
 
 pub corners_check_spec : {M : Type 1} → statement M

@@ -8,25 +8,19 @@ use Rattle.outline.proofs.check.outline_check.Tie as tie
 
 returns : tie.Need-returns-then-number-ne0
 returns c =
-    let f = c.before in
-    let s = f.before.before.before in
-    let l = s.args.corners.now in
-    stopped l s.args.centre s.args.room f.first-lengths.result
-    (of_lengths_lem l s.args.centre s.args.room f.before.before.count_check.result f.before.lengths_check.result f.first-lengths.result f.before.before.count_check.ensures f.before.lengths_check.ensures f.first-lengths.ensures)
+    let l = c.args.corners.now in
+    stopped l c.args.centre c.args.room c.first-lengths.result
+    (of_lengths_lem l c.args.centre c.args.room c.count_check.result c.lengths_check.result c.first-lengths.result c.count_check.ensures c.lengths_check.ensures c.first-lengths.ensures)
     c.if-number-ne0.true
 
 returns-2 : tie.Need-returns
 returns-2 c =
-    let m = c.before in
-    let g = m.before.before in
-    let f = g.before in
-    let s = f.before.before.before in
-    let l = s.args.corners.now in
-    let e = rw (to_z-of_z w64 s.args.centre s.ranges.centre) at m.centre_check.ensures in
-    went_on l s.args.centre s.args.room f.first-lengths.result c.first.result
-    (of_lengths_lem l s.args.centre s.args.room f.before.before.count_check.result f.before.lengths_check.result f.first-lengths.result f.before.before.count_check.ensures f.before.lengths_check.ensures f.first-lengths.ensures)
-    g.if-number-ne0.false
-    (of_places l s.args.centre s.args.room m.before.corners_check.result m.centre_check.result c.first.result m.before.corners_check.ensures e c.first.ensures)
+    let l = c.args.corners.now in
+    let e = rw (to_z-of_z w64 c.args.centre c.ranges.centre) at c.centre_check.ensures in
+    went_on l c.args.centre c.args.room c.first-lengths.result c.first.result
+    (of_lengths_lem l c.args.centre c.args.room c.count_check.result c.lengths_check.result c.first-lengths.result c.count_check.ensures c.lengths_check.ensures c.first-lengths.ensures)
+    c.if-number-ne0.false
+    (of_places l c.args.centre c.args.room c.corners_check.result c.centre_check.result c.first.result c.corners_check.ensures e c.first.ensures)
 
 pub outline_check_spec : {M : Type 1} → statement M
 outline_check_spec =

@@ -14,41 +14,37 @@ use Rattle.outline.proofs.corners.closes.Statement.{statement}
 use Rattle.outline.proofs.corners.closes.Tie as tie
 
 returns : tie.Need-returns-then-corners-eq0
-returns c = closes-none c.before.args.centre c.before.args.corners.now c.if-corners-eq0.true
+returns c = closes-none c.args.centre c.args.corners.now c.if-corners-eq0.true
 
-some : (c : tie.After-first-1) → 0 < length c.before.before.args.corners.now
-some c = omega (arith, c.before.if-corners-eq0.false)
+some : (c : tie.After-first-1) → 0 < length c.args.corners.now
+some c = omega (arith, c.if-corners-eq0.false)
 
 short-way-requires : tie.Need-short_way-began-requires
 short-way-requires c κs =
-    let s = c.before.before in
-    let l = s.args.corners.now in
-    rw (to_z-of_z w64 s.args.centre s.ranges.centre, to_z-of_z w64 (corner_at l 0) (sfits_of c.first.given))
-    (asked l s.args.centre s.requires 0 s.args.centre (some c) (at_centre l s.args.centre s.requires))
+    let l = c.args.corners.now in
+    rw (to_z-of_z w64 c.args.centre c.ranges.centre, to_z-of_z w64 (corner_at l 0) (sfits_of c.first.given))
+    (asked l c.args.centre c.requires 0 c.args.centre (some c) (at_centre l c.args.centre c.requires))
 
 -- what was found of the last number is read back as it is
-last-read : (c : tie.After-last) → let s = c.before.before.before.before in to_z w64 (of_z w64 c.new.result) ≡ last_from s.args.centre (outline s.args.centre s.args.corners.now)
+last-read : (c : tie.After-last) → to_z w64 (of_z w64 c.new.result) ≡ last_from c.args.centre (outline c.args.centre c.args.corners.now)
 last-read c =
-    let s = c.before.before.before.before in
-    to_z-of_z w64 c.new.result (sfits_of c.new.type-inv) ∙ (rw (to_z-of_z w64 s.args.centre s.ranges.centre) at c.new.ensures)
+    to_z-of_z w64 c.new.result (sfits_of c.new.type-inv) ∙ (rw (to_z-of_z w64 c.args.centre c.ranges.centre) at c.new.ensures)
 
 short-way-requires-2 : tie.Need-short_way-back-requires
 short-way-requires-2 c κs =
     let f = c.before.before in
-    let s = f.before.before in
-    let l = s.args.corners.now in
+    let l = f.args.corners.now in
     rw (last-read c, to_z-of_z w64 (corner_at l 0) (sfits_of f.first.given))
-    (last-far l s.args.centre s.requires, (asked l s.args.centre s.requires 0 s.args.centre (some f) (at_centre l s.args.centre s.requires)).1)
+    (last-far l f.args.centre f.requires, (asked l f.args.centre f.requires 0 f.args.centre (some f) (at_centre l f.args.centre f.requires)).1)
 
 returns-2 : tie.Need-returns
 returns-2 c =
     let w = c.before.before in
     let f = w.before in
-    let s = f.before.before in
-    let l = s.args.corners.now in
+    let l = f.args.corners.now in
     let first = to_z-of_z w64 (corner_at l 0) (sfits_of f.first.given) in
-    closes_tested s.args.centre l w.short_way-began.result c.short_way-back.result (some f) (sfits_of w.short_way-began.type_inv) (sfits_of c.short_way-back.type_inv)
-    (rw (to_z-of_z w64 s.args.centre s.ranges.centre, first) at w.short_way-began.ensures)
+    closes_tested f.args.centre l w.short_way-began.result c.short_way-back.result (some f) (sfits_of w.short_way-began.type_inv) (sfits_of c.short_way-back.type_inv)
+    (rw (to_z-of_z w64 f.args.centre f.ranges.centre, first) at w.short_way-began.ensures)
     (rw (last-read c.before, first) at c.short_way-back.ensures)
 
 pub closes_spec : {M : Type 1} → statement M

@@ -10,8 +10,8 @@ use mir.Val.{to_z, of_z}
 use mir.ValLaws.{to_z-of_z}
 use Rattle.rules.specs.Outline.{half_turn, outline, last_from}
 use Rattle.outline.proofs.Turns.{corner_at, at_centre, asked, nearer, last_turn, step-read}
-use Rattle.outline.proofs.corners.new.Statement.{statement}
-use Rattle.outline.proofs.corners.new.Tie as tie
+use Rattle.outline.proofs.corners.last.Statement.{statement}
+use Rattle.outline.proofs.corners.last.Tie as tie
 
 abbrev invariant-loop : tie.invariant-loop-i
 invariant-loop corners centre end₀ i₀ end i =
@@ -27,15 +27,14 @@ loop-holds c = (omega arith, rw (to_z-of_z w64 c.args.centre c.ranges.centre) (a
 
 short-way-requires : tie.Need-short_way-end-requires invariant-loop decreases-loop
 short-way-requires c κs =
-    let o = c.before.before.loop-i in
-    let s = c.before.before.before in
-    let l = s.args.corners.now in
-    rw (to_z-of_z w64 (corner_at l o.i) (sfits_of c.short-way-arg.given)) (asked l s.args.centre s.requires o.i (to_z w64 o.end) (omega arith) o.invariant.1)
+    let o = c.loop-i in
+    let l = c.args.corners.now in
+    rw (to_z-of_z w64 (corner_at l o.i) (sfits_of c.short-way-arg.given)) (asked l c.args.centre c.requires o.i (to_z w64 o.end) (omega arith) o.invariant.1)
 
 loop-again : tie.Need-loop-i-preserved invariant-loop decreases-loop
 loop-again c =
-    let o = c.before.before.before.loop-i in
-    let l = c.before.before.before.before.args.corners.now in
+    let o = c.loop-i in
+    let l = c.args.corners.now in
     let r = c.short_way-end.result in
     let e = step-read (to_z w64 o.end) (corner_at l o.i) r c.before.short-way-arg.given c.short_way-end.type_inv c.short_way-end.ensures in
     (omega arith, nearer l o.i (to_z w64 o.end) (to_z w64 (of_z w64 r)) (omega arith) e o.invariant.1, o.invariant.2 ∙ last_turn l o.i (to_z w64 o.end) (to_z w64 (of_z w64 r)) (omega arith) e)
@@ -43,9 +42,8 @@ loop-again c =
 returns : tie.Need-returns invariant-loop decreases-loop
 unfolding outline
 returns c =
-    let o = c.before.loop-i in
-    let s = c.before.before in
-    let e = rw (to_z-of_z w64 s.args.centre s.ranges.centre, drop_of_length-le s.args.corners.now {i = o.i} (omega arith)) at o.invariant.2 in
+    let o = c.loop-i in
+    let e = rw (to_z-of_z w64 c.args.centre c.ranges.centre, drop_of_length-le c.args.corners.now {i = o.i} (omega arith)) at o.invariant.2 in
     sym e
 
 pub last_spec : {M : Type 1} → statement M

@@ -30,15 +30,14 @@ loop-holds c = (omega arith, rw (to_z-of_z w64 c.args.centre c.ranges.centre) (a
 
 short-way-requires : tie.Need-short_way-at-requires invariant-loop decreases-loop
 short-way-requires c κs =
-    let o = c.before.before.loop-i in
-    let s = c.before.before.before in
-    let l = s.args.corners.now in
-    rw (to_z-of_z w64 (corner_at l o.i) (sfits_of c.short-way-arg.given)) (asked l s.args.centre s.requires.0 o.i (to_z w64 o.at) (omega arith) o.invariant.1)
+    let o = c.loop-i in
+    let l = c.args.corners.now in
+    rw (to_z-of_z w64 (corner_at l o.i) (sfits_of c.short-way-arg.given)) (asked l c.args.centre c.requires.0 o.i (to_z w64 o.at) (omega arith) o.invariant.1)
 
 loop-again : tie.Need-loop-i-preserved invariant-loop decreases-loop
 loop-again c =
-    let o = c.before.before.before.loop-i in
-    let l = c.before.before.before.before.args.corners.now in
+    let o = c.loop-i in
+    let l = c.args.corners.now in
     let at = to_z w64 o.at in
     let v = to_z w64 (of_z w64 c.short_way-at.result) in
     let e = step-read at (corner_at l o.i) c.short_way-at.result c.before.short-way-arg.given c.short_way-at.type_inv c.short_way-at.ensures in (
@@ -51,9 +50,8 @@ loop-again c =
 returns : tie.Need-returns invariant-loop decreases-loop
 unfolding outline
 returns c =
-    let o = c.before.loop-i in
-    let s = c.before.before in
-    let e = rw (to_z-of_z w64 s.args.centre s.ranges.centre, drop_of_length-le s.args.corners.now {i = o.i} (omega arith)) at o.invariant.3 in
+    let o = c.loop-i in
+    let e = rw (to_z-of_z w64 c.args.centre c.ranges.centre, drop_of_length-le c.args.corners.now {i = o.i} (omega arith)) at o.invariant.3 in
     sym (e ∙ overwritten-none o.unwrapped o.i)
 
 pub lay_spec : {M : Type 1} → statement M
@@ -71,5 +69,5 @@ lay_spec =
     (λ c. omega arith)
     (λ c. omega arith)
     loop-again
-    (λ c. c.before.loop-i.invariant.2)
+    (λ c. c.loop-i.invariant.2)
     returns)

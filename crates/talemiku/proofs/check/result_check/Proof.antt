@@ -18,24 +18,23 @@ last false b = refl
 returns : tie.Need-returns-then-within-2
 unfolding result_check
 returns c =
-    let start = c.before.before.before.before.before.before in
     rw (
-      ← c.before.before.before.before.before.within.ensures,
-      c.before.before.before.before.else-within.true,
-      ← c.before.before.before.within-then-within.ensures,
-      c.before.before.if-within-2.true,
+      ← c.within.ensures,
+      c.else-within.true,
+      ← c.within-then-within.ensures,
+      c.if-within-2.true,
     )
-    (c.unless.ensures ∙ ap (λ (ok : Bool). refusal_of (require ok 9 0)) c.before.speed_range.ensures ∙ last (finite start.args.p.vx) (finite start.args.p.vy))
+    (c.unless.ensures ∙ ap (λ (ok : Bool). refusal_of (require ok 9 0)) c.speed_range.ensures ∙ last (finite c.args.p.vx) (finite c.args.p.vy))
 
 returns-2 : tie.Need-returns
 unfolding result_check
 returns-2 c =
-    let x = c.before.before.within.ensures in
+    let x = c.within.ensures in
     c.at.ensures
     ∙ ⊎_elim
     (λ w. rw (← x, w.0.taken, ← w.1.ensures, w.2.left))
     (λ w. rw (← x, w.left))
-    c.before.else-within.branch
+    c.else-within.branch
 
 pub result_check_spec : {M : Type 1} → statement M
 result_check_spec =

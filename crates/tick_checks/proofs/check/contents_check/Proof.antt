@@ -18,15 +18,15 @@ returns c =
     let g = d.before in
     let r = g.before in
     let e = r.before in
-    let a = e.before.before.before.before.before.args in
+    let a = e.args in
     let n = count_of a.sheet.now in
     let es = entries_of a.words.now in
     answer_four (ends_each n es a.links.now) (records_check (particles_of a.sheet.now)) (ranges_each n es a.numbers.now) (draws_check a.draws.now)
-    e.all_ends-ends.result r.records_check-records.result g.all_ranges-ranges.result d.draws_check-draws.result c.before.before.first.result c.before.first-2.result c.first-3.result
+    e.all_ends-ends.result r.records_check-records.result g.all_ranges-ranges.result d.draws_check-draws.result c.first.result c.first-2.result c.first-3.result
     (each_early (λ e. links_needed e * 2) (λ _ part. own_ends n part) (λ _ part. of_all (ends_range n) 3 three (ends_of part)) es a.links.now)
     (records-early (particles_of a.sheet.now))
     (each_early (numbers_needed n) own_ranges own-early es a.numbers.now)
-    e.all_ends-ends.ensures r.records_check-records.ensures g.all_ranges-ranges.ensures d.draws_check-draws.ensures c.before.before.first.ensures c.before.first-2.ensures c.first-3.ensures
+    e.all_ends-ends.ensures r.records_check-records.ensures g.all_ranges-ranges.ensures d.draws_check-draws.ensures c.first.ensures c.first-2.ensures c.first-3.ensures
 
 pub contents_check_spec : {M : Type 1} → statement M
 contents_check_spec =

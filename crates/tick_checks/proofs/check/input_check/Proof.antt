@@ -31,15 +31,15 @@ returns-2 c =
     let q = b.before.before in
     let s = q.before.before.before.before.before in
     c.at.ensures
-    ∙ stopped-lengths (input s) s.args.ticks q.sizes_check-sizes.result q.sizes_check-sizes.ensures b.before.if-number-ne0.false
-    b.lengths_agree.result b.lengths_agree.ensures c.before.if-not-lengths_agree.true-raw
+    ∙ stopped-lengths (input s) s.args.ticks q.sizes_check-sizes.result q.sizes_check-sizes.ensures b.if-number-ne0.false
+    b.lengths_agree.result b.lengths_agree.ensures c.if-not-lengths_agree.true-raw
 
 contents-check-requires : tie.Need-contents_check-requires
 contents-check-requires c κs =
     let b = c.before in
     let q = b.before.before in
     let s = q.before.before.before.before.before in
-    long-enough (input s) s.args.ticks q.sizes_check-sizes.result q.sizes_check-sizes.ensures b.before.if-number-ne0.false
+    long-enough (input s) s.args.ticks q.sizes_check-sizes.result q.sizes_check-sizes.ensures b.if-number-ne0.false
     b.lengths_agree.result b.lengths_agree.ensures c.if-not-lengths_agree.false-raw
 
 returns-3 : tie.Need-returns
@@ -47,8 +47,8 @@ returns-3 c =
     let b = c.before.before in
     let q = b.before.before in
     let s = q.before.before.before.before.before in
-    answered-contents (input s) s.args.ticks q.sizes_check-sizes.result q.sizes_check-sizes.ensures b.before.if-number-ne0.false
-    b.lengths_agree.result b.lengths_agree.ensures c.before.if-not-lengths_agree.false-raw c.contents_check.result c.contents_check.ensures
+    answered-contents (input s) s.args.ticks q.sizes_check-sizes.result q.sizes_check-sizes.ensures b.if-number-ne0.false
+    b.lengths_agree.result b.lengths_agree.ensures c.if-not-lengths_agree.false-raw c.contents_check.result c.contents_check.ensures
 
 pub input_check_spec : {M : Type 1} → statement M
 input_check_spec =

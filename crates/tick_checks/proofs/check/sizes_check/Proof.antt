@@ -11,16 +11,12 @@ use Rattle.tick_checks.proofs.check.sizes_check.Tie as tie
 
 returns : tie.Need-returns
 returns c =
-    let d = c.before.before.before in
-    let t = d.before in
-    let p = t.before in
-    let l = p.before in
-    let a = l.before.before.args in
+    let a = c.args in
     let n = count_of a.sheet.now in
     answer_four (whole_records a.sheet.now) (count_check most_particles n) (count_check most_ticks a.ticks) (check_each (λ _ e. entry_counts e) (entries_of a.words.now))
-    l.whole_records-length.result p.count_check-particles.result t.count_check-ticks.result d.counts_check-counts.result c.before.before.first.result c.before.first-2.result c.first-3.result
+    c.whole_records-length.result c.count_check-particles.result c.count_check-ticks.result c.counts_check-counts.result c.first.result c.first-2.result c.first-3.result
     (length-early a.sheet.now) (count-early most_particles n) (count-early most_ticks a.ticks)
-    l.whole_records-length.ensures p.count_check-particles.ensures t.count_check-ticks.ensures d.counts_check-counts.ensures c.before.before.first.ensures c.before.first-2.ensures c.first-3.ensures
+    c.whole_records-length.ensures c.count_check-particles.ensures c.count_check-ticks.ensures c.counts_check-counts.ensures c.first.ensures c.first-2.ensures c.first-3.ensures
 
 pub sizes_check_spec : {M : Type 1} → statement M
 sizes_check_spec =

@@ -9,15 +9,11 @@ use Rattle.tick_checks.proofs.check.step_check.Tie as tie
 
 returns : tie.Need-returns
 returns c =
-    let i = c.before in
-    let f = i.before in
-    let e = f.before in
-    let t = e.before in
-    let a = t.before.before.before.before.before.args in
+    let a = c.args in
     let l = lent_sheet a.sheet.now 0 a.words.now a.numbers.now a.links.now a.draws.now [] in
     let four = a.alpha ∷ a.s.target ∷ a.s.alpha_decay ∷ a.s.velocity_decay ∷ [] in
-    answered-settings l a.budget (four ++ (a.alpha_min ∷ [])) i.input_check.result f.first-settings.result c.first.result i.input_check.ensures
-    (answer_settings four (a.alpha_min ∷ []) t.tick_settings.result e.setting_check.result f.first-settings.result t.tick_settings.ensures e.setting_check.ensures f.first-settings.ensures)
+    answered-settings l a.budget (four ++ (a.alpha_min ∷ [])) c.input_check.result c.first-settings.result c.first.result c.input_check.ensures
+    (answer_settings four (a.alpha_min ∷ []) c.tick_settings.result c.setting_check.result c.first-settings.result c.tick_settings.ensures c.setting_check.ensures c.first-settings.ensures)
     c.first.ensures
 
 pub step_check_spec : {M : Type 1} → statement M

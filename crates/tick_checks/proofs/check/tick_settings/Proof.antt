@@ -7,11 +7,9 @@ use Rattle.tick_checks.proofs.check.tick_settings.Tie as tie
 
 returns : tie.Need-returns
 returns c =
-    let t = c.before in
-    let o = t.before in
-    let a = o.before.args in
-    answer_settings (a.alpha ∷ []) (a.s.target ∷ a.s.alpha_decay ∷ a.s.velocity_decay ∷ []) o.setting_check.result t.settings_check.result c.first.result
-    o.setting_check.ensures t.settings_check.ensures c.first.ensures
+    let a = c.args in
+    answer_settings (a.alpha ∷ []) (a.s.target ∷ a.s.alpha_decay ∷ a.s.velocity_decay ∷ []) c.setting_check.result c.settings_check.result c.first.result
+    c.setting_check.ensures c.settings_check.ensures c.first.ensures
 
 pub tick_settings_spec : {M : Type 1} → statement M
 tick_settings_spec = tie.close (tie.spec (λ c κs. search rules) (λ c κs. search rules) (λ c κs. search rules) returns)

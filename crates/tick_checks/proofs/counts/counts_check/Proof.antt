@@ -21,28 +21,26 @@ decreases-loop words i₀ i = force_slots - i
 
 returns : tie.Need-returns-then-number-ne0 invariant-loop decreases-loop
 returns c =
-    let w = c.before in
-    let o = w.before.before.before.loop-i in
-    let l = w.before.before.before.before.args.words.now in
-    answer_stop (λ _ e. entry_counts e) (entries_left l) o.i (entry_at l (o.i * entry_words)) (entries_left_lem l o.i (omega arith)) w.entry_counts-r.result
-    (w.entry_counts-r.ensures ∙ ap (λ (e : ForceEntry). refusal_of (entry_counts e)) w.before.entry_at.ensures) c.if-number-ne0.true
+    let o = c.loop-i in
+    let l = c.args.words.now in
+    answer_stop (λ _ e. entry_counts e) (entries_left l) o.i (entry_at l (o.i * entry_words)) (entries_left_lem l o.i (omega arith)) c.entry_counts-r.result
+    (c.entry_counts-r.ensures ∙ ap (λ (e : ForceEntry). refusal_of (entry_counts e)) c.entry_at.ensures) c.if-number-ne0.true
     ∙ ap (λ (c : Check). refusal_of c) (sym o.invariant.1)
 
 loop-again : tie.Need-loop-i-preserved invariant-loop decreases-loop
 loop-again c =
-    let w = c.before in
-    let o = w.before.before.before.loop-i in
-    let l = w.before.before.before.before.args.words.now in (
+    let o = c.loop-i in
+    let l = c.args.words.now in (
       omega arith,
       o.invariant.1
-          ∙ answer_on (λ _ e. entry_counts e) (entries_left l) o.i (entry_at l (o.i * entry_words)) (entries_left_lem l o.i (omega arith)) w.entry_counts-r.result
-          (w.entry_counts-r.ensures ∙ ap (λ (e : ForceEntry). refusal_of (entry_counts e)) w.before.entry_at.ensures) (let e = entry_at l (o.i * entry_words) in kind-early (kind_of e.kind) e.links e.iterations) c.if-number-ne0.false,
+          ∙ answer_on (λ _ e. entry_counts e) (entries_left l) o.i (entry_at l (o.i * entry_words)) (entries_left_lem l o.i (omega arith)) c.entry_counts-r.result
+          (c.entry_counts-r.ensures ∙ ap (λ (e : ForceEntry). refusal_of (entry_counts e)) c.entry_at.ensures) (let e = entry_at l (o.i * entry_words) in kind-early (kind_of e.kind) e.links e.iterations) c.if-number-ne0.false,
     )
 
 returns-2 : tie.Need-returns invariant-loop decreases-loop
 returns-2 c =
-    let o = c.before.before.loop-i in
-    let l = c.before.before.before.args.words.now in
+    let o = c.loop-i in
+    let l = c.args.words.now in
     c.none.ensures
     ∙ ap (λ (c : Check). refusal_of c) (sym (o.invariant.1 ∙ ap (check_from (λ _ e. entry_counts e) o.i) (entries_none l o.i (omega arith))))
 

@@ -31,49 +31,42 @@ abbrev decreases-loop : tie.decreases-loop-i
 decreases-loop words links n at₀ i₀ at i = force_slots - i
 
 -- the slot's part lies within the list
-room : (c : tie.After-links_needed invariant-loop decreases-loop) → c.before.before.before.loop-i.at + c.links_needed.result * 2 ≤ length c.before.before.before.before.before.args.links.now
+room : (c : tie.After-links_needed invariant-loop decreases-loop) → c.loop-i.at + c.links_needed.result * 2 ≤ length c.args.links.now
 room c =
-    let o = c.before.before.before.loop-i in
-    let s = c.before.before.before.before.before in
-    walk-room need (check s.args.n) s.args.words.now s.args.links.now o.at o.i o.invariant (omega arith)
-    c.before.entry_at.result c.before.entry_at.ensures (c.links_needed.result * 2) (ap (λ (k : ℕ). k * 2) c.links_needed.ensures) (s.requires ∙ sum_twice (entries_of s.args.words.now))
+    let o = c.loop-i in
+    walk-room need (check c.args.n) c.args.words.now c.args.links.now o.at o.i o.invariant (omega arith)
+    c.entry_at.result c.entry_at.ensures (c.links_needed.result * 2) (ap (λ (k : ℕ). k * 2) c.links_needed.ensures) (c.requires ∙ sum_twice (entries_of c.args.words.now))
 
 -- what was answered for the slot's part
-answered : (c : tie.After-ends_check-r invariant-loop decreases-loop) → let m = c.before.before in
-    let a = m.before.before.before.before.before.args in
-    c.ends_check-r.result ≡ refusal_of (own_ends a.n (take (m.links_needed.result * 2) (drop m.before.before.before.loop-i.at a.links.now)))
+answered : (c : tie.After-ends_check-r invariant-loop decreases-loop) → let a = c.args in
+    c.ends_check-r.result ≡ refusal_of (own_ends a.n (take (c.links_needed.result * 2) (drop c.loop-i.at a.links.now)))
 answered c =
-    let m = c.before.before in
-    let at = m.before.before.before.loop-i.at in
-    let a = m.before.before.before.before.before.args in
-    c.ends_check-r.ensures ∙ ap (λ (k : ℕ). refusal_of (own_ends a.n (take k (drop at a.links.now)))) (part-size at (m.links_needed.result * 2))
+    let at = c.loop-i.at in
+    let a = c.args in
+    c.ends_check-r.ensures ∙ ap (λ (k : ℕ). refusal_of (own_ends a.n (take k (drop at a.links.now)))) (part-size at (c.links_needed.result * 2))
 
 returns : tie.Need-returns-then-number-ne0 invariant-loop decreases-loop
 returns c =
     let r = c.before in
-    let m = r.before.before in
-    let e = m.before in
-    let o = e.before.before.loop-i in
-    let a = e.before.before.before.before.args in
+    let o = r.loop-i in
+    let a = r.args in
     walk-stop need (check a.n) a.words.now a.links.now o.at o.i o.invariant (omega arith)
-    e.entry_at.result e.entry_at.ensures (m.links_needed.result * 2) (ap (λ (k : ℕ). k * 2) m.links_needed.ensures)
+    r.entry_at.result r.entry_at.ensures (r.links_needed.result * 2) (ap (λ (k : ℕ). k * 2) r.links_needed.ensures)
     r.ends_check-r.result (answered r) c.if-number-ne0.true
 
 loop-again : tie.Need-loop-i-preserved invariant-loop decreases-loop
 loop-again c =
     let r = c.before in
-    let m = r.before.before in
-    let e = m.before in
-    let o = e.before.before.loop-i in
-    let a = e.before.before.before.before.args in
+    let o = r.loop-i in
+    let a = r.args in
     walk-on need (check a.n) a.words.now a.links.now o.at o.i o.invariant (omega arith)
-    e.entry_at.result e.entry_at.ensures (m.links_needed.result * 2) (ap (λ (k : ℕ). k * 2) m.links_needed.ensures)
-    r.ends_check-r.result (answered r) (of_all (ends_range a.n) 3 three (ends_of (take (m.links_needed.result * 2) (drop o.at a.links.now)))) c.if-number-ne0.false
+    r.entry_at.result r.entry_at.ensures (r.links_needed.result * 2) (ap (λ (k : ℕ). k * 2) r.links_needed.ensures)
+    r.ends_check-r.result (answered r) (of_all (ends_range a.n) 3 three (ends_of (take (r.links_needed.result * 2) (drop o.at a.links.now)))) c.if-number-ne0.false
 
 returns-2 : tie.Need-returns invariant-loop decreases-loop
 returns-2 c =
-    let o = c.before.before.loop-i in
-    let a = c.before.before.before.before.args in
+    let o = c.loop-i in
+    let a = c.args in
     c.none.ensures ∙ walk_end need (check a.n) a.words.now a.links.now o.at o.i o.invariant (omega arith)
 
 pub all_ends_spec : {M : Type 1} → statement M
@@ -82,7 +75,7 @@ all_ends_spec =
     (tie.spec
     invariant-loop
     decreases-loop
-    (λ c. let a = c.before.args in walk_start need (check a.n) a.words.now a.links.now)
+    (λ c. let a = c.args in walk_start need (check a.n) a.words.now a.links.now)
     (λ c κs. search rules)
     (λ c κs. search rules)
     (λ c. omega (arith, room c))

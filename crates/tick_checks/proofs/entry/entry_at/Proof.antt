@@ -8,19 +8,18 @@ use Rattle.tick_checks.proofs.entry.entry_at.Tie as tie
 returns : tie.Need-returns
 unfolding entry_at
 returns c =
-    let w = c.before.before.before.before.before.before in
     rw (
       add-zero,
-      w.before.before.before.word-kind.ensures,
-      w.before.before.word-iterations.ensures,
-      w.before.word-links.ensures,
-      w.word-strengths.ensures,
-      c.before.before.before.before.float_of-a.ensures,
-      c.before.before.before.before.before.word.ensures,
-      c.before.before.float_of-b.ensures,
-      c.before.before.before.word-2.ensures,
+      c.word-kind.ensures,
+      c.word-iterations.ensures,
+      c.word-links.ensures,
+      c.word-strengths.ensures,
+      c.float_of-a.ensures,
+      c.word.ensures,
+      c.float_of-b.ensures,
+      c.word-2.ensures,
       c.float_of-c.ensures,
-      c.before.word-3.ensures,
+      c.word-3.ensures,
     )
 
 pub entry_at_spec : {M : Type 1} → statement M

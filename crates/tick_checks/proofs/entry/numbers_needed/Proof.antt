@@ -7,22 +7,22 @@ use Rattle.tick_checks.proofs.entry.numbers_needed.Statement.{statement}
 use Rattle.tick_checks.proofs.entry.numbers_needed.Tie as tie
 
 add-result : tie.Need-overflow_add-result
-add-result c = record { fits = rw c.before.in_default-1.keys1 at c.before.before.requires }
+add-result c = record { fits = rw c.in-3.is at c.requires }
 
 returns : tie.Need-returns-in-3
-returns c = rw c.before.in_default-1.keys1
+returns c = rw c.in-3.is
 
 -- ManyBody or Collide
 returns-2 : tie.Need-returns-in-1
 returns-2 c =
-    let a = c.before.before.before.args in
-    of_kind_lem (λ k. a.n ≡ kind_numbers k a.n a.e) a.e.kind (λ z. absurd (omega (arith, c.before.if-kind-lt1.false))) (λ _. refl) (λ _. refl)
+    let a = c.args in
+    of_kind_lem (λ k. a.n ≡ kind_numbers k a.n a.e) a.e.kind (λ z. absurd (omega (arith, c.if-kind-lt1.false))) (λ _. refl) (λ _. refl)
     (λ z. absurd (omega (arith, c.if-kind-lt3.true))) (λ z. absurd (omega (arith, c.if-kind-lt3.true))) (λ z. absurd (omega (arith, c.if-kind-lt3.true)))
 
 -- empty
 returns-3 : tie.Need-returns-in_default
 returns-3 c =
-    let a = c.before.before.args in
+    let a = c.args in
     let none = c.if-kind-lt1.true in
     of_kind_lem (λ k. 0 ≡ kind_numbers k a.n a.e) a.e.kind (λ _. refl) (λ z. absurd (omega (arith, none))) (λ z. absurd (omega (arith, none)))
     (λ z. absurd (omega (arith, none))) (λ _. refl) (λ _. refl)
@@ -30,10 +30,10 @@ returns-3 c =
 -- Center, or no known kind
 returns-4 : tie.Need-returns-in_default-2
 returns-4 c =
-    let a = c.before.before.before.args in
+    let a = c.args in
     let past = c.if-kind-lt3.false in
     of_kind_lem (λ k. 0 ≡ kind_numbers k a.n a.e) a.e.kind (λ _. refl) (λ z. absurd (omega (arith, past))) (λ z. absurd (omega (arith, past)))
-    (λ z. absurd (c.before.before.in_default-1.rest.1 z)) (λ _. refl) (λ _. refl)
+    (λ z. absurd (c.before.before.in_default.in_default-own.rest.1 z)) (λ _. refl) (λ _. refl)
 
 pub numbers_needed_spec : {M : Type 1} → statement M
 numbers_needed_spec = tie.close (tie.spec add-result returns returns-2 returns-3 returns-4)

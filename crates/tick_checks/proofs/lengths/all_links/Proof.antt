@@ -16,27 +16,26 @@ abbrev decreases-loop : tie.decreases-loop-i
 decreases-loop words total₀ i₀ total i = force_slots - i
 
 -- what was answered is what the entry needs
-is : (c : tie.After-links_needed-total invariant-loop decreases-loop) → let a = c.before.before.before.before.args in
-    c.links_needed-total.result ≡ links_needed (entry_at a.words.now (c.before.before.before.loop-i.i * entry_words))
-is c = let a = c.before.before.before.before.args in c.links_needed-total.ensures ∙ ap links_needed c.before.entry_at.ensures
+is : (c : tie.After-links_needed-total invariant-loop decreases-loop) → let a = c.args in
+    c.links_needed-total.result ≡ links_needed (entry_at a.words.now (c.loop-i.i * entry_words))
+is c = let a = c.args in c.links_needed-total.ensures ∙ ap links_needed c.entry_at.ensures
 
 add_total : tie.Need-overflow_add-total invariant-loop decreases-loop
 add_total c =
-    let o = c.before.before.before.loop-i in
-    let s = c.before.before.before.before in
-    let a = s.args in
-    record { fits = subst⁻¹ (λ (m : ℕ). o.total + m < 2 ^ 64) (is c) (lt_of_le_of_lt (summed-fits links_needed a.words.now o.total o.i o.invariant (omega arith)) s.requires) }
+    let o = c.loop-i in
+    let a = c.args in
+    record { fits = subst⁻¹ (λ (m : ℕ). o.total + m < 2 ^ 64) (is c) (lt_of_le_of_lt (summed-fits links_needed a.words.now o.total o.i o.invariant (omega arith)) c.requires) }
 
 loop-again : tie.Need-loop-i-preserved invariant-loop decreases-loop
 loop-again c =
-    let o = c.before.before.before.loop-i in
-    let a = c.before.before.before.before.args in
+    let o = c.loop-i in
+    let a = c.args in
     subst⁻¹ (λ (m : ℕ). Summed links_needed a.words.now (o.total + m) (o.i + 1)) (is c) (summed-on links_needed a.words.now o.total o.i o.invariant (omega arith))
 
 returns : tie.Need-returns invariant-loop decreases-loop
 returns c =
-    let o = c.before.loop-i in
-    let a = c.before.before.args in
+    let o = c.loop-i in
+    let a = c.args in
     summed-end links_needed a.words.now o.total o.i o.invariant (omega arith)
 
 pub all_links_spec : {M : Type 1} → statement M

@@ -17,26 +17,24 @@ decreases-loop words i₀ i = force_slots - i
 
 returns : tie.Need-returns-then-not-strengths_right invariant-loop decreases-loop
 returns c =
-    let w = c.before in
-    let o = w.before.before.before.loop-i in
-    right_stop strengths_right w.before.before.before.before.args.words.now o.i (omega arith) w.strengths_right.result
-    (w.strengths_right.ensures ∙ ap strengths_right w.before.entry_at.ensures) c.if-not-strengths_right.true-raw
+    let o = c.loop-i in
+    right_stop strengths_right c.args.words.now o.i (omega arith) c.strengths_right.result
+    (c.strengths_right.ensures ∙ ap strengths_right c.entry_at.ensures) c.if-not-strengths_right.true-raw
     ∙ sym o.invariant.1
 
 loop-again : tie.Need-loop-i-preserved invariant-loop decreases-loop
 loop-again c =
-    let w = c.before in
-    let o = w.before.before.before.loop-i in (
+    let o = c.loop-i in (
       omega arith,
       o.invariant.1
-          ∙ right-on strengths_right w.before.before.before.before.args.words.now o.i (omega arith) w.strengths_right.result
-          (w.strengths_right.ensures ∙ ap strengths_right w.before.entry_at.ensures) c.if-not-strengths_right.false-raw,
+          ∙ right-on strengths_right c.args.words.now o.i (omega arith) c.strengths_right.result
+          (c.strengths_right.ensures ∙ ap strengths_right c.entry_at.ensures) c.if-not-strengths_right.false-raw,
     )
 
 returns-2 : tie.Need-returns invariant-loop decreases-loop
 returns-2 c =
-    let o = c.before.loop-i in
-    sym (o.invariant.1 ∙ ap (all strengths_right) (entries_none c.before.before.args.words.now o.i (omega arith)))
+    let o = c.loop-i in
+    sym (o.invariant.1 ∙ ap (all strengths_right) (entries_none c.args.words.now o.i (omega arith)))
 
 pub all_right_spec : {M : Type 1} → statement M
 all_right_spec =

@@ -21,66 +21,58 @@ decreases-loop words numbers n at₀ i₀ at i = force_slots - i
 -- a slot needs no more numbers than there are
 numbers-needed-requires : tie.Need-numbers_needed-requires invariant-loop decreases-loop
 numbers-needed-requires c κs =
-    let o = c.before.before.loop-i in
-    let s = c.before.before.before.before in
+    let o = c.loop-i in
     let e = c.entry_at-e.result in
-    let fits = walk-room (numbers_needed s.args.n) own_ranges s.args.words.now s.args.numbers.now o.at o.i o.invariant (omega arith)
-    e c.entry_at-e.ensures (numbers_needed s.args.n e) refl s.requires in
+    let fits = walk-room (numbers_needed c.args.n) own_ranges c.args.words.now c.args.numbers.now o.at o.i o.invariant (omega arith)
+    e c.entry_at-e.ensures (numbers_needed c.args.n e) refl c.requires in
     omega (arith, fits)
 
 -- the slot's part lies within the list
-room : (c : tie.After-numbers_needed invariant-loop decreases-loop) → c.before.before.before.loop-i.at + c.numbers_needed.result ≤ length c.before.before.before.before.before.args.numbers.now
+room : (c : tie.After-numbers_needed invariant-loop decreases-loop) → c.loop-i.at + c.numbers_needed.result ≤ length c.args.numbers.now
 room c =
-    let o = c.before.before.before.loop-i in
-    let s = c.before.before.before.before.before in
-    walk-room (numbers_needed s.args.n) own_ranges s.args.words.now s.args.numbers.now o.at o.i o.invariant (omega arith)
-    c.before.entry_at-e.result c.before.entry_at-e.ensures c.numbers_needed.result c.numbers_needed.ensures s.requires
+    let o = c.loop-i in
+    walk-room (numbers_needed c.args.n) own_ranges c.args.words.now c.args.numbers.now o.at o.i o.invariant (omega arith)
+    c.entry_at-e.result c.entry_at-e.ensures c.numbers_needed.result c.numbers_needed.ensures c.requires
 
 -- a link's strengths are among its numbers
 entry-ranges-requires : tie.Need-entry_ranges-r-requires invariant-loop decreases-loop
 entry-ranges-requires c κs k =
     let m = c.before in
-    let o = m.before.before.before.loop-i in
-    let a = m.before.before.before.before.before.args in
+    let o = m.loop-i in
+    let a = m.args in
     omega (arith, part-long a.numbers.now o.at m.numbers_needed.result (room m), rw k at m.numbers_needed.ensures)
 
 -- what was answered for the slot's part
-answered : (c : tie.After-entry_ranges-r invariant-loop decreases-loop) → let m = c.before.before in
-    let a = m.before.before.before.before.before.args in
-    c.entry_ranges-r.result ≡ refusal_of (own_ranges m.before.entry_at-e.result (take m.numbers_needed.result (drop m.before.before.before.loop-i.at a.numbers.now)))
+answered : (c : tie.After-entry_ranges-r invariant-loop decreases-loop) → let a = c.args in
+    c.entry_ranges-r.result ≡ refusal_of (own_ranges c.entry_at-e.result (take c.numbers_needed.result (drop c.loop-i.at a.numbers.now)))
 answered c =
-    let m = c.before.before in
-    let at = m.before.before.before.loop-i.at in
-    let a = m.before.before.before.before.before.args in
+    let at = c.loop-i.at in
+    let a = c.args in
     c.entry_ranges-r.ensures
-    ∙ ap (λ (k : ℕ). refusal_of (own_ranges m.before.entry_at-e.result (take k (drop at a.numbers.now)))) (part-size at m.numbers_needed.result)
+    ∙ ap (λ (k : ℕ). refusal_of (own_ranges c.entry_at-e.result (take k (drop at a.numbers.now)))) (part-size at c.numbers_needed.result)
 
 returns : tie.Need-returns-then-number-ne0 invariant-loop decreases-loop
 returns c =
     let r = c.before in
-    let m = r.before.before in
-    let e = m.before in
-    let o = e.before.before.loop-i in
-    let a = e.before.before.before.before.args in
+    let o = r.loop-i in
+    let a = r.args in
     walk-stop (numbers_needed a.n) own_ranges a.words.now a.numbers.now o.at o.i o.invariant (omega arith)
-    e.entry_at-e.result e.entry_at-e.ensures m.numbers_needed.result m.numbers_needed.ensures
+    r.entry_at-e.result r.entry_at-e.ensures r.numbers_needed.result r.numbers_needed.ensures
     r.entry_ranges-r.result (answered r) c.if-number-ne0.true
 
 loop-again : tie.Need-loop-i-preserved invariant-loop decreases-loop
 loop-again c =
     let r = c.before in
-    let m = r.before.before in
-    let e = m.before in
-    let o = e.before.before.loop-i in
-    let a = e.before.before.before.before.args in
+    let o = r.loop-i in
+    let a = r.args in
     walk-on (numbers_needed a.n) own_ranges a.words.now a.numbers.now o.at o.i o.invariant (omega arith)
-    e.entry_at-e.result e.entry_at-e.ensures m.numbers_needed.result m.numbers_needed.ensures
-    r.entry_ranges-r.result (answered r) (own-early e.entry_at-e.result (take m.numbers_needed.result (drop o.at a.numbers.now))) c.if-number-ne0.false
+    r.entry_at-e.result r.entry_at-e.ensures r.numbers_needed.result r.numbers_needed.ensures
+    r.entry_ranges-r.result (answered r) (own-early r.entry_at-e.result (take r.numbers_needed.result (drop o.at a.numbers.now))) c.if-number-ne0.false
 
 returns-2 : tie.Need-returns invariant-loop decreases-loop
 returns-2 c =
-    let o = c.before.before.loop-i in
-    let a = c.before.before.before.before.args in
+    let o = c.loop-i in
+    let a = c.args in
     c.none.ensures ∙ walk_end (numbers_needed a.n) own_ranges a.words.now a.numbers.now o.at o.i o.invariant (omega arith)
 
 pub all_ranges_spec : {M : Type 1} → statement M
@@ -89,7 +81,7 @@ all_ranges_spec =
     (tie.spec
     invariant-loop
     decreases-loop
-    (λ c. let a = c.before.args in walk_start (numbers_needed a.n) own_ranges a.words.now a.numbers.now)
+    (λ c. let a = c.args in walk_start (numbers_needed a.n) own_ranges a.words.now a.numbers.now)
     (λ c κs. search rules)
     numbers-needed-requires
     (λ c. omega (arith, room c))

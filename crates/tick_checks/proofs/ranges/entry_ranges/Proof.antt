@@ -15,35 +15,33 @@ use Rattle.tick_checks.proofs.ranges.entry_ranges.Tie as tie
 
 returns : tie.Need-returns-in-0
 unfolding kind_ranges
-returns c = rw c.before.in_default.keys1 c.none.ensures
+returns c = rw c.in-0.is c.none.ensures
 
 returns-2 : tie.Need-returns-in-1
 unfolding kind_ranges
-returns-2 c = rw c.before.in_default.keys2 c.strengths_check.ensures
+returns-2 c = rw c.in-1.is c.strengths_check.ensures
 
 returns-3 : tie.Need-returns-in-2
 unfolding kind_ranges
 returns-3 c =
-    let s = c.before in
-    let d = s.before in
-    let a = d.before.before.before.args in
-    rw d.before.in_default.keys3
-    (answer_then (distances_check a.part.now) (settings_check (a.e.a ∷ [])) d.distances_check.result s.setting_check.result c.first.result
-    (of_all distance_range 5 five a.part.now) d.distances_check.ensures s.setting_check.ensures c.first.ensures)
+    let a = c.args in
+    rw c.in-2.is
+    (answer_then (distances_check a.part.now) (settings_check (a.e.a ∷ [])) c.distances_check.result c.setting_check.result c.first.result
+    (of_all distance_range 5 five a.part.now) c.distances_check.ensures c.setting_check.ensures c.first.ensures)
 
 returns-4 : tie.Need-returns-in-3
 unfolding kind_ranges
-returns-4 c = rw c.before.in_default.keys4 c.link_ranges.ensures
+returns-4 c = rw c.in-3.is c.link_ranges.ensures
 
 returns-5 : tie.Need-returns-in-4
 unfolding kind_ranges
-returns-5 c = rw c.before.in_default.keys5 c.settings_check.ensures
+returns-5 c = rw c.in-4.is c.settings_check.ensures
 
 returns-6 : tie.Need-returns-in_default
 unfolding kind_ranges
 returns-6 c =
-    let a = c.before.before.before.args in
-    let r = c.before.in_default.rest in
+    let a = c.args in
+    let r = c.in_default.in_default-own.rest in
     c.at.ensures
     ∙ of_kind_lem (λ k. refusal 5 0 ≡ refusal_of (kind_ranges k a.e a.part.now)) a.e.kind (λ z. absurd (r.0.0.0.0.1 z)) (λ z. absurd (r.0.0.0.1 z))
     (λ z. absurd (r.0.0.1 z)) (λ z. absurd (r.0.1 z)) (λ z. absurd (r.1 z)) (λ _. refl)
@@ -57,7 +55,7 @@ entry_ranges_spec =
     (λ c κs. search rules)
     (λ c κs. search rules)
     (λ c κs. search rules)
-    (λ c κs. c.before.before.requires c.in_default.keys4)
+    (λ c κs. c.requires c.in-3.is)
     (λ c κs. search rules)
     (λ c κs. search rules)
     returns

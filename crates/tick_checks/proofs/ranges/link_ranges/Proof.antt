@@ -18,21 +18,19 @@ use Rattle.tick_checks.proofs.ranges.link_ranges.Tie as tie
 
 returns : tie.Need-returns
 returns c =
-    let d = c.before in
-    let s = d.before.before in
-    let a = s.before.before.before.args in
+    let a = c.args in
     let strengths = take a.strengths a.part.now in
     let distances = drop a.strengths a.part.now in
-    answer_then (strengths_check strengths) (distances_check distances) s.strengths_check-first_part.result d.distances_check-rest.result c.first.result
-    (of_all within 5 five strengths) s.strengths_check-first_part.ensures
-    (d.distances_check-rest.ensures ∙ ap (λ (l : List Float). refusal_of (distances_check l)) (take_all (length a.part.now - a.strengths) distances (simp length-drop (omega arith))))
+    answer_then (strengths_check strengths) (distances_check distances) c.strengths_check-first_part.result c.distances_check-rest.result c.first.result
+    (of_all within 5 five strengths) c.strengths_check-first_part.ensures
+    (c.distances_check-rest.ensures ∙ ap (λ (l : List Float). refusal_of (distances_check l)) (take_all (length a.part.now - a.strengths) distances (simp length-drop (omega arith))))
     c.first.ensures
 
 pub link_ranges_spec : {M : Type 1} → statement M
 link_ranges_spec =
     tie.close
     (tie.spec
-    (λ c. let s = c.before.before in sym (length-take-le s.args.strengths s.args.part.now s.requires))
+    (λ c. sym (length-take-le c.args.strengths c.args.part.now c.requires))
     (λ c κs. search rules)
     (λ c. search rules)
     (λ c. search rules)

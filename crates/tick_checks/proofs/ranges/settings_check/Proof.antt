@@ -7,12 +7,11 @@ use Rattle.tick_checks.proofs.ranges.settings_check.Tie as tie
 
 returns : tie.Need-returns
 returns c =
-    let two = c.before.before in
-    let a = two.before.before.before.args in
-    answer_settings (a.a ∷ a.b ∷ []) (a.c ∷ []) two.first.result c.before.setting_check-3.result c.first-2.result
-    (answer_settings (a.a ∷ []) (a.b ∷ []) two.before.before.setting_check.result two.before.setting_check-2.result two.first.result
-    two.before.before.setting_check.ensures two.before.setting_check-2.ensures two.first.ensures)
-    c.before.setting_check-3.ensures c.first-2.ensures
+    let a = c.args in
+    answer_settings (a.a ∷ a.b ∷ []) (a.c ∷ []) c.first.result c.setting_check-3.result c.first-2.result
+    (answer_settings (a.a ∷ []) (a.b ∷ []) c.setting_check.result c.setting_check-2.result c.first.result
+    c.setting_check.ensures c.setting_check-2.ensures c.first.ensures)
+    c.setting_check-3.ensures c.first-2.ensures
 
 pub settings_check_spec : {M : Type 1} → statement M
 settings_check_spec =

@@ -15,12 +15,12 @@ abbrev passed : tie.After-write_columns → tie.Else-number-ne0
 passed c = c.before.before
 
 returns : tie.Need-returns-then-number-ne0
-returns c = settled_refused _ _ _ _ _ _ _ _ c.before.if-number-ne0.true c.refused.ensures (cleared c.before.before).clear.ensures
+returns c = settled_refused _ _ _ _ _ _ _ _ c.if-number-ne0.true c.refused.ensures (cleared c.before.before).clear.ensures
 
 returns-2 : tie.Need-returns
 returns-2 c =
     let w = written c.before in
-    settled_done _ _ _ _ _ _ _ _ _ _ (passed w).if-number-ne0.left c.counted.ensures w.write_columns.ensures c.before.bits_of.ensures (cleared (passed w).before).clear.ensures
+    settled_done _ _ _ _ _ _ _ _ _ _ (passed w).if-number-ne0.left c.counted.ensures w.write_columns.ensures c.bits_of.ensures (cleared (passed w).before).clear.ensures
 
 pub settle_tick_spec : {M : Type 1} → statement M
 settle_tick_spec =

@@ -8,7 +8,7 @@ use Rattle.tick_stage.proofs.stage.center_stage.Tie as tie
 
 -- the points of the code, each from a later one
 abbrev centered : tie.After-done → tie.After-center_all
-centered c = c.before.before.before.before
+centered c = c.before.before.before
 
 abbrev entry : tie.After-center_all → tie.Start
 entry c = c.before.before.before.before
@@ -19,7 +19,7 @@ returns c t flags slots ds d l =
     let s = entry m in
     let a = s.args in
     centered-stages a.places.now m.center_all.new.places a.speeds.now ds flags a.x a.y a.strength t slots a.p _ c.ranged.result
-    l (s.requires.2 ∙ l) m.center_all.auto.places d (omega arith) m.center_all.ensures (rw c.before.done.ensures at c.ranged.ensures)
+    l (s.requires.2 ∙ l) m.center_all.auto.places d (omega arith) m.center_all.ensures (rw c.done.ensures at c.ranged.ensures)
 
 pub center_stage_spec : {M : Type 1} → statement M
 center_stage_spec =

@@ -9,7 +9,7 @@ use Rattle.tick_stage.proofs.stage.collide_stage.Tie as tie
 
 -- the points of the code, each from a later one
 abbrev ran : tie.After-ranged → tie.After-collide-ran
-ran c = c.before.before.before.before.before.before.before.before.before.before
+ran c = c.before.before.before.before.before.before.before.before.before
 
 abbrev entry : tie.After-collide-arg-4-1 → tie.Start
 entry c = c.before.before.before.before.before.before.before.before.before.before.before

@@ -14,16 +14,16 @@ abbrev after-index3 : tie.After-slice_known-2-1 → tie.After-index
 after-index3 c = c.before.before.before.before
 
 abbrev after-index2 : tie.After-index → tie.After-index-s
-after-index2 c = c.before.before.before.before
+after-index2 c = c.before.before
 
 abbrev entry : tie.After-index-s → tie.Start
 entry c = c.before.before.before.before.before.before.before
 
 -- what is known of the slot's lists, by the numbers that the code has
-fits : (c : tie.After-index-s) → LinkFits (length (entry c).args.places.now / 2) c.index-s.result c.before.index-m.result (entry c).args.numbers.now (entry c).args.links.now
+fits : (c : tie.After-index-s) → LinkFits (length (entry c).args.places.now / 2) c.index-s.result c.index-m.result (entry c).args.numbers.now (entry c).args.links.now
 fits c =
     let s = entry c in
-    rw (entry, c.index-s.ensures, c.before.index-m.ensures) (link_fits (length s.args.places.now / 2) s.args.e s.args.numbers.now s.args.links.now s.requires.0 s.requires.1)
+    rw (entry, c.index-s.ensures, c.index-m.ensures) (link_fits (length s.args.places.now / 2) s.args.e s.args.numbers.now s.args.links.now s.requires.0 s.requires.1)
 
 -- as many distances as links
 distances : (s m : ℕ) → s + m - s ≡ m
@@ -36,15 +36,15 @@ link-stage-requires c κs =
     let h = fits i in (
       s.requires.2,
       ends-lent h,
-      lists-lent h _ (distances i.index-s.result i.before.index-m.result),
+      lists-lent h _ (distances i.index-s.result i.index-m.result),
     )
 
 returns : tie.Need-returns
 returns c t flags slots l =
     let i = after-index2 (after-index3 c) in
     let s = entry i in
-    rw (entry, after-index2, after-index3, link_taken (fits i) s.args.e s.requires.0 i.index-s.ensures i.before.index-m.ensures _ _ (length flags) (after-index3 c).index.ensures (distances i.index-s.result i.before.index-m.result))
-    (c.before.before.link_stage.ensures t flags slots l)
+    rw (entry, after-index2, after-index3, link_taken (fits i) s.args.e s.requires.0 i.index-s.ensures i.index-m.ensures _ _ (length flags) (after-index3 c).index.ensures (distances i.index-s.result i.index-m.result))
+    (c.link_stage.ensures t flags slots l)
 
 pub link_force_spec : {M : Type 1} → statement M
 link_force_spec =

@@ -14,7 +14,7 @@ use Rattle.tick_stage.proofs.stage.link_stage.Tie as tie
 
 -- the points of the code, each from a later one
 abbrev ran : tie.After-ranged → tie.After-link-ran
-ran c = c.before.before.before.before
+ran c = c.before.before.before
 
 abbrev entry : tie.After-link-arg-1 → tie.Start
 entry c = c.before.before.before.before.before.before.before

@@ -10,7 +10,7 @@ use Rattle.tick_stage.proofs.stage.many_body_stage.Tie as tie
 
 -- the points of the code, each from a later one
 abbrev ran : tie.After-ranged → tie.After-many_body-ran
-ran c = c.before.before.before.before.before.before.before.before.before.before
+ran c = c.before.before.before.before.before.before.before.before.before
 
 abbrev entry : tie.After-many_body-arg-4-1 → tie.Start
 entry c = c.before.before.before.before.before.before.before.before.before.before.before

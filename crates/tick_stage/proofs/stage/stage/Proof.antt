@@ -21,16 +21,16 @@ abbrev entry : tie.Else-kind-eq3 → tie.Start
 entry c = c.before.before.before.before.before.before.before.before.before.before
 
 abbrev links : tie.After-link_force → tie.Then-kind-eq3
-links c = c.before.before.before
+links c = c.before.before
 
 abbrev centers : tie.After-center_stage → tie.Then-kind-eq4
-centers c = c.before.before.before
+centers c = c.before.before
 
 abbrev others : tie.After-tree-force-arg5 → tie.Else-kind-eq4
 others c = c.before.before.before.before.before
 
 link-force-requires : tie.Need-link_force-requires
-link-force-requires c κs = let s = first c.before.before in rw (half s) (c.before.before.if-kind-eq3.true, s.requires.2, s.requires.0)
+link-force-requires c κs = let s = first c.before.before in rw (half s) (c.if-kind-eq3.true, s.requires.2, s.requires.0)
 
 returns : tie.Need-returns-then-kind-eq3
 returns c =
@@ -49,7 +49,7 @@ tree-force-requires : tie.Need-tree_force-requires
 tree-force-requires c κs =
     let k = others c in
     let p = (entry k.before).requires in
-    ((p.0, p.1, p.3), (p.2.counts, p.2.numbers, k.before.if-kind-eq3.left, k.if-kind-eq4.left))
+    ((p.0, p.1, p.3), (p.2.counts, p.2.numbers, k.if-kind-eq3.left, k.if-kind-eq4.left))
 
 returns-3 : tie.Need-returns
 returns-3 c =

@@ -34,10 +34,10 @@ abbrev first : tie.Then-kind-eq1 → tie.Start
 first c = c.before.before.before.before.before.before.before.before
 
 abbrev pulls : tie.After-many_body_stage-arg-then-kind-eq1-3-1 → tie.Then-kind-eq1
-pulls c = c.before.before.before.before.before
+pulls c = c.before.before.before.before
 
 abbrev collides : tie.After-collide_stage-arg-then-kind-eq2-3-1 → tie.Then-kind-eq2
-collides c = c.before.before.before.before.before.before
+collides c = c.before.before.before.before.before
 
 many-body-stage-requires : tie.Need-many_body_stage-requires
 many-body-stage-requires c κs = let s = first (pulls c) in rw (strengths s (pulls c).if-kind-eq1.true) s.requires.0
@@ -56,7 +56,7 @@ collide-stage-requires c κs =
     let a = s.args in (
       subst⁻¹ (λ (n : ℕ). ColumnsFit a.places.now a.speeds.now a.draws.now n a.p.used) (radii s k) s.requires.0.0,
       subst⁻¹ (λ (n : ℕ). Chains n a.next.now a.tail.now) (radii s k) s.requires.0.1,
-      omega (arith, few_iterations a.e s.requires.1.0 k, c.before.before.before.before.index.ensures),
+      omega (arith, few_iterations a.e s.requires.1.0 k, c.index.ensures),
       s.requires.0.2,
     )
 
@@ -66,7 +66,7 @@ returns-2 c flags links l =
     let k = collides m.before in
     let s = entry k.before in
     let a = s.args in
-    let i = m.before.before.before.before.before.index in
+    let i = m.index in
     subst⁻¹
     (λ (f : Force). StageBy (λ m. force_stage a.t (slots_of a.work.now) m f) (columns a.places.now a.speeds.now flags) (columns a.places.now m.collide_stage.new.speeds flags) a.draws.now a.p
     m.collide_stage.result)
@@ -78,20 +78,20 @@ returns-3 c flags links l =
     let s = entry c.before.before in
     let a = s.args in
     idle-stages a.places.now a.speeds.now a.draws.now flags _ a.p _ c.done.result _ s.requires.0.0 (omega arith) c.done.ensures
-    (none_of a.n a.e a.numbers.now links c.before.before.if-kind-eq1.false c.before.if-kind-eq2.false s.requires.1.2 s.requires.1.3 a.t (slots_of a.work.now) _)
+    (none_of a.n a.e a.numbers.now links c.if-kind-eq1.false c.if-kind-eq2.false s.requires.1.2 s.requires.1.3 a.t (slots_of a.work.now) _)
 
 pub tree_force_spec : {M : Type 1} → statement M
 tree_force_spec =
     tie.close
     (tie.spec
-    (λ c. sym (strengths (first c.before) c.before.if-kind-eq1.true))
+    (λ c. sym (strengths (first c.before) c.if-kind-eq1.true))
     many-body-stage-requires
     (λ c. search rules)
     (λ c. search rules)
     (λ c. search rules)
     (λ c. search rules)
     returns
-    (λ c. sym (radii (entry c.before.before) c.before.if-kind-eq2.true))
+    (λ c. sym (radii (entry c.before.before) c.if-kind-eq2.true))
     (λ c κs. search rules)
     collide-stage-requires
     (λ c. search rules)

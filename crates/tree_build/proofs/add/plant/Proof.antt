@@ -6,10 +6,10 @@ use Rattle.tree_build.proofs.add.plant.Statement.{statement}
 use Rattle.tree_build.proofs.add.plant.Tie as tie
 
 returns : tie.Need-returns-then-slots-eq0
-returns c = fits_full _ _ _ (omega arith) (omega (arith, c.before.slots.ensures, c.if-slots-eq0.true))
+returns c = fits_full _ _ _ (omega arith) (omega (arith, c.slots.ensures, c.if-slots-eq0.true))
 
 returns-2 : tie.Need-returns
-returns-2 c = ((fits-fine _ _ _).1 (omega arith, omega arith), (c.before.before.put_leaf.ensures, search rules))
+returns-2 c = ((fits-fine _ _ _).1 (omega arith, omega arith), (c.put_leaf.ensures, search rules))
 
 pub plant_spec : {M : Type 1} → statement M
 plant_spec = tie.close (tie.spec (λ c κs. search rules) (λ c. search rules) returns (λ c κs. search rules) (λ c. search rules) returns-2)

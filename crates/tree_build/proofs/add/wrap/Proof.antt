@@ -29,55 +29,44 @@ abbrev start : tie.At-loop-left invariant-loop decreases-loop → tie.Start inva
 start c = c.before.before.before.before.before
 
 -- what is left to wrap
-left-wraps : (c : tie.At-loop-left invariant-loop decreases-loop) → let s = start c in Wraps s.args.at.now s.requires.0 c.loop-left.m c.loop-left.wrapped s.args.covered.extent s.args.p c.loop-left.left
-left-wraps c = let s = start c in c.loop-left.invariant.1 s.requires.0 s.args.covered.extent s.requires.1
+left-wraps : (c : tie.At-loop-left invariant-loop decreases-loop) → Wraps c.args.at.now c.requires.0 c.loop-left.m c.loop-left.wrapped c.args.covered.extent c.args.p c.loop-left.left
+left-wraps c = c.loop-left.invariant.1 c.requires.0 c.args.covered.extent c.requires.1
 
 -- a doubling towards the particle
 doubled : (c : tie.After-double_once-doubled invariant-loop decreases-loop)
-    → let d = c.before.before in let s = start d in DoubledTo d.loop-left.wrapped.extent (floor (x_at s.args.at.now s.args.p)) (floor (y_at s.args.at.now s.args.p)) c.double_once-doubled.result
+    → DoubledTo c.loop-left.wrapped.extent (floor (x_at c.args.at.now c.args.p)) (floor (y_at c.args.at.now c.args.p)) c.double_once-doubled.result
 doubled c =
-    let d = c.before.before in
-    subst₂ (λ (x y : Float). DoubledTo d.loop-left.wrapped.extent (floor x) (floor y) c.double_once-doubled.result) d.before.before.x_at-x.ensures d.before.y_at-y.ensures c.double_once-doubled.ensures
+    subst₂ (λ (x y : Float). DoubledTo c.loop-left.wrapped.extent (floor x) (floor y) c.double_once-doubled.result) c.x_at-x.ensures c.y_at-y.ensures c.double_once-doubled.ensures
 
 double-once-requires : tie.Need-double_once-doubled-requires invariant-loop decreases-loop
 double-once-requires c κs =
-    let d = c.before in
-    let s = start d in
-    subst₂ (λ (x y : Float). Near d.loop-left.wrapped.extent x y × (inside (square_of d.loop-left.wrapped.extent) (floor x) (floor y) ≡ false)) (sym d.before.before.x_at-x.ensures) (sym d.before.y_at-y.ensures)
-    (wrap-asks _ _ _ _ _ _ _ (left-wraps d) c.loop-left-test.true)
+    subst₂ (λ (x y : Float). Near c.loop-left.wrapped.extent x y × (inside (square_of c.loop-left.wrapped.extent) (floor x) (floor y) ≡ false)) (sym c.x_at-x.ensures) (sym c.y_at-y.ensures)
+    (wrap-asks _ _ _ _ _ _ _ (left-wraps c.before.before) c.loop-left-test.true)
 
 only-requires : tie.Need-only-children-requires invariant-loop decreases-loop
 only-requires c κs =
-    let b = c.before in
-    let d = b.before.before in
-    let s = start d in
-    let w = left-wraps d in (
-      wrap-quadrant _ _ _ _ _ _ _ w b.before.loop-left-test.true b.double_once-doubled.result (doubled b),
+    let w = left-wraps c.before.before.before.before in (
+      wrap-quadrant _ _ _ _ _ _ _ w c.loop-left-test.true c.double_once-doubled.result (doubled c.before),
       (let r = wrap-root _ _ _ _ _ _ _ w in omega (arith, w.small)),
     )
 
 put-internal-requires : tie.Need-put_internal-requires invariant-loop decreases-loop
 put-internal-requires c κs =
-    let i = c.before.before.before.before in
-    let w = left-wraps i.before in
-    omega (arith, w.room, i.loop-left-test.true)
+    let w = left-wraps c.before.before.before.before.before.before in
+    omega (arith, w.room, c.loop-left-test.true)
 
 loop-again : tie.Need-loop-left-preserved invariant-loop decreases-loop
 loop-again c =
-    let a = c.before.before.before.before in
-    let b = a.before.before.before.before in
-    let d = b.before.before in
-    let s = start d in
-    let e = a.put_internal.ensures ∙ ap (put_internal d.loop-left.m d.loop-left.wrapped.nodes) a.before.before.only-children.ensures in (
-      a.put_internal.auto.m ∙ d.loop-left.invariant.0,
-      λ is to w. wrap-turn _ _ _ _ _ _ _ (d.loop-left.invariant.1 is to w) b.before.loop-left-test.true b.double_once-doubled.result (doubled b) a.put_internal.new.m e,
+    let e = c.put_internal.ensures ∙ ap (put_internal c.loop-left.m c.loop-left.wrapped.nodes) c.only-children.ensures in (
+      c.put_internal.auto.m ∙ c.loop-left.invariant.0,
+      λ is to w. wrap-turn _ _ _ _ _ _ _ (c.loop-left.invariant.1 is to w) c.loop-left-test.true c.double_once-doubled.result (doubled c.before.before.before.before.before.before.before.before) c.put_internal.new.m e,
     )
 
 returns : tie.Need-returns invariant-loop decreases-loop
-returns c is w = let d = c.before in wrap-end _ _ _ _ _ _ _ (d.loop-left.invariant.1 is _ w) c.loop-left-test.false
+returns c is w = wrap-end _ _ _ _ _ _ _ (c.loop-left.invariant.1 is _ w) c.loop-left-test.false
 
 -- a slot's number fits
-nodes-fit : (c : tie.In-loop-left invariant-loop decreases-loop) → c.before.loop-left.wrapped.nodes + 1 < 4294967296
+nodes-fit : (c : tie.In-loop-left invariant-loop decreases-loop) → c.loop-left.wrapped.nodes + 1 < 4294967296
 nodes-fit c = let w = left-wraps c.before in omega (arith, w.small, c.loop-left-test.true)
 
 pub wrap_spec : {M : Type 1} → statement M
@@ -93,10 +82,10 @@ wrap_spec =
     (λ c. search rules)
     only-requires
     put-internal-requires
-    (λ c. let n = nodes-fit c.before.before.before.before.before.before.before.before in omega arith)
-    (λ c. let n = nodes-fit c.before.before.before.before.before.before.before.before in omega arith)
-    (λ c. let n = nodes-fit c.before.before.before.before.before.before.before.before in omega arith)
-    (λ c. let w = left-wraps c.before.before.before.before.before.before.before.before.before.before in omega (arith, w.levels))
+    (λ c. let n = nodes-fit c.before.before.before.before.before.before.before.before.before in omega arith)
+    (λ c. let n = nodes-fit c.before.before.before.before.before.before.before.before.before in omega arith)
+    (λ c. let n = nodes-fit c.before.before.before.before.before.before.before.before.before in omega arith)
+    (λ c. let w = left-wraps c.before.before.before.before.before.before.before.before.before.before.before in omega (arith, w.levels))
     (λ c. search rules)
     (λ c. search rules)
     loop-again

@@ -31,4 +31,4 @@ returns c is h =
 
 pub add_next_spec : {M : Type 1} → statement M
 add_next_spec =
-    tie.close (tie.spec (λ c κs. let p = c.before.before.before.before.requires in p.1) insert-requires (λ c. search rules) (λ c. search rules) (λ c. search rules) returns)
+    tie.close (tie.spec (λ c κs. let p = c.requires in p.1) insert-requires (λ c. search rules) (λ c. search rules) (λ c. search rules) returns)

@@ -27,76 +27,63 @@ start c = c.before.before.before.before.before
 
 loop-holds : tie.Need-loop-p-init invariant-loop decreases-loop
 loop-holds c =
-    let s = c.before.before.before.before in
-    (refl, refl, refl, omega arith, build_start s.args.at.now s.args.m.now s.args.next.now s.args.tail.now)
+    (refl, refl, refl, omega arith, build_start c.args.at.now c.args.m.now c.args.next.now c.args.tail.now)
 
 -- what adding the next particle asks
-puts : (t : tie.In-loop-p invariant-loop decreases-loop) → let d = t.before in Puts (start d).args.at.now (up_to d.loop-p.p) d.loop-p.m d.loop-p.next d.loop-p.tail d.loop-p.q d.loop-p.p
+puts : (t : tie.In-loop-p invariant-loop decreases-loop) → Puts t.args.at.now (up_to t.loop-p.p) t.loop-p.m t.loop-p.next t.loop-p.tail t.loop-p.q t.loop-p.p
 puts t =
-    let d = t.before in
-    let s = start d in
-    build-puts s.args.at.now (slots_of s.args.m.now) d.loop-p.m d.loop-p.next d.loop-p.tail d.loop-p.q d.loop-p.p d.loop-p.invariant.4 s.requires.ranged t.loop-p-test.true s.requires.few (d.loop-p.invariant.0 ∙ s.requires.links)
-    (d.loop-p.invariant.1 ∙ s.requires.tails)
+    build-puts t.args.at.now (slots_of t.args.m.now) t.loop-p.m t.loop-p.next t.loop-p.tail t.loop-p.q t.loop-p.p t.loop-p.invariant.4 t.requires.ranged t.loop-p-test.true t.requires.few (t.loop-p.invariant.0 ∙ t.requires.links)
+    (t.loop-p.invariant.1 ∙ t.requires.tails)
 
 add-next-requires : tie.Need-add_next-answer-requires invariant-loop decreases-loop
 add-next-requires c κs =
-    let t = c.before.before.before in
-    let d = t.before in
-    let s = start d in
-    (_, build-follows s.args.at.now (slots_of s.args.m.now) d.loop-p.m d.loop-p.next d.loop-p.tail d.loop-p.q d.loop-p.p d.loop-p.invariant.4 s.requires.ranged t.loop-p-test.true, puts t)
+    (_, build-follows c.args.at.now (slots_of c.args.m.now) c.loop-p.m c.loop-p.next c.loop-p.tail c.loop-p.q c.loop-p.p c.loop-p.invariant.4 c.requires.ranged c.loop-p-test.true, puts c.before.before.before)
 
 -- the test before the particle is added
 abbrev test : tie.After-add_next-answer invariant-loop decreases-loop → tie.In-loop-p invariant-loop decreases-loop
 test c = c.before.before.before.before
 
 -- as many slots as at the start
-same-slots : (c : tie.After-add_next-answer invariant-loop decreases-loop) → slots_of c.add_next-answer.new.m ≡ slots_of (start (test c).before).args.m.now
-same-slots c = ap (λ (k : ℕ). k / slot_words) (c.add_next-answer.auto.m ∙ (test c).before.loop-p.invariant.2)
+same-slots : (c : tie.After-add_next-answer invariant-loop decreases-loop) → slots_of c.add_next-answer.new.m ≡ slots_of c.args.m.now
+same-slots c = ap (λ (k : ℕ). k / slot_words) (c.add_next-answer.auto.m ∙ c.loop-p.invariant.2)
 
 -- what has become of the particle
 placed : (c : tie.After-add_next-answer invariant-loop decreases-loop) (r : Inserted) → c.add_next-answer.result ≡ r
-    → let d = (test c).before in let at = (start d).args.at.now in Placed at (up_to d.loop-p.p) c.add_next-answer.new.m c.add_next-answer.new.next c.add_next-answer.new.tail (extent_of (cover_first at (d.loop-p.p + 1))) d.loop-p.p r
+    → let d = c in let at = (start d).args.at.now in Placed at (up_to d.loop-p.p) c.add_next-answer.new.m c.add_next-answer.new.next c.add_next-answer.new.tail (extent_of (cover_first at (d.loop-p.p + 1))) d.loop-p.p r
 placed c r e =
-    let d = (test c).before in
+    let d = c in
     let at = (start d).args.at.now in
-    subst (λ (r : Inserted). Placed at (up_to d.loop-p.p) c.add_next-answer.new.m c.add_next-answer.new.next c.add_next-answer.new.tail (extent_of (cover_first at (d.loop-p.p + 1))) d.loop-p.p r) e (c.add_next-answer.ensures _ (puts (test c)))
+    subst (λ (r : Inserted). Placed at (up_to d.loop-p.p) c.add_next-answer.new.m c.add_next-answer.new.next c.add_next-answer.new.tail (extent_of (cover_first at (d.loop-p.p + 1))) d.loop-p.p r) e (c.add_next-answer.ensures _ (puts c.before.before.before.before))
 
 returns : tie.Need-returns-in-Deep invariant-loop decreases-loop
 returns c =
-    let t = c.before in
-    let k = t.before.before.before.before.before.before.before.before in
-    let d = (test k).before in
+    let d = c in
     let s = start d in
-    build-refused s.args.at.now (slots_of s.args.m.now) d.loop-p.m d.loop-p.next d.loop-p.tail d.loop-p.q d.loop-p.p d.loop-p.invariant.4 s.requires.ranged (test k).loop-p-test.true k.add_next-answer.new.m k.add_next-answer.new.next
-    k.add_next-answer.new.tail (same-slots k) _ (placed k _ t.enum_told.given.1 ∙ ap refused (sym c.at.ensures))
+    build-refused s.args.at.now (slots_of s.args.m.now) d.loop-p.m d.loop-p.next d.loop-p.tail d.loop-p.q d.loop-p.p d.loop-p.invariant.4 s.requires.ranged c.loop-p-test.true c.add_next-answer.new.m c.add_next-answer.new.next
+    c.add_next-answer.new.tail (same-slots c.before.before.before.before.before.before.before.before) _ (placed c.before.before.before.before.before.before.before.before _ c.enum_told.given.1 ∙ ap refused (sym c.at.ensures))
 
 returns-2 : tie.Need-returns-in-Full invariant-loop decreases-loop
 returns-2 c =
-    let t = c.before in
-    let k = t.before.before.before.before.before.before.before.before in
-    let d = (test k).before in
+    let d = c in
     let s = start d in
-    build-refused s.args.at.now (slots_of s.args.m.now) d.loop-p.m d.loop-p.next d.loop-p.tail d.loop-p.q d.loop-p.p d.loop-p.invariant.4 s.requires.ranged (test k).loop-p-test.true k.add_next-answer.new.m k.add_next-answer.new.next
-    k.add_next-answer.new.tail (same-slots k) _ (placed k _ t.enum_told-in-Full-1.given.1 ∙ ap refused (sym c.at-in-Full.ensures))
+    build-refused s.args.at.now (slots_of s.args.m.now) d.loop-p.m d.loop-p.next d.loop-p.tail d.loop-p.q d.loop-p.p d.loop-p.invariant.4 s.requires.ranged c.loop-p-test.true c.add_next-answer.new.m c.add_next-answer.new.next
+    c.add_next-answer.new.tail (same-slots c.before.before.before.before.before.before.before.before) _ (placed c.before.before.before.before.before.before.before.before _ c.enum_told-in-Full-1.given.1 ∙ ap refused (sym c.at-in-Full.ensures))
 
 loop-again : tie.Need-loop-p-preserved invariant-loop decreases-loop
 loop-again c =
-    let k = c.before.before.before.before.before.before.before.before.before in
-    let d = (test k).before in
+    let d = c in
     let s = start d in (
-      k.add_next-answer.auto.next ∙ d.loop-p.invariant.0,
-      k.add_next-answer.auto.tail ∙ d.loop-p.invariant.1,
-      k.add_next-answer.auto.m ∙ d.loop-p.invariant.2,
-      omega (arith, (test k).loop-p-test.true),
-      build-done s.args.at.now (slots_of s.args.m.now) d.loop-p.m d.loop-p.next d.loop-p.tail d.loop-p.q d.loop-p.p d.loop-p.invariant.4 s.requires.ranged (test k).loop-p-test.true k.add_next-answer.new.m k.add_next-answer.new.next
-          k.add_next-answer.new.tail (same-slots k) c.before.answer.given.0.0 (placed k _ c.before.answer.given.1),
+      c.add_next-answer.auto.next ∙ d.loop-p.invariant.0,
+      c.add_next-answer.auto.tail ∙ d.loop-p.invariant.1,
+      c.add_next-answer.auto.m ∙ d.loop-p.invariant.2,
+      omega (arith, c.loop-p-test.true),
+      build-done s.args.at.now (slots_of s.args.m.now) d.loop-p.m d.loop-p.next d.loop-p.tail d.loop-p.q d.loop-p.p d.loop-p.invariant.4 s.requires.ranged c.loop-p-test.true c.add_next-answer.new.m c.add_next-answer.new.next
+          c.add_next-answer.new.tail (same-slots c.before.before.before.before.before.before.before) c.before.answer.given.0.0 (placed c.before.before.before.before.before.before.before _ c.before.answer.given.1),
     )
 
 returns-3 : tie.Need-returns invariant-loop decreases-loop
 returns-3 c =
-    let d = c.before in
-    let s = start d in
-    build_end s.args.at.now (slots_of s.args.m.now) d.loop-p.m d.loop-p.next d.loop-p.tail d.loop-p.q d.loop-p.p d.loop-p.invariant.4 s.requires.ranged d.loop-p.invariant.3 c.loop-p-test.false (ap (λ (k : ℕ). k / slot_words) d.loop-p.invariant.2)
+    build_end c.args.at.now (slots_of c.args.m.now) c.loop-p.m c.loop-p.next c.loop-p.tail c.loop-p.q c.loop-p.p c.loop-p.invariant.4 c.requires.ranged c.loop-p.invariant.3 c.loop-p-test.false (ap (λ (k : ℕ). k / slot_words) c.loop-p.invariant.2)
 
 pub build_spec : {M : Type 1} → statement M
 build_spec =

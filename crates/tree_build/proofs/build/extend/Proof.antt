@@ -19,30 +19,22 @@ start c = c.before.before.before
 
 first-requires : tie.Need-first-requires
 first-requires c κs =
-    let b = c.before in
-    let s = start b in
-    let r = s.requires.ranged s.args.p (omega arith) in
-    subst₂ (λ (x y : Float). T (within x) × T (within y)) (sym b.before.x_at-x.ensures) (sym b.y_at-y.ensures) (is_T _ r.0, is_T _ r.1)
+    let r = c.requires.ranged c.args.p (omega arith) in
+    subst₂ (λ (x y : Float). T (within x) × T (within y)) (sym c.x_at-x.ensures) (sym c.y_at-y.ensures) (is_T _ r.0, is_T _ r.1)
 
 returns : tie.Need-returns-then-p-eq0
 returns c =
-    let b = c.before.before in
-    let s = start b in
-    first_extends s.args.at.now s.args.q s.args.p (record { extent = c.first.result; doublings = 0 }) s.requires c.before.if-p-eq0.true
-    (c.first.ensures ∙ ap₂ (λ (x y : Float). extent_of (cover_point nothing (floor x) (floor y))) b.before.x_at-x.ensures b.y_at-y.ensures)
+    first_extends c.args.at.now c.args.q c.args.p (record { extent = c.first.result; doublings = 0 }) c.requires c.if-p-eq0.true
+    (c.first.ensures ∙ ap₂ (λ (x y : Float). extent_of (cover_point nothing (floor x) (floor y))) c.x_at-x.ensures c.y_at-y.ensures)
 
 cover-requires : tie.Need-cover-requires
 cover-requires c κs =
-    let b = c.before in
-    let s = start b in
-    subst₂ (λ (x y : Float). Near s.args.q.extent x y) (sym b.before.x_at-x.ensures) (sym b.y_at-y.ensures) (extend-near s.args.at.now s.args.q s.args.p s.requires c.if-p-eq0.false)
+    subst₂ (λ (x y : Float). Near c.args.q.extent x y) (sym c.x_at-x.ensures) (sym c.y_at-y.ensures) (extend-near c.args.at.now c.args.q c.args.p c.requires c.if-p-eq0.false)
 
 returns-2 : tie.Need-returns
 returns-2 c =
-    let b = c.before.before in
-    let s = start b in
-    next-extends s.args.at.now s.args.q s.args.p s.requires c.before.if-p-eq0.false c.cover.result
-    (subst₂ (λ (x y : Float). CoveredTo s.args.q.extent (floor x) (floor y) c.cover.result) b.before.x_at-x.ensures b.y_at-y.ensures c.cover.ensures)
+    next-extends c.args.at.now c.args.q c.args.p c.requires c.if-p-eq0.false c.cover.result
+    (subst₂ (λ (x y : Float). CoveredTo c.args.q.extent (floor x) (floor y) c.cover.result) c.x_at-x.ensures c.y_at-y.ensures c.cover.ensures)
 
 pub extend_spec : {M : Type 1} → statement M
 extend_spec = tie.close (tie.spec (λ c κs. search rules) (λ c κs. search rules) first-requires returns cover-requires returns-2)

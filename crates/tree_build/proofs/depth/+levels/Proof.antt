@@ -8,12 +8,12 @@ use borrow.Fn.PlainCycle.{Measures, is, falls, and}
 use Rattle.rules.specs.Tree.{Tree, depth}
 use Rattle.tree_build.specs.Depth.{Goes}
 use Rattle.tree_build.proofs.Levels.{goes_none, goes_some, goes_leaf, Opens, goes_node}
-use Rattle.tree_build.proofs.depth.levels-a.Reads as levels
-use Rattle.tree_build.proofs.depth.levels-a.Kinds as levels-kinds
+use Rattle.tree_build.proofs.depth.levels.Reads as levels
+use Rattle.tree_build.proofs.depth.levels.Kinds as levels-kinds
 use Rattle.tree_build.proofs.depth.+levels.Lts-levels as lts
-use Rattle.tree_placing.proofs.greater-left.Reads as greater-reads
+use Rattle.tree_placing.proofs.greater.Reads as greater-reads
 use Rattle.tree_slots.specs.Slots.{InSlots}
-use Rattle.tree_slots.proofs.store.children-children.Reads as children-reads
+use Rattle.tree_slots.proofs.store.children.Reads as children-reads
 use Rattle.tree_slots.proofs.store.tag.Reads as tag-reads
 use Rattle.tree_build.proofs.depth.+levels.{statement}
 use Rattle.tree_build.proofs.depth.+levels.Tie.{close}
@@ -37,15 +37,15 @@ start t c = c.before.before.before.before.before
 
 -- the trees of the children
 opened : (t : ℕ) (c : lts.After-children-children (rd t) (here t) levels.Post) → let a = (start t c).args in (x : Tree ℕ) → Goes a.m.now a.p a.level x → Opens a.m.now a.p a.level c.children-children.result x
-opened t c x g = goes_node _ _ _ _ x g c.before.before.before.if-p-eq0.false (sym c.before.before.tag.ensures ∙ c.before.if-tag-ne0.false) c.children-children.ensures
+opened t c x g = goes_node _ _ _ _ x g c.if-p-eq0.false (sym c.tag.ensures ∙ c.if-tag-ne0.false) c.children-children.ensures
 
 -- that of the tree that is there
 own : (t : ℕ) (c : lts.After-children-children (rd t) (here t) levels.Post) → let a = (start t c).args in Opens a.m.now a.p a.level c.children-children.result (start t c).requires.1.0
 own t c = opened t c (start t c).requires.1.0 (start t c).requires.1.1
 
 -- the slot of the node, and its level
-slot : (t : ℕ) (c : lts.Else-p-eq0 (rd t) (here t) levels.Post) → let a = c.before.before.args in InSlots (a.p - 1) a.m.now × (a.level ≤ 64)
-slot t c = let s = c.before.before in goes_some _ _ _ _ s.requires.1.1 c.if-p-eq0.false
+slot : (t : ℕ) (c : lts.Else-p-eq0 (rd t) (here t) levels.Post) → let a = c.args in InSlots (a.p - 1) a.m.now × (a.level ≤ 64)
+slot t c = goes_some _ _ _ _ c.requires.1.1 c.if-p-eq0.false
 
 less : (t : ℕ) (c : lts.After-children-children (rd t) (here t) levels.Post) → 65 - ((start t c).args.level + 1) < t
 less t c = let s = start t c in omega (arith, (slot t c.before.before.before).1, s.requires.0)
@@ -58,7 +58,7 @@ total t c x g =
     let l2 = l3.before in
     let l1 = l2.before in
     let o = opened t l1.before x g in
-    omega (arith, o.levels-a, c.greater.ensures, c.before.greater-right.ensures, c.before.before.greater-left.ensures, l1.levels-a.ensures _ o.g0, l2.levels-b.ensures _ o.g1, l3.levels-c.ensures _ o.g2, l4.levels-d.ensures _ o.g3)
+    omega (arith, o.levels, c.greater.ensures, c.greater-right.ensures, c.greater-left.ensures, l1.levels-a.ensures _ o.g0, l2.levels-b.ensures _ o.g1, l3.levels-c.ensures _ o.g2, l4.levels-d.ensures _ o.g3)
 
 pub +levels_spec : {M : Type 1} → statement M
 +levels_spec =
@@ -68,7 +68,7 @@ pub +levels_spec : {M : Type 1} → statement M
     (λ c. search rules)
     (λ c. search rules)
     (λ c κs. (slot t c).0)
-    (λ c x g. sym (goes_leaf _ _ _ x g c.before.before.if-p-eq0.false (λ z. c.if-tag-ne0.true (c.before.tag.ensures ∙ z))))
+    (λ c x g. sym (goes_leaf _ _ _ x g c.if-p-eq0.false (λ z. c.if-tag-ne0.true (c.tag.ensures ∙ z))))
     (λ c κs. (slot t c.before.before).0)
     (λ c. omega (arith, (slot t c.before.before.before).1))
     (λ c. search rules)

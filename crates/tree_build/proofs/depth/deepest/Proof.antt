@@ -10,7 +10,7 @@ returns c x b = record { bounds = b.bounds; shallow = b.shallow; exact = λ l. a
 
 -- what was counted is not 0
 counted : (c : tie.After-levels) → 0 < c.levels.result
-counted c = let s = c.before.before.before in let b = s.requires.1 in omega (arith, c.levels.ensures _ b.goes, goes_positive _ _ _ _ b.goes b.rooted)
+counted c = let b = c.requires.1 in omega (arith, c.levels.ensures _ b.goes, goes_positive _ _ _ _ b.goes b.rooted)
 
 returns-2 : tie.Need-returns
 returns-2 c x b =
@@ -23,8 +23,8 @@ pub deepest_spec : {M : Type 1} → statement M
 deepest_spec =
     tie.close
     (tie.spec
-    (λ c. let p = c.before.requires in omega (arith, p.1.shallow, p.2))
+    (λ c. let p = c.requires in omega (arith, p.1.shallow, p.2))
     returns
-    (λ c κs. (_, c.before.before.requires.1.goes))
+    (λ c κs. (_, c.requires.1.goes))
     (λ c. let l = counted c in omega arith)
     returns-2)

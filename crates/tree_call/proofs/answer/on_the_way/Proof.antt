@@ -15,10 +15,10 @@ returns : tie.Need-returns-then-number-eq15
 returns c = rw c.if-number-eq15.true
 
 returns-2 : tie.Need-returns-then-number-ge6
-returns-2 c = let n = c.before.before.args.number in rw (le-leb 6 n c.if-number-ge6.true) (or-false (leb n 9) (eqb n 15) (ne_eqb n 15 c.before.if-number-eq15.false))
+returns-2 c = let n = c.args.number in rw (le-leb 6 n c.if-number-ge6.true) (or-false (leb n 9) (eqb n 15) (ne_eqb n 15 c.if-number-eq15.false))
 
 returns-3 : tie.Need-returns-else-number-ge6
-returns-3 c = let n = c.before.before.args.number in rw (lt-leb 6 n (omega (arith, c.if-number-ge6.false)), ne_eqb n 15 c.before.if-number-eq15.false)
+returns-3 c = let n = c.args.number in rw (lt-leb 6 n (omega (arith, c.if-number-ge6.false)), ne_eqb n 15 c.if-number-eq15.false)
 
 pub on_the_way_spec : {M : Type 1} → statement M
 on_the_way_spec = tie.close (tie.spec returns returns-2 returns-3)

@@ -7,16 +7,13 @@ use Rattle.tree_call.proofs.answer.refuse.Tie as tie
 
 returns : tie.Need-returns-then-not-on_the_way
 returns c =
-    let m = c.before in
-    let a = m.before.before.args in
-    (refl, refusal_keeps a.refusal a.work.now m.on_the_way.result m.on_the_way.ensures c.if-not-on_the_way.true-raw)
+    let a = c.args in
+    (refl, refusal_keeps a.refusal a.work.now c.on_the_way.result c.on_the_way.ensures c.if-not-on_the_way.true-raw)
 
 returns-2 : tie.Need-returns
 returns-2 c =
-    let e = c.before.before.before.before in
-    let m = e.before in
-    let a = m.before.before.args in
-    (refl, c.before.before.clear.ensures ∙ refusal_clears a.refusal a.work.now m.on_the_way.result m.on_the_way.ensures e.if-not-on_the_way.false-raw)
+    let a = c.args in
+    (refl, c.clear.ensures ∙ refusal_clears a.refusal a.work.now c.on_the_way.result c.on_the_way.ensures c.if-not-on_the_way.false-raw)
 
 pub refuse_spec : {M : Type 1} → statement M
 refuse_spec = tie.close (tie.spec (λ c κs. search rules) returns (λ c κs. search rules) (λ c. search rules) returns-2)

@@ -9,9 +9,9 @@ use Rattle.tree_call.proofs.call.lent_check.Tie as tie
 
 returns : tie.Need-returns
 returns c =
-    let a = c.before.before.before.args in
+    let a = c.args in
     c.first.ensures
-    ∙ rw (c.before.lengths_check.ensures, c.before.before.count_check.ensures)
+    ∙ rw (c.lengths_check.ensures, c.count_check.ensures)
     (first_then (count_check a.most a.n) (lengths_check a.agreed) (count-early a.most a.n))
 
 pub lent_check_spec : {M : Type 1} → statement M

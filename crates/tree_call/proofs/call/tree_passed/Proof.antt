@@ -13,9 +13,8 @@ use Rattle.tree_call.proofs.call.tree_passed.Tie as tie
 
 tree-with-requires : tie.Need-tree_with-requires
 tree-with-requires c κs =
-    let s = c.before.before.before.before.before.before.before.before.before.before in
-    let n = length s.args.records.now / record_size in
-    record { passed = s.requires; pairs = room (n * 2) (2 * most_particles) 0· (omega arith); links = room {A = ℕ} n most_particles 0 (omega arith); tails = room {A = ℕ} n most_particles 0 (omega arith) }
+    let n = length c.args.records.now / record_size in
+    record { passed = c.requires; pairs = room (n * 2) (2 * most_particles) 0· (omega arith); links = room {A = ℕ} n most_particles 0 (omega arith); tails = room {A = ℕ} n most_particles 0 (omega arith) }
 
 pub tree_passed_spec : {M : Type 1} → statement M
 tree_passed_spec =

@@ -42,26 +42,26 @@ entry c = (agreed c).before.before.before.before.before.before.before
 
 returns : tie.Need-returns-then-number-ne0
 returns c =
-    let f = c.before.before.refuse.ensures in
-    ends_refused (stop_1 _ _ _ (then1 c).before.whole_records-bad.ensures (then1 c).if-number-ne0.true) f.0 f.1
+    let f = c.refuse.ensures in
+    ends_refused (stop_1 _ _ _ (then1 c).whole_records-bad.ensures (then1 c).if-number-ne0.true) f.0 f.1
 
 returns-2 : tie.Need-returns-then-number-ne0-2
 returns-2 c =
-    let f = c.before.before.refuse-then-number-ne0-2.ensures in
-    ends_refused (stop-2 _ _ _ (else1 c).before.whole_records-bad.ensures (else1 c).if-number-ne0.false _ (then2 c).before.before.agree-agreed.ensures _ (then2 c).before.lent_check-bad.ensures (then2 c).if-number-ne0-2.true) f.0 f.1
+    let f = c.refuse-then-number-ne0-2.ensures in
+    ends_refused (stop-2 _ _ _ (else1 c).whole_records-bad.ensures (else1 c).if-number-ne0.false _ (then2 c).agree-agreed.ensures _ (then2 c).lent_check-bad.ensures (then2 c).if-number-ne0-2.true) f.0 f.1
 
 returns-3 : tie.Need-returns-then-number-ne0-3
 returns-3 c =
-    let f = c.before.before.refuse-then-number-ne0-3.ensures in
-    ends_refused (stop-3 _ _ _ (lent-checked c).before.before.before.whole_records-bad.ensures (lent-checked c).before.before.if-number-ne0.false _ (lent-checked c).before.agree-agreed.ensures _ (lent-checked c).lent_check-bad.ensures (then3 c).before.before.if-number-ne0-2.false _ (then3 c).before.records_check-bad.ensures (then3 c).if-number-ne0-3.true) f.0 f.1
+    let f = c.refuse-then-number-ne0-3.ensures in
+    ends_refused (stop-3 _ _ _ (lent-checked c).whole_records-bad.ensures (lent-checked c).if-number-ne0.false _ (lent-checked c).agree-agreed.ensures _ (lent-checked c).lent_check-bad.ensures (then3 c).if-number-ne0-2.false _ (then3 c).records_check-bad.ensures (then3 c).if-number-ne0-3.true) f.0 f.1
 
 tree-passed-requires : tie.Need-tree_passed-requires
-tree-passed-requires c κs = passed _ _ _ (agreed c).before.before.whole_records-bad.ensures (agreed c).before.if-number-ne0.false _ (agreed c).agree-agreed.ensures _ (else3 c).before.before.before.lent_check-bad.ensures (else3 c).before.before.if-number-ne0-2.false _ (else3 c).before.records_check-bad.ensures (else3 c).if-number-ne0-3.false (entry c).requires
+tree-passed-requires c κs = passed _ _ _ (agreed c).whole_records-bad.ensures (agreed c).if-number-ne0.false _ (agreed c).agree-agreed.ensures _ (else3 c).lent_check-bad.ensures (else3 c).if-number-ne0-2.false _ (else3 c).records_check-bad.ensures (else3 c).if-number-ne0-3.false (entry c).requires
 
 returns-4 : tie.Need-returns
 returns-4 c =
     let a = (entry (tree-built c).before).args in
-    rw (goes_on a.most (lent a.records.now a.rows.now a.chains.now a.work.now) _ (agreed-from-end c).before.before.whole_records-bad.ensures (agreed-from-end c).before.if-number-ne0.false _ (agreed-from-end c).agree-agreed.ensures _ (else3-from-end c).before.before.before.lent_check-bad.ensures (else3-from-end c).before.before.if-number-ne0-2.false _ (else3-from-end c).before.records_check-bad.ensures (else3-from-end c).if-number-ne0-3.false)
+    rw (goes_on a.most (lent a.records.now a.rows.now a.chains.now a.work.now) _ (agreed-from-end c).whole_records-bad.ensures (agreed-from-end c).if-number-ne0.false _ (agreed-from-end c).agree-agreed.ensures _ (else3-from-end c).lent_check-bad.ensures (else3-from-end c).if-number-ne0-2.false _ (else3-from-end c).records_check-bad.ensures (else3-from-end c).if-number-ne0-3.false)
     (tree-built c).tree_passed.ensures
 
 pub tree_within_spec : {M : Type 1} → statement M

@@ -26,18 +26,18 @@ at : (i q : ℕ) (c : Extent) (x y : Float) → q ≡ i → x ≡ xm c → y ≡
 at i q c x y e f g = rw (f, g, e) (over-is i c)
 
 returns : tie.Need-returns-in-0
-returns c = let s = c.before in at 0 s.before.before.args.q s.before.before.args.c s.before.middle-xm.result s.middle-ym.result c.in_default.keys1 s.before.middle-xm.ensures s.middle-ym.ensures
+returns c = let s = c.before in at 0 s.before.before.args.q s.before.before.args.c s.before.middle-xm.result s.middle-ym.result c.in-0.is s.before.middle-xm.ensures s.middle-ym.ensures
 
 returns-2 : tie.Need-returns-in-1
-returns-2 c = let s = c.before in at 1 s.before.before.args.q s.before.before.args.c s.before.middle-xm.result s.middle-ym.result c.in_default.keys2 s.before.middle-xm.ensures s.middle-ym.ensures
+returns-2 c = let s = c.before in at 1 s.before.before.args.q s.before.before.args.c s.before.middle-xm.result s.middle-ym.result c.in-1.is s.before.middle-xm.ensures s.middle-ym.ensures
 
 returns-3 : tie.Need-returns-in-2
-returns-3 c = let s = c.before in at 2 s.before.before.args.q s.before.before.args.c s.before.middle-xm.result s.middle-ym.result c.in_default.keys3 s.before.middle-xm.ensures s.middle-ym.ensures
+returns-3 c = let s = c.before in at 2 s.before.before.args.q s.before.before.args.c s.before.middle-xm.result s.middle-ym.result c.in-2.is s.before.middle-xm.ensures s.middle-ym.ensures
 
 returns-4 : tie.Need-returns-in_default
 returns-4 c =
     let s = c.before in
-    let r = c.in_default.rest in
+    let r = c.in_default.in_default-own.rest in
     at 3 s.before.before.args.q s.before.before.args.c s.before.middle-xm.result s.middle-ym.result (last s.before.before.args.q s.before.before.requires r.0.0.1 r.0.1 r.1) s.before.middle-xm.ensures s.middle-ym.ensures
 
 pub quarter_spec : {M : Type 1} → statement M

@@ -10,7 +10,7 @@ returns c =
     let v = w.before.before.before.before in
     let u = v.before.before.before.before in
     let k = u.before.before in
-    let s = k.before.before in
+    let s = k in
     forked-put s.args.m.now s.args.s s.args.f s.args.p s.args.j s.args.k s.args.x k.only-children.ensures u.put_internal.ensures v.put_leaf.ensures w.put_leaf-2.ensures
 
 pub fork_spec : {M : Type 1} → statement M

@@ -9,7 +9,7 @@ returns c =
     let w = c.before.before in
     let v = w.before.before.before.before in
     let k = v.before.before in
-    let s = k.before.before.before in
+    let s = k in
     hung-put s.args.m.now s.args.s s.args.p s.args.k s.args.x k.children-children.ensures v.put_internal.ensures w.put_leaf.ensures
 
 pub hang_spec : {M : Type 1} → statement M

@@ -41,7 +41,7 @@ only-requires : tie.Need-only-children-requires invariant-loop decreases-loop
 only-requires c κs =
     let d = c.before.before in
     let s = entry d.before in
-    (step_less s.args.at.now s.args.p (cell_of d.loop-left.ix) _ _ c.get_and_descend-way.result c.get_and_descend-way.ensures d.before.before.before.x_at-u.ensures d.before.before.y_at-v.ensures, omega (arith, d.loop-left.invariant.1.small))
+    (step_less s.args.at.now s.args.p (cell_of d.loop-left.ix) _ _ c.get_and_descend-way.result c.get_and_descend-way.ensures d.x_at-u.ensures d.y_at-v.ensures, omega (arith, d.loop-left.invariant.1.small))
 
 loop-again : tie.Need-loop-left-preserved invariant-loop decreases-loop
 loop-again c =
@@ -51,27 +51,27 @@ loop-again c =
     let s = entry d.before in
     let e = cell_of d.loop-left.ix in
     let r = b.get_and_descend-way.result in
-    let x = d.before.before.before.x_at-u.ensures in
-    let y = d.before.before.y_at-v.ensures in
+    let x = d.x_at-u.ensures in
+    let y = d.y_at-v.ensures in
     let at = s.args.at.now in
     let p = s.args.p in
-    let w = a.put_internal.ensures ∙ ap (put_internal d.loop-left.m d.loop-left.slot) a.before.before.only-children.ensures in (
+    let w = a.put_internal.ensures ∙ ap (put_internal d.loop-left.m d.loop-left.slot) a.only-children.ensures in (
       a.put_internal.auto.m ∙ d.loop-left.invariant.0,
       search rules,
       step-own at p e _ _ r b.get_and_descend-way.ensures x y,
       ap (λ (c : Extent). parted at p s.args.f (d.loop-left.left - 1) c d.loop-left.free (d.loop-left.free + 1) a.put_internal.new.m) (step-cell at p e _ _ r b.get_and_descend-way.ensures x y)
-          ∙ split-turn at p s.args.f d.loop-left.left r.quadrant e d.loop-left.slot d.loop-left.free d.loop-left.m a.put_internal.new.m b.before.loop-left-test.true (step-side at p e _ _ r b.get_and_descend-way.ensures x y) w
+          ∙ split-turn at p s.args.f d.loop-left.left r.quadrant e d.loop-left.slot d.loop-left.free d.loop-left.m a.put_internal.new.m b.loop-left-test.true (step-side at p e _ _ r b.get_and_descend-way.ensures x y) w
           ∙ d.loop-left.invariant.3,
     )
 
 -- the quadrants of the two leaves
 first-is : (c : tie.After-get-k invariant-loop decreases-loop)
-    → let d = (loop-over c).before in let s = entry d.before in c.before.get-j.result ≡ quadrant (cell_of d.loop-left.ix) (x_at s.args.at.now s.args.f) (y_at s.args.at.now s.args.f)
-first-is c = let d = (loop-over c).before in c.before.get-j.ensures ∙ ap₂ (quadrant (cell_of d.loop-left.ix)) c.before.before.before.x_at.ensures c.before.before.y_at.ensures
+    → let d = (loop-over c).before in let s = entry d.before in c.get-j.result ≡ quadrant (cell_of d.loop-left.ix) (x_at s.args.at.now s.args.f) (y_at s.args.at.now s.args.f)
+first-is c = let d = (loop-over c).before in c.get-j.ensures ∙ ap₂ (quadrant (cell_of d.loop-left.ix)) c.x_at.ensures c.y_at.ensures
 
 new_is : (c : tie.After-get-k invariant-loop decreases-loop)
     → let d = (loop-over c).before in let s = entry d.before in c.get-k.result ≡ side s.args.at.now s.args.p (cell_of d.loop-left.ix)
-new_is c = let d = (loop-over c).before in c.get-k.ensures ∙ ap₂ (quadrant (cell_of d.loop-left.ix)) d.before.before.before.x_at-u.ensures d.before.before.y_at-v.ensures
+new_is c = let d = (loop-over c).before in c.get-k.ensures ∙ ap₂ (quadrant (cell_of d.loop-left.ix)) d.x_at-u.ensures d.y_at-v.ensures
 
 fork-requires : tie.Need-fork-requires invariant-loop decreases-loop
 fork-requires c κs =
@@ -95,9 +95,9 @@ returns c =
     let g = k.before.before in
     let d = (loop-over g).before in
     let s = entry d.before in
-    split_end s.args.at.now s.args.p s.args.f d.loop-left.left g.before.get-j.result g.get-k.result (cell_of d.loop-left.ix) d.loop-left.slot d.loop-left.free d.loop-left.m k.fork.new.m (loop-over g).loop-left-test.false (first-is g) (new_is g) k.fork.ensures
+    split_end s.args.at.now s.args.p s.args.f d.loop-left.left g.get-j.result g.get-k.result (cell_of d.loop-left.ix) d.loop-left.slot d.loop-left.free d.loop-left.m k.fork.new.m (loop-over g).loop-left-test.false (first-is g) (new_is g) k.fork.ensures
     ∙ d.loop-left.invariant.3
-    ∙ ap (λ (c : Extent). parted s.args.at.now s.args.p s.args.f s.args.g c s.args.s s.args.x s.args.m.now) (ap cell_of d.before.with_extent-ix.ensures)
+    ∙ ap (λ (c : Extent). parted s.args.at.now s.args.p s.args.f s.args.g c s.args.s s.args.x s.args.m.now) (ap cell_of d.with_extent-ix.ensures)
 
 pub split_spec : {M : Type 1} → statement M
 split_spec =
@@ -109,7 +109,7 @@ split_spec =
     (λ c κs. search rules)
     (λ c κs. search rules)
     loop-holds
-    (λ c κs. c.before.loop-left.invariant.2)
+    (λ c κs. c.loop-left.invariant.2)
     (λ c. search rules)
     only-requires
     (λ c κs. search rules)

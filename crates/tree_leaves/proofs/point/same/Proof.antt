@@ -22,15 +22,15 @@ module _ (at : List Float) (i j : ℕ) (x u : Float) (ex : x ≡ x_at at i) (eu 
 returns : tie.Need-returns-then-x_at
 returns c =
     let b = c.before.before.before in
-    let s = b.before.before.before in
-    both s.args.at.now s.args.i s.args.j b.before.x_at.result b.x_at-2.result b.before.x_at.ensures b.x_at-2.ensures
-    c.before.y_at.result c.y_at-then-x_at.result c.before.y_at.ensures c.y_at-then-x_at.ensures c.before.before.if-x_at.true
+    let s = b in
+    both s.args.at.now s.args.i s.args.j b.x_at.result b.x_at-2.result b.x_at.ensures b.x_at-2.ensures
+    c.y_at.result c.y_at-then-x_at.result c.y_at.ensures c.y_at-then-x_at.ensures c.if-x_at.true
 
 returns-2 : tie.Need-returns-else-x_at
 returns-2 c =
     let b = c.before in
-    let s = b.before.before.before in
-    apart s.args.at.now s.args.i s.args.j b.before.x_at.result b.x_at-2.result b.before.x_at.ensures b.x_at-2.ensures c.if-x_at.false
+    let s = b in
+    apart s.args.at.now s.args.i s.args.j b.x_at.result b.x_at-2.result b.x_at.ensures b.x_at-2.ensures c.if-x_at.false
 
 pub same_spec : {M : Type 1} → statement M
 same_spec = tie.close (tie.spec (λ c κs. search rules) (λ c κs. search rules) (λ c κs. search rules) (λ c κs. search rules) returns returns-2)

@@ -52,13 +52,8 @@ relink-requires c κs =
 
 returns-3 : tie.Need-returns
 returns-3 c u g =
-    let r = c.before.before in
-    let p = r.before.before in
-    let b = p.before.before in
-    let t = b.before.before in
-    let e = t.before.before in
-    fill-child _ _ _ _ u g e.if-h-x.false b.leaf_below-f.result b.leaf_below-f.ensures t.if-q-x.false p.parent-up.result
-    (p.parent-up.ensures u (fill-under _ _ _ _ u g e.if-h-x.false b.leaf_below-f.result b.leaf_below-f.ensures t.if-q-x.false)) r.relink.new.m r.relink.ensures
+    fill-child _ _ _ _ u g c.if-h-x.false c.leaf_below-f.result c.leaf_below-f.ensures c.if-q-x.false c.parent-up.result
+    (c.parent-up.ensures u (fill-under _ _ _ _ u g c.if-h-x.false c.leaf_below-f.result c.leaf_below-f.ensures c.if-q-x.false)) c.relink.new.m c.relink.ensures
 
 pub fill_spec : {M : Type 1} → statement M
 fill_spec =

@@ -16,7 +16,7 @@ use Rattle.tree_removing.proofs.remove.remove.Tie as tie
 
 -- where the function begins
 abbrev start : tie.After-leaf_of-spot → tie.Start
-start c = c.before.before.before.before.before.before
+start c = c.before.before.before.before.before
 
 abbrev Asked : tie.Start → List ℕ → Type 0
 Asked s is = Removes s.args.at.now is s.args.m.now s.args.next.now s.args.tail.now s.args.q s.args.i
@@ -101,7 +101,7 @@ pub remove_spec : {M : Type 1} → statement M
 remove_spec =
     tie.close
     (tie.spec
-    (λ c κs. let p = c.before.before.before.before.before.requires in (p.0, finds _ p.0 _ _ _ _ _ p.1))
+    (λ c κs. let p = c.requires in (p.0, finds _ p.0 _ _ _ _ _ p.1))
     (λ c κs. let f = c.before in let p = (start f).requires in (spot-leaf _ p.0 _ _ _ (finds _ p.0 _ _ _ _ _ p.1) _ (spotted f p.0 p.1)).0)
     (λ t. let p = (start t.before.before).requires in (first-is t p.0 p.1).0)
     leave-requires

@@ -16,7 +16,7 @@ abbrev start : tie.Else-s-eq0 → tie.Start
 start c = c.before.before.before
 
 returns : tie.Need-returns-then-s-eq0
-returns c is g h gone = (cut-root _ is _ _ _ g _ h gone c.before.if-s-eq0.true, refl)
+returns c is g h gone = (cut-root _ is _ _ _ g _ h gone c.if-s-eq0.true, refl)
 
 -- the slots that are written
 slots : (e : tie.Else-s-eq0) → let s = start e in InSlots (s.args.spot.above - 1) s.args.m.now × (s.args.spot.quadrant < 4) × (0 < s.args.q.nodes)
@@ -45,14 +45,8 @@ tidy-requires c κs =
 
 returns-2 : tie.Need-returns
 returns-2 c is g h gone =
-    let d = c.before.before in
-    let f = d.before.before.before.before in
-    let l = f.before in
-    let w = l.before.before.before.before in
-    let k = w.before.before in
-    let e = k.before.before in
-    cut-done _ is _ _ _ g _ h gone e.if-s-eq0.false k.children-children.result k.children-children.ensures w.put_internal.new.m w.put_internal.ensures l.fewer.result f.fill-filled.result l.fewer.ensures f.fill-filled.new.m
-    (f.fill-filled.auto.m ∙ w.put_internal.auto.m) f.fill-filled.ensures d.tidy.result d.tidy.new.m d.tidy.auto.m d.tidy.ensures
+    cut-done _ is _ _ _ g _ h gone c.if-s-eq0.false c.children-children.result c.children-children.ensures c.put_internal.new.m c.put_internal.ensures c.fewer.result c.fill-filled.result c.fewer.ensures c.fill-filled.new.m
+    (c.fill-filled.auto.m ∙ c.put_internal.auto.m) c.fill-filled.ensures c.tidy.result c.tidy.new.m c.tidy.auto.m c.tidy.ensures
 
 pub cut_spec : {M : Type 1} → statement M
 cut_spec =

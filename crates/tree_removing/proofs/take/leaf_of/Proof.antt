@@ -16,10 +16,10 @@ abbrev start : tie.After-tag → tie.Start
 start c = c.before.before.before.before
 
 returns : tie.Need-returns-then-tag-ne0
-returns c is g = spot_root _ is _ _ _ g (λ z. c.if-tag-ne0.true (c.before.tag.ensures ∙ z))
+returns c is g = spot_root _ is _ _ _ g (λ z. c.if-tag-ne0.true (c.tag.ensures ∙ z))
 
 innermost : (n : tie.After-inner-edge) → let s = start n.before.before in (is : List ℕ) (g : Finds s.args.at.now is s.args.m.now s.args.q s.args.i) → Innermost s.args.at.now s.args.q.extent g.holds.tree s.args.i n.inner-edge.result
-innermost n is g = let e = n.before in n.inner-edge.ensures g.holds.tree (spot_tops _ is _ _ _ g (sym e.before.tag.ensures ∙ e.if-tag-ne0.false))
+innermost n is g = n.inner-edge.ensures g.holds.tree (spot_tops _ is _ _ _ g (sym n.tag.ensures ∙ n.if-tag-ne0.false))
 
 slot_of : (n : tie.After-inner-edge) → let s = start n.before.before in InSlots n.inner-edge.result.slot s.args.m.now × (n.inner-edge.result.quadrant < 4)
 slot_of n = let p = (start n.before.before).requires in spot-slot _ p.0 _ _ _ p.1 n.inner-edge.result (innermost n p.0 p.1)
@@ -32,10 +32,10 @@ leaf_of_spec =
     tie.close
     (tie.spec
     (λ c. search rules)
-    (λ c. let p = c.before.before.before.requires in rooted _ p.0 _ _ _ p.1)
-    (λ c κs. let p = c.before.before.before.requires in root_there _ p.0 _ _ _ p.1)
+    (λ c. let p = c.requires in rooted _ p.0 _ _ _ p.1)
+    (λ c κs. let p = c.requires in root_there _ p.0 _ _ _ p.1)
     returns
-    (λ c κs. let p = (start c.before).requires in (p.1.holds.tree, spot_tops _ p.0 _ _ _ p.1 (sym c.before.tag.ensures ∙ c.if-tag-ne0.false)))
+    (λ c κs. let p = (start c.before).requires in (p.1.holds.tree, spot_tops _ p.0 _ _ _ p.1 (sym c.tag.ensures ∙ c.if-tag-ne0.false)))
     (λ c κs. (slot_of c).0)
     (λ c. let l = (slot_of c.before).1 in omega arith)
     (λ c. (slot_of c.before).1)

@@ -19,21 +19,18 @@ start c = c.before.before.before.before
 -- the last internal node
 innermost : (c : tie.After-inner-edge) → let s = start c.before.before.before in (t : Tree ℕ) → Tidies s.args.at.now s.args.m.now s.args.q s.args.i t → Innermost s.args.at.now s.args.q.extent t s.args.i c.inner-edge.result
 innermost c t g =
-    let b = c.before in
-    let y = b.before in
-    c.inner-edge.ensures t (lone_tops _ _ _ _ t g y.before.if-root-eq0.false (sym y.tag.ensures ∙ b.if-tag-ne0.false))
+    c.inner-edge.ensures t (lone_tops _ _ _ _ t g c.if-root-eq0.false (sym c.tag.ensures ∙ c.if-tag-ne0.false))
 
 -- the sum is the one number
-one : (c : tie.Else-child-all) → let ks = c.before.before.before.children-children.result in some_kid ks ≡ get_or ks 0 0 + get_or ks 1 0 + get_or ks 2 0 + get_or ks 3 0
-one c = sym c.before.before.some_child-child.ensures ∙ c.if-child-all.false ∙ c.before.total-all.ensures
+one : (c : tie.Else-child-all) → let ks = c.children-children.result in some_kid ks ≡ get_or ks 0 0 + get_or ks 1 0 + get_or ks 2 0 + get_or ks 3 0
+one c = sym c.some_child-child.ensures ∙ c.if-child-all.false ∙ c.total-all.ensures
 
 returns : tie.Need-returns-then-root-eq0
 returns c t g = record { done = λ _. lone_none _ _ _ _ t g c.if-root-eq0.true; more = λ n. absurd (n refl) }
 
 returns-2 : tie.Need-returns-then-tag-ne0
 returns-2 c t g =
-    let y = c.before in
-    record { done = λ _. lone_leaf _ _ _ _ t g y.before.if-root-eq0.false (λ z. c.if-tag-ne0.true (y.tag.ensures ∙ z)); more = λ n. absurd (n refl) }
+    record { done = λ _. lone_leaf _ _ _ _ t g c.if-root-eq0.false (λ z. c.if-tag-ne0.true (c.tag.ensures ∙ z)); more = λ n. absurd (n refl) }
 
 returns-3 : tie.Need-returns-then-child-all
 returns-3 c t g =

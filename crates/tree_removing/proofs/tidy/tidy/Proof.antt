@@ -25,10 +25,10 @@ abbrev leaf_put : tie.After-fewer invariant-loop decreases-loop → tie.After-pu
 leaf_put c = c.before.before.before.before
 
 abbrev back-from-put-leaf : tie.After-put_leaf-arg-1 invariant-loop decreases-loop → tie.Else-fold-eq0 invariant-loop decreases-loop
-back-from-put-leaf c = c.before.before.before.before
+back-from-put-leaf c = c.before.before.before
 
 abbrev loop-from-if1 : tie.After-struct_known-1 invariant-loop decreases-loop → tie.At-loop-fold invariant-loop decreases-loop
-loop-from-if1 c = c.before.before.before
+loop-from-if1 c = c.before.before
 
 abbrev start : tie.At-loop-fold invariant-loop decreases-loop → tie.Start invariant-loop decreases-loop
 start c = c.before.before.before
@@ -46,21 +46,19 @@ room : (c : tie.At-loop-fold invariant-loop decreases-loop) → (start c).args.q
 room c = let s = start c in subst (λ (n : ℕ). s.args.q.nodes * slot_words ≤ n) (sym c.loop-fold.invariant.1) s.requires.1.room
 
 -- the slots that are read and written
-slots : (c : tie.Else-fold-eq0 invariant-loop decreases-loop) → let l = c.before.before in let d = l.before.before in let f = l.lone-fold.result in
-    (0 < word d.loop-fold.m (f.child - 1) 0) × InSlots (f.child - 1) d.loop-fold.m × InSlots f.slot d.loop-fold.m × (word d.loop-fold.m (f.child - 1) 0 - 1 < most_particles) × (2 ≤ d.loop-fold.less.nodes)
+slots : (c : tie.Else-fold-eq0 invariant-loop decreases-loop) → let f = c.lone-fold.result in
+    (0 < word c.loop-fold.m (f.child - 1) 0) × InSlots (f.child - 1) c.loop-fold.m × InSlots f.slot c.loop-fold.m × (word c.loop-fold.m (f.child - 1) 0 - 1 < most_particles) × (2 ≤ c.loop-fold.less.nodes)
 slots c =
     let l = c.before.before in
     let d = l.before.before in
     let s = start d in
     tidy-slots _ _ _ _ _ s.requires.0 (so_far d) (room d) s.requires.1.few s.requires.1.place l.lone-fold.result l.lone-fold.ensures c.if-fold-eq0.false
 
-put : (c : tie.After-put_leaf invariant-loop decreases-loop) → let e = back c in let l = e.before.before in let d = l.before.before in let f = l.lone-fold.result in c.put_leaf.new.m ≡ put_leaf d.loop-fold.m f.slot (word d.loop-fold.m (f.child - 1) 0 - 1)
+put : (c : tie.After-put_leaf invariant-loop decreases-loop) → let e = back c in let f = e.lone-fold.result in c.put_leaf.new.m ≡ put_leaf e.loop-fold.m f.slot (word e.loop-fold.m (f.child - 1) 0 - 1)
 put c =
     let e = back c in
-    let l = e.before.before in
-    let d = l.before.before in
-    let f = l.lone-fold.result in
-    c.put_leaf.ensures ∙ ap (λ (y : ℕ). put_leaf d.loop-fold.m f.slot (y - 1)) c.before.before.tag-tag.ensures
+    let f = e.lone-fold.result in
+    c.put_leaf.ensures ∙ ap (λ (y : ℕ). put_leaf e.loop-fold.m f.slot (y - 1)) c.tag-tag.ensures
 
 returns : tie.Need-returns-then-fold-eq0 invariant-loop decreases-loop
 returns c t g =
@@ -102,8 +100,8 @@ tidy_spec =
     returns
     (λ c. search rules)
     (λ c κs. (slots c.before.before).1)
-    (λ c. let k = slots (back-from-put-leaf c) in omega (arith, k.0, c.before.tag-tag.ensures))
-    (λ c κs. let k = slots (back-from-put-leaf c) in (k.2, subst (λ (y : ℕ). y - 1 < most_particles) (sym c.before.tag-tag.ensures) k.3))
+    (λ c. let k = slots (back-from-put-leaf c) in omega (arith, k.0, c.tag-tag.ensures))
+    (λ c κs. let k = slots (back-from-put-leaf c) in (k.2, subst (λ (y : ℕ). y - 1 < most_particles) (sym c.tag-tag.ensures) k.3))
     (λ c κs. let k = slots (back c.before.before.before) in omega (arith, k.4))
     fill-requires
     (λ c. let f = c.before.before in let s = start (loop (leaf_put f.before)) in (turn f s.requires.0 s.requires.1).1)

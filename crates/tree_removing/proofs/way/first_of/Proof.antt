@@ -13,7 +13,7 @@ none : (a b : ℕ) → a ≡ 0 → b ≡ first_of a b
 none a b e = rw e
 
 returns : tie.Need-returns-then-a-ne0
-returns c = some c.before.args.a c.before.args.b c.if-a-ne0.true
+returns c = some c.args.a c.args.b c.if-a-ne0.true
 
 pub first_of_spec : {M : Type 1} → statement M
-first_of_spec = tie.close (tie.spec returns (λ c. none c.before.args.a c.before.args.b c.if-a-ne0.false))
+first_of_spec = tie.close (tie.spec returns (λ c. none c.args.a c.args.b c.if-a-ne0.false))

@@ -29,34 +29,34 @@ abbrev decreases-loop : tie.decreases-loop-way
 decreases-loop m at i x y s₀ ix₀ l₀ s ix l = 64 - l
 
 abbrev entry : tie.At-loop-way invariant-loop decreases-loop → tie.Start invariant-loop decreases-loop
-entry c = c.before.before.before.before.before.before.before
+entry c = c.before.before.before.before.before.before.before.before
 
 -- where the loop stands
 here : (c : tie.At-loop-way invariant-loop decreases-loop) → let s = entry c in (t : Tree ℕ) → Tops s.args.at.now s.args.m.now s.args.q s.args.i t
     → Come s.args.at.now s.args.i s.args.q.extent t c.loop-way.s c.loop-way.l (cell_of c.loop-way.ix)
-here c t g = let s = entry c in c.loop-way.invariant.1 s.args.q t g (less-more s.args.q.root (λ z. omega (arith, g.rooted, z))) (sym (ap cell_of c.before.with_extent-ix.ensures))
+here c t g = let s = entry c in c.loop-way.invariant.1 s.args.q t g (less-more s.args.q.root (λ z. omega (arith, g.rooted, z))) (sym (ap cell_of c.with_extent-ix.ensures))
 
 -- the quadrant is the particle's
 quadrant-is : (c : tie.After-get_and_descend-way invariant-loop decreases-loop) → let d = c.before in c.get_and_descend-way.result.quadrant ≡ side (entry d).args.at.now (entry d).args.i (cell_of d.loop-way.ix)
 quadrant-is c =
     let d = c.before in
     let s = entry d in
-    step-side s.args.at.now s.args.i (cell_of d.loop-way.ix) _ _ c.get_and_descend-way.result c.get_and_descend-way.ensures d.before.before.before.before.x_at-x.ensures d.before.before.before.y_at-y.ensures
+    step-side s.args.at.now s.args.i (cell_of d.loop-way.ix) _ _ c.get_and_descend-way.result c.get_and_descend-way.ensures d.x_at-x.ensures d.y_at-y.ensures
 
 quadrant-less : (c : tie.After-get_and_descend-way invariant-loop decreases-loop) → c.get_and_descend-way.result.quadrant < 4
 quadrant-less c =
     let d = c.before in
     let s = entry d in
-    step_less s.args.at.now s.args.i (cell_of d.loop-way.ix) _ _ c.get_and_descend-way.result c.get_and_descend-way.ensures d.before.before.before.before.x_at-x.ensures d.before.before.before.y_at-y.ensures
+    step_less s.args.at.now s.args.i (cell_of d.loop-way.ix) _ _ c.get_and_descend-way.result c.get_and_descend-way.ensures d.x_at-x.ensures d.y_at-y.ensures
 
 -- the indexer of the child's cell
-child-cell : (c : tie.After-get_and_descend-way invariant-loop decreases-loop) → let k = c.get_and_descend-way.result in (k.indexer ≡ indexer (cell_of k.indexer)) × (cell_of k.indexer ≡ quarter k.quadrant (cell_of c.before.loop-way.ix))
+child-cell : (c : tie.After-get_and_descend-way invariant-loop decreases-loop) → let k = c.get_and_descend-way.result in (k.indexer ≡ indexer (cell_of k.indexer)) × (cell_of k.indexer ≡ quarter k.quadrant (cell_of c.loop-way.ix))
 child-cell c =
     let d = c.before in
     let s = entry d in
     let k = c.get_and_descend-way.result in
-    let x = d.before.before.before.before.x_at-x.ensures in
-    let y = d.before.before.before.y_at-y.ensures in
+    let x = d.x_at-x.ensures in
+    let y = d.y_at-y.ensures in
     (step-own s.args.at.now s.args.i (cell_of d.loop-way.ix) _ _ k c.get_and_descend-way.ensures x y, step-cell s.args.at.now s.args.i (cell_of d.loop-way.ix) _ _ k c.get_and_descend-way.ensures x y)
 
 -- the child's number
@@ -146,7 +146,7 @@ child-slot c =
     (reach-each s.args.at.now s.args.i (d.loop-way.l + 1) s.args.q.extent t (quarter k (cell_of d.loop-way.ix)) (pick n.t0 n.t1 n.t2 n.t3 k)
     (come-below s.args.at.now s.args.i s.args.q.extent t s.args.m.now g.stored g.lent g.levels d.loop-way.s d.loop-way.l (cell_of d.loop-way.ix) n k (quadrant-is b)) (λ j. InSlots j s.args.m.now) g.lent)
 
-turned : (c : tie.Else-tag-ne0 invariant-loop decreases-loop) → c.before.before.before.before.before.loop-way.l < 64
+turned : (c : tie.Else-tag-ne0 invariant-loop decreases-loop) → c.loop-way.l < 64
 turned c = let d = c.before.before.before.before.before in let s = entry d in let p = s.requires in (turn c s.args.q p.0 p.1 (here d p.0 p.1)).0
 
 loop-again : tie.Need-loop-way-preserved invariant-loop decreases-loop

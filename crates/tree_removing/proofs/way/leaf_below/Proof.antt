@@ -17,29 +17,26 @@ invariant-loop m s x₀ l₀ x l = (t : Tree ℕ) → StandsFrom m s t → Deepe
 abbrev decreases-loop : tie.decreases-loop-s
 decreases-loop m s x₀ l₀ x l = 64 - l
 
-slot : (c : tie.At-loop-s invariant-loop decreases-loop) → InSlots c.loop-s.x c.before.before.args.m.now
-slot c = let p = c.before.before.requires in deeper_slot _ p.0 _ _ (c.loop-s.invariant p.0 p.1)
+slot : (c : tie.At-loop-s invariant-loop decreases-loop) → InSlots c.loop-s.x c.args.m.now
+slot c = let p = c.requires in deeper_slot _ p.0 _ _ (c.loop-s.invariant p.0 p.1)
 
 returns : tie.Need-returns-then-tag-ne0 invariant-loop decreases-loop
 returns c t g =
-    let d = c.before.before in
-    subst (λ (w : ℕ). LeafOf (w - 1) t) (sym c.before.tag-tag.ensures) (deeper_leaf _ t _ _ (d.loop-s.invariant t g) (λ z. c.if-tag-ne0.true (c.before.tag-tag.ensures ∙ z)))
+    subst (λ (w : ℕ). LeafOf (w - 1) t) (sym c.tag-tag.ensures) (deeper_leaf _ t _ _ (c.loop-s.invariant t g) (λ z. c.if-tag-ne0.true (c.tag-tag.ensures ∙ z)))
 
 -- the child's number, as the slot has it
-child-is : (c : tie.After-some_child-child invariant-loop decreases-loop) → let d = c.before.before.before.before in c.some_child-child.result ≡ some_kid (kids d.before.before.args.m.now d.loop-s.x)
-child-is c = c.some_child-child.ensures ∙ ap some_kid c.before.children.ensures
+child-is : (c : tie.After-some_child-child invariant-loop decreases-loop) → c.some_child-child.result ≡ some_kid (kids c.args.m.now c.loop-s.x)
+child-is c = c.some_child-child.ensures ∙ ap some_kid c.children.ensures
 
-turn : (c : tie.After-some_child-child invariant-loop decreases-loop) → let d = c.before.before.before.before in let m = d.before.before.args.m.now in (t : Tree ℕ) → StandsFrom m d.before.before.args.s t
-    → (0 < c.some_child-child.result) × (d.loop-s.l < 64) × Deeper m t (c.some_child-child.result - 1) (d.loop-s.l + 1)
+turn : (c : tie.After-some_child-child invariant-loop decreases-loop) → let m = c.args.m.now in (t : Tree ℕ) → StandsFrom m c.args.s t
+    → (0 < c.some_child-child.result) × (c.loop-s.l < 64) × Deeper m t (c.some_child-child.result - 1) (c.loop-s.l + 1)
 turn c t g =
-    let d = c.before.before.before.before in
-    let s = d.before.before in
-    let z = c.before.before.before.tag-tag.ensures in
-    subst (λ (y : ℕ). (0 < y) × (d.loop-s.l < 64) × Deeper s.args.m.now t (y - 1) (d.loop-s.l + 1)) (sym (child-is c))
-    (deeper-turn _ t _ _ (d.loop-s.invariant t g) (sym z ∙ c.before.before.if-tag-ne0.false))
+    let z = c.tag-tag.ensures in
+    subst (λ (y : ℕ). (0 < y) × (c.loop-s.l < 64) × Deeper c.args.m.now t (y - 1) (c.loop-s.l + 1)) (sym (child-is c))
+    (deeper-turn _ t _ _ (c.loop-s.invariant t g) (sym z ∙ c.if-tag-ne0.false))
 
-turned : (c : tie.After-some_child-child invariant-loop decreases-loop) → (0 < c.some_child-child.result) × (c.before.before.before.before.loop-s.l < 64)
-turned c = let p = c.before.before.before.before.before.before.requires in let t = turn c p.0 p.1 in (t.0, t.1)
+turned : (c : tie.After-some_child-child invariant-loop decreases-loop) → (0 < c.some_child-child.result) × (c.loop-s.l < 64)
+turned c = let p = c.requires in let t = turn c p.0 p.1 in (t.0, t.1)
 
 pub leaf_below_spec : {M : Type 1} → statement M
 leaf_below_spec =

@@ -27,7 +27,7 @@ abbrev decreases-loop : tie.decreases-loop-way
 decreases-loop m at x f u v s₀ ix₀ l₀ s ix l = 64 - l
 
 abbrev entry : tie.At-loop-way invariant-loop decreases-loop → tie.Start invariant-loop decreases-loop
-entry c = c.before.before.before.before.before.before.before
+entry c = c.before.before.before.before.before.before.before.before
 
 rooted : (at : List Float) (m : List ℕ) (q : Quadtree) (x f : ℕ) (t : Tree ℕ) → Under at m q x f t → 1 ≤ q.root
 rooted at m q x f t g = go t g.leads g.way
@@ -40,29 +40,29 @@ rooted at m q x f t g = go t g.leads g.way
 -- where the loop stands
 here : (c : tie.At-loop-way invariant-loop decreases-loop) → let s = entry c in (t : Tree ℕ) → Under s.args.at.now s.args.m.now s.args.q s.args.x s.args.f t
     → Nears s.args.at.now s.args.f s.args.q.extent t s.args.x c.loop-way.s c.loop-way.l (cell_of c.loop-way.ix)
-here c t g = let s = entry c in c.loop-way.invariant.1 s.args.q t g (less-more s.args.q.root (λ z. omega (arith, rooted _ _ _ _ _ t g, z))) (sym (ap cell_of c.before.with_extent-ix.ensures))
+here c t g = let s = entry c in c.loop-way.invariant.1 s.args.q t g (less-more s.args.q.root (λ z. omega (arith, rooted _ _ _ _ _ t g, z))) (sym (ap cell_of c.with_extent-ix.ensures))
 
 -- the quadrant is the particle's
 quadrant-is : (c : tie.After-get_and_descend-way invariant-loop decreases-loop) → let d = c.before in c.get_and_descend-way.result.quadrant ≡ side (entry d).args.at.now (entry d).args.f (cell_of d.loop-way.ix)
 quadrant-is c =
     let d = c.before in
     let s = entry d in
-    step-side s.args.at.now s.args.f (cell_of d.loop-way.ix) _ _ c.get_and_descend-way.result c.get_and_descend-way.ensures d.before.before.before.before.x_at-u.ensures d.before.before.before.y_at-v.ensures
+    step-side s.args.at.now s.args.f (cell_of d.loop-way.ix) _ _ c.get_and_descend-way.result c.get_and_descend-way.ensures d.x_at-u.ensures d.y_at-v.ensures
 
 quadrant-less : (c : tie.After-get_and_descend-way invariant-loop decreases-loop) → c.get_and_descend-way.result.quadrant < 4
 quadrant-less c =
     let d = c.before in
     let s = entry d in
-    step_less s.args.at.now s.args.f (cell_of d.loop-way.ix) _ _ c.get_and_descend-way.result c.get_and_descend-way.ensures d.before.before.before.before.x_at-u.ensures d.before.before.before.y_at-v.ensures
+    step_less s.args.at.now s.args.f (cell_of d.loop-way.ix) _ _ c.get_and_descend-way.result c.get_and_descend-way.ensures d.x_at-u.ensures d.y_at-v.ensures
 
 -- the indexer of the child's cell
-child-cell : (c : tie.After-get_and_descend-way invariant-loop decreases-loop) → let k = c.get_and_descend-way.result in (k.indexer ≡ indexer (cell_of k.indexer)) × (cell_of k.indexer ≡ quarter k.quadrant (cell_of c.before.loop-way.ix))
+child-cell : (c : tie.After-get_and_descend-way invariant-loop decreases-loop) → let k = c.get_and_descend-way.result in (k.indexer ≡ indexer (cell_of k.indexer)) × (cell_of k.indexer ≡ quarter k.quadrant (cell_of c.loop-way.ix))
 child-cell c =
     let d = c.before in
     let s = entry d in
     let k = c.get_and_descend-way.result in
-    let x = d.before.before.before.before.x_at-u.ensures in
-    let y = d.before.before.before.y_at-v.ensures in
+    let x = d.x_at-u.ensures in
+    let y = d.y_at-v.ensures in
     (step-own s.args.at.now s.args.f (cell_of d.loop-way.ix) _ _ k c.get_and_descend-way.ensures x y, step-cell s.args.at.now s.args.f (cell_of d.loop-way.ix) _ _ k c.get_and_descend-way.ensures x y)
 
 -- the child's number
@@ -107,7 +107,7 @@ turn c q t g n =
     subst (λ (y : ℕ). (0 < y) × (d.loop-way.l < 64) × Nears s.args.at.now s.args.f q.extent t s.args.x (y - 1) (d.loop-way.l + 1) (quarter k (cell_of d.loop-way.ix))) (sym (child-of a q t g n))
     (nears_turn s.args.at.now s.args.f q.extent t s.args.m.now g.stored g.lent g.levels s.args.x d.loop-way.s d.loop-way.l (cell_of d.loop-way.ix) n k (quadrant-is b) (λ z. c.if-child-x.false (child-of a q t g n ∙ z)))
 
-turned : (c : tie.Else-child-x invariant-loop decreases-loop) → (0 < get_or c.before.children-children.result c.before.before.get_and_descend-way.result.quadrant 0) × (c.before.before.before.loop-way.l < 64)
+turned : (c : tie.Else-child-x invariant-loop decreases-loop) → (0 < get_or c.children-children.result c.get_and_descend-way.result.quadrant 0) × (c.loop-way.l < 64)
 turned c = let d = c.before.before.before in let s = entry d in let p = s.requires in let t = turn c s.args.q p.0 p.1 (here d p.0 p.1) in (t.0, t.1)
 
 loop-again : tie.Need-loop-way-preserved invariant-loop decreases-loop
@@ -118,7 +118,7 @@ loop-again c =
     let s = entry d in
     let w = child-cell b in (
       w.0,
-      λ q t g er ee. subst (λ (y : Extent). Nears s.args.at.now s.args.f q.extent t s.args.x (get_or e.before.children-children.result b.get_and_descend-way.result.quadrant 0 - 1) (d.loop-way.l + 1) y) (sym w.1)
+      λ q t g er ee. subst (λ (y : Extent). Nears s.args.at.now s.args.f q.extent t s.args.x (get_or e.children-children.result b.get_and_descend-way.result.quadrant 0 - 1) (d.loop-way.l + 1) y) (sym w.1)
           (turn e q t g (d.loop-way.invariant.1 q t g er ee)).2,
     )
 

@@ -26,7 +26,7 @@ returns : tie.Need-returns
 returns c =
     let w = c.before.before.before.before in
     let s = w.before.before.before in
-    kids-read s.args.m.now s.args.s w.before.word_at-left.ensures w.word_at-right.ensures c.before.before.before.low_half_lem.ensures c.before.before.high_half_lem.ensures c.before.low_half-c2.ensures c.high_half-c3.ensures
+    kids-read s.args.m.now s.args.s w.before.word_at-left.ensures w.word_at-right.ensures c.before.before.before.low_half-c0.ensures c.before.before.high_half-c1.ensures c.before.low_half-c2.ensures c.high_half-c3.ensures
 
 pub children_spec : {M : Type 1} → statement M
 children_spec =

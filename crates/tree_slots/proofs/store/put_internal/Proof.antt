@@ -41,7 +41,7 @@ returns c =
     let u = v.before.before.before.before in
     let r = u.before.before in
     let s = r.before.before.before in
-    internal_put s.args.m-1.now s.args.s s.args.t3 r.before.pair-left.ensures r.pair-right.ensures u.put_word.ensures v.put_word-2.ensures w.put_word-3.ensures
+    internal_put s.args.m.now s.args.s s.args.children r.before.pair-left.ensures r.pair-right.ensures u.put_word.ensures v.put_word-2.ensures w.put_word-3.ensures
 
 pub put_internal_spec : {M : Type 1} → statement M
 put_internal_spec =

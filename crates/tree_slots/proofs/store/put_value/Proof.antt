@@ -23,7 +23,7 @@ unfolding put_value
 returns c =
     let w = c.before.before in
     let s = w.before.before.before.before in
-    w.put_word.ensures ∙ ap (λ (b : ℕ). put s.args.m-1.now s.args.s (3 + s.args.j) b) w.before.bits_of.ensures
+    w.put_word.ensures ∙ ap (λ (b : ℕ). put s.args.m.now s.args.s (3 + s.args.j) b) w.before.bits_of.ensures
 
 pub put_value_spec : {M : Type 1} → statement M
 put_value_spec =

@@ -8,14 +8,14 @@ use Rattle.tree_walk.proofs.visit.push_cell.Statement.{statement}
 use Rattle.tree_walk.proofs.visit.push_cell.Tie as tie
 
 -- a child finds room
-low : (c : tie.Else-number-eq0) → c.before.args.h < most_waiting
-low c = omega (arith, above-some c.before.args.h c.before.args.number c.if-number-eq0.false, c.before.requires)
+low : (c : tie.Else-number-eq0) → c.args.h < most_waiting
+low c = omega (arith, above-some c.args.h c.args.number c.if-number-eq0.false, c.requires)
 
 returns : tie.Need-returns-then-number-eq0
-returns c = (cell-none _ c.before.args.h _ c.before.args.c c.if-number-eq0.true, sym (above-none _ _ c.if-number-eq0.true))
+returns c = (cell-none _ c.args.h _ c.args.c c.if-number-eq0.true, sym (above-none _ _ c.if-number-eq0.true))
 
 returns-2 : tie.Need-returns
-returns-2 c = (cell-some _ c.before.args.h _ c.before.args.c c.if-number-eq0.false, sym (above-some _ _ c.if-number-eq0.false))
+returns-2 c = (cell-some _ c.args.h _ c.args.c c.if-number-eq0.false, sym (above-some _ _ c.if-number-eq0.false))
 
 pub push_cell_spec : {M : Type 1} → statement M
 push_cell_spec =

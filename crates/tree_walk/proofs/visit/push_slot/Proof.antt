@@ -9,15 +9,15 @@ use Rattle.tree_walk.proofs.visit.push_slot.Statement.{statement}
 use Rattle.tree_walk.proofs.visit.push_slot.Tie as tie
 
 -- a child finds room
-low : (c : tie.Else-number-eq0) → c.before.args.h < most_waiting
-low c = omega (arith, above-some c.before.args.h c.before.args.number c.if-number-eq0.false, c.before.requires)
+low : (c : tie.Else-number-eq0) → c.args.h < most_waiting
+low c = omega (arith, above-some c.args.h c.args.number c.if-number-eq0.false, c.requires)
 
 returns : tie.Need-returns-then-number-eq0
-returns c = (slot_none _ c.before.args.h _ c.if-number-eq0.true, sym (above-none _ _ c.if-number-eq0.true))
+returns c = (slot_none _ c.args.h _ c.if-number-eq0.true, sym (above-none _ _ c.if-number-eq0.true))
 
 returns-2 : tie.Need-returns
-returns-2 c = (slot_some _ c.before.args.h _ c.if-number-eq0.false, sym (above-some _ _ c.if-number-eq0.false))
+returns-2 c = (slot_some _ c.args.h _ c.if-number-eq0.false, sym (above-some _ _ c.if-number-eq0.false))
 
 pub push_slot_spec : {M : Type 1} → statement M
 push_slot_spec =
-    tie.close (tie.spec returns (λ c. search rules) (λ c. omega (arith, low c)) (λ c. omega (arith, low c)) (λ c. omega (arith, low c)) returns-2)
+    tie.close (tie.spec returns (λ c. search rules) (λ c. omega (arith, low c)) (λ c. omega (arith, low c.before)) (λ c. omega (arith, low c.before)) returns-2)

@@ -13,26 +13,26 @@ abbrev entry : tie.After-push_slot-arg-3-1 → tie.Start
 entry c = c.before.before.before.before.before
 
 push-slot-requires : tie.Need-push_slot-h2-requires
-push-slot-requires c κs = fits2 _ _ c.before.requires
+push-slot-requires c κs = fits2 _ _ c.requires
 
 push-slot-requires-2 : tie.Need-push_slot-h1-requires
-push-slot-requires-2 c κs = rw c.before.push_slot-h2.ensures.1 (fits1 _ _ c.before.before.before.requires)
+push-slot-requires-2 c κs = rw c.push_slot-h2.ensures.1 (fits1 _ _ c.requires)
 
 push-slot-requires-3 : tie.Need-push_slot-h0-requires
-push-slot-requires-3 c κs = rw (c.before.push_slot-h1.ensures.1, c.before.before.before.push_slot-h2.ensures.1) (fits0 _ _ (entry c).requires)
+push-slot-requires-3 c κs = rw (c.push_slot-h1.ensures.1, c.push_slot-h2.ensures.1) (fits0 _ _ (entry c).requires)
 
 push-slot-requires-4 : tie.Need-push_slot-requires
 unfolding height_after
-push-slot-requires-4 c κs = rw (c.before.push_slot-h0.ensures.1, (slot-pushed2 c).push_slot-h1.ensures.1, slot-pushed2, (slot-pushed2 c).before.before.push_slot-h2.ensures.1) (entry c.before.before).requires
+push-slot-requires-4 c κs = rw (c.push_slot-h0.ensures.1, (slot-pushed2 c).push_slot-h1.ensures.1, slot-pushed2, (slot-pushed2 c).push_slot-h2.ensures.1) (entry c.before.before).requires
 
 returns : tie.Need-returns
 returns c =
     let a = entry c.before.before.before in
-    let e2 = (slot-pushed2 c.before).before.before.push_slot-h2.ensures in
+    let e2 = (slot-pushed2 c.before).push_slot-h2.ensures in
     let e1 = (slot-pushed2 c.before).push_slot-h1.ensures in
-    let e0 = c.before.before.push_slot-h0.ensures in
+    let e0 = c.push_slot-h0.ensures in
     let e = c.push_slot.ensures in
-    (slots-laid a.args.h a.args.t3 e2.1 e1.1 e0.1 a.args.slots.now e2.0 e1.0 e0.0 e.0, height_laid a.args.h a.args.t3 e2.1 e1.1 e0.1 e.1)
+    (slots-laid a.args.h a.args.children e2.1 e1.1 e0.1 a.args.slots.now e2.0 e1.0 e0.0 e.0, height_laid a.args.h a.args.children e2.1 e1.1 e0.1 e.1)
 
 pub push_slots_spec : {M : Type 1} → statement M
 push_slots_spec =

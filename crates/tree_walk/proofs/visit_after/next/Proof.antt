@@ -27,7 +27,7 @@ abbrev widened : tie.Else-tag-ne0 invariant-loop decreases-loop → tie.After-wi
 widened c = c.before.before.before
 
 abbrev loop-from-tag-read : tie.After-tag invariant-loop decreases-loop → tie.At-loop-height invariant-loop decreases-loop
-loop-from-tag-read c = c.before.before.before.before
+loop-from-tag-read c = c.before.before.before.before.before
 
 abbrev loop : tie.After-wide invariant-loop decreases-loop → tie.At-loop-height invariant-loop decreases-loop
 loop c = loop-from-tag-read c.before.before.before.before
@@ -37,7 +37,7 @@ entry c = (loop-from-tag-read c).before.before
 
 loop-holds : tie.Need-loop-height-init invariant-loop decreases-loop
 loop-holds c =
-    let a = c.before in
+    let a = c in
     let e : a.args.height ≡ suc (a.args.height - 1) = omega (arith, a.requires.some) in
     ((λ next rest k. subst (λ (h : ℕ). Climbs a.args.m.now next (steps_at a.args.steps.now h) rest) e k), a.requires.sized)
 
@@ -49,37 +49,37 @@ slot c = get_or c.loop-height.steps (c.loop-height.h * 2) 0
 abbrev turned : tie.At-loop-height invariant-loop decreases-loop → ℕ
 turned c = get_or c.loop-height.steps (c.loop-height.h * 2 + 1) 0
 
-here : (c : tie.At-loop-height invariant-loop decreases-loop) → Climbs c.before.before.args.m.now c.before.before.requires.next (steps_at c.loop-height.steps (suc c.loop-height.h)) c.before.before.requires.rest
-here c = c.loop-height.invariant.0 c.before.before.requires.next c.before.before.requires.rest c.before.before.requires.climbs
+here : (c : tie.At-loop-height invariant-loop decreases-loop) → Climbs c.args.m.now c.requires.next (steps_at c.loop-height.steps (suc c.loop-height.h)) c.requires.rest
+here c = c.loop-height.invariant.0 c.requires.next c.requires.rest c.requires.climbs
 
-near : (c : tie.At-loop-height invariant-loop decreases-loop) → InSlots (slot c) c.before.before.args.m.now × (c.loop-height.h ≤ 64) × (turned c ≤ 4)
-near c = lent c.before.before.args.m.now c.before.before.requires.next c.loop-height.steps c.loop-height.h c.before.before.requires.rest (here c)
+near : (c : tie.At-loop-height invariant-loop decreases-loop) → InSlots (slot c) c.args.m.now × (c.loop-height.h ≤ 64) × (turned c ≤ 4)
+near c = lent c.args.m.now c.requires.next c.loop-height.steps c.loop-height.h c.requires.rest (here c)
 
 tagged : (c : tie.After-tag invariant-loop decreases-loop) → c.tag.result ≡ word (entry c).args.m.now (slot (loop-from-tag-read c)) 0
-tagged c = c.tag.ensures ∙ ap (λ (s : ℕ). word (entry c).args.m.now s 0) c.before.before.wide-s.ensures
+tagged c = c.tag.ensures ∙ ap (λ (s : ℕ). word (entry c).args.m.now s 0) c.wide-s.ensures
 
 inner : (c : tie.Else-quadrant-gt3 invariant-loop decreases-loop) → word (entry c.before.before).args.m.now (slot (loop-from-tag-read c.before.before)) 0 ≡ 0
-inner c = sym (tagged c.before.before) ∙ c.before.if-tag-ne0.false
+inner c = sym (tagged c.before.before) ∙ c.if-tag-ne0.false
 
 child-is : (c : tie.After-wide invariant-loop decreases-loop)
-    → get_or c.before.children-children.result c.wide.result 0 ≡ kid (loop c).before.before.args.m.now (slot (loop c)) (turned (loop c))
+    → get_or c.children-children.result c.wide.result 0 ≡ kid (loop c).args.m.now (slot (loop c)) (turned (loop c))
 child-is c =
-    kid-read (loop c).before.before.args.m.now c.before.children-children.result (slot (loop c)) (widened c.before.before.before).wide-s.result (turned (loop c)) c.wide.result
-    c.before.children-children.ensures (widened c.before.before.before).wide-s.ensures c.wide.ensures (omega (arith, c.before.before.if-quadrant-gt3.false))
+    kid-read (loop c).args.m.now c.children-children.result (slot (loop c)) (widened c.before.before.before).wide-s.result (turned (loop c)) c.wide.result
+    c.children-children.ensures (widened c.before.before.before).wide-s.ensures c.wide.ensures (omega (arith, c.if-quadrant-gt3.false))
 
 -- a child finds room
 far : (c : tie.Then-child-ne0 invariant-loop decreases-loop) → (loop c.before).loop-height.h < 64
 far c =
     let l = loop c.before in
-    deep l.before.before.args.m.now l.before.before.requires.next l.loop-height.steps l.loop-height.h l.before.before.requires.rest (here l) (inner c.before.before.before)
-    (omega (arith, c.before.before.before.if-quadrant-gt3.false)) l.loop-height.invariant.1 (λ n. c.if-child-ne0.true (child-is c.before ∙ n))
+    deep l.args.m.now l.requires.next l.loop-height.steps l.loop-height.h l.requires.rest (here l) (inner c.before.before.before)
+    (omega (arith, c.if-quadrant-gt3.false)) l.loop-height.invariant.1 (λ n. c.if-child-ne0.true (child-is c.before ∙ n))
 
 returns : tie.Need-returns-then-tag-ne0 invariant-loop decreases-loop
 returns c =
     let l = loop-from-tag-read c.before in
     record {
-      first = λ next rest k. subst⁻¹ (λ (s : ℕ). First l.before.before.args.m.now next l.loop-height.steps l.loop-height.h s rest) c.before.before.before.wide-s.ensures
-          (first_leaf l.before.before.args.m.now next l.loop-height.steps l.loop-height.h rest (l.loop-height.invariant.0 next rest k) (λ z. c.if-tag-ne0.true (tagged c.before ∙ z)));
+      first = λ next rest k. subst⁻¹ (λ (s : ℕ). First l.args.m.now next l.loop-height.steps l.loop-height.h s rest) c.wide-s.ensures
+          (first_leaf l.args.m.now next l.loop-height.steps l.loop-height.h rest (l.loop-height.invariant.0 next rest k) (λ z. c.if-tag-ne0.true (tagged c.before ∙ z)));
       sized = l.loop-height.invariant.1;
     }
 
@@ -87,8 +87,8 @@ returns-2 : tie.Need-returns-then-quadrant-gt3 invariant-loop decreases-loop
 returns-2 c =
     let l = loop-from-tag-read c.before.before in
     record {
-      first = λ next rest k. subst⁻¹ (λ (s : ℕ). First l.before.before.args.m.now next l.loop-height.steps l.loop-height.h s rest) (widened c.before).wide-s.ensures
-          (first-node l.before.before.args.m.now next l.loop-height.steps l.loop-height.h rest (l.loop-height.invariant.0 next rest k) (sym (tagged c.before.before) ∙ c.before.if-tag-ne0.false) c.if-quadrant-gt3.true);
+      first = λ next rest k. subst⁻¹ (λ (s : ℕ). First l.args.m.now next l.loop-height.steps l.loop-height.h s rest) (widened c.before).wide-s.ensures
+          (first-node l.args.m.now next l.loop-height.steps l.loop-height.h rest (l.loop-height.invariant.0 next rest k) (sym (tagged c.before.before) ∙ c.if-tag-ne0.false) c.if-quadrant-gt3.true);
       sized = l.loop-height.invariant.1;
     }
 
@@ -98,16 +98,16 @@ loop-less c =
     omega (
       arith,
       far c,
-      c.before.before.before.if-quadrant-gt3.false,
-      top_down (set l.loop-height.steps (l.loop-height.h * 2 + 1) (turned l + 1)) l.loop-height.h (get_or c.before.before.children-children.result c.before.wide.result 0 - 1)
+      c.if-quadrant-gt3.false,
+      top_down (set l.loop-height.steps (l.loop-height.h * 2 + 1) (turned l + 1)) l.loop-height.h (get_or c.children-children.result c.wide.result 0 - 1)
           (rw length-set (omega (arith, far c, l.loop-height.invariant.1))),
     )
 
 loop-again : tie.Need-loop-height-preserved-then-child-ne0 invariant-loop decreases-loop
 loop-again c =
     let l = loop c.before in (
-      (λ next rest k. turn-child l.before.before.args.m.now next l.loop-height.steps l.loop-height.h rest (l.loop-height.invariant.0 next rest k) (inner c.before.before.before)
-          (omega (arith, c.before.before.before.if-quadrant-gt3.false)) l.loop-height.invariant.1 (get_or c.before.before.children-children.result c.before.wide.result 0) (child-is c.before) c.if-child-ne0.true (omega (arith, far c, l.loop-height.invariant.1))),
+      (λ next rest k. turn-child l.args.m.now next l.loop-height.steps l.loop-height.h rest (l.loop-height.invariant.0 next rest k) (inner c.before.before.before)
+          (omega (arith, c.if-quadrant-gt3.false)) l.loop-height.invariant.1 (get_or c.children-children.result c.wide.result 0) (child-is c.before) c.if-child-ne0.true (omega (arith, far c, l.loop-height.invariant.1))),
       simp length-set l.loop-height.invariant.1,
     )
 
@@ -119,8 +119,8 @@ loop-less-2 c =
 loop-again-2 : tie.Need-loop-height-preserved invariant-loop decreases-loop
 loop-again-2 c =
     let l = loop c.before in (
-      (λ next rest k. turn-past l.before.before.args.m.now next l.loop-height.steps l.loop-height.h rest (l.loop-height.invariant.0 next rest k) (inner c.before.before.before)
-          (omega (arith, c.before.before.before.if-quadrant-gt3.false)) l.loop-height.invariant.1 (sym (child-is c.before) ∙ c.if-child-ne0.false)),
+      (λ next rest k. turn-past l.args.m.now next l.loop-height.steps l.loop-height.h rest (l.loop-height.invariant.0 next rest k) (inner c.before.before.before)
+          (omega (arith, c.if-quadrant-gt3.false)) l.loop-height.invariant.1 (sym (child-is c.before) ∙ c.if-child-ne0.false)),
       simp length-set l.loop-height.invariant.1,
     )
 
@@ -134,19 +134,19 @@ next_spec =
     loop-holds
     (λ c. omega (arith, near c))
     (λ c. omega (arith, near c))
-    (λ c. omega (arith, near c))
+    (λ c. omega (arith, near c.before))
     (λ c κs. search rules)
-    (λ c. omega (arith, near c.before.before))
-    (λ c. omega (arith, near c.before.before))
-    (λ c. omega (arith, near c.before.before))
-    (λ c κs. omega (arith, near c.before.before.before, c.before.wide-s.ensures))
+    (λ c. omega (arith, near c.before.before.before))
+    (λ c. omega (arith, near c.before.before.before))
+    (λ c. omega (arith, near c.before.before.before))
+    (λ c κs. omega (arith, near c.before.before.before.before, c.wide-s.ensures))
     returns
     returns-2
     (λ c κs. omega (arith, near (loop-from-tag-read c.before.before), (widened c.before).wide-s.ensures))
     (λ c κs. search rules)
-    (λ c. omega (arith, c.wide.ensures, c.before.before.if-quadrant-gt3.false))
-    (λ c. omega (arith, c.wide.ensures, c.before.before.if-quadrant-gt3.false))
-    (λ c. omega (arith, c.before.before.if-quadrant-gt3.false))
+    (λ c. omega (arith, c.wide.ensures, c.if-quadrant-gt3.false))
+    (λ c. omega (arith, c.wide.ensures, c.if-quadrant-gt3.false))
+    (λ c. omega (arith, c.if-quadrant-gt3.false))
     (λ c. omega (arith, near (loop c)))
     (λ c. omega (arith, near (loop c)))
     (λ c. omega (arith, near (loop c)))
