@@ -60,7 +60,7 @@ module _ (d : tie.Else-number-ne0) where
   start = entry d.before
 
   past : checks start ≡ fine
-  past = passed (checks start) d.lent_check-r.result (early start) d.lent_check-r.ensures d.if-number-ne0.left
+  past = passed (checks start) d.lent_check-r.result (early start) d.lent_check-r.ensures d.if-number-ne0.false
 
   passed-lent : Lent (input start) (force start) (paired start)
   passed-lent = lent-all (input start) (force start) (paired start) past

@@ -25,8 +25,8 @@ use Rattle.link_call.proofs.on_part.Statement.{statement}
 use Rattle.link_call.proofs.on_part.Tie as tie
 
 -- the points of the code, each from a later one
-abbrev entry : tie.After-read-pairs-arg2 → tie.Start
-entry c = c.before.before.before.before.before.before.before.before.before.before
+abbrev entry : tie.After-read_pairs-arg-1 → tie.Start
+entry c = c.before.before.before.before.before.before.before.before.before
 
 abbrev read : tie.After-numbers_check-r → tie.After-read_pairs
 read c = c.before.before.before
@@ -34,8 +34,8 @@ read c = c.before.before.before
 abbrev checked : tie.After-link-arg-1 → tie.Else-number-ne0
 checked c = c.before
 
-abbrev ran : tie.After-settle-arg3 → tie.After-link-ran
-ran c = c.before.before.before.before.before
+abbrev ran : tie.After-settle-arg-2-1 → tie.After-link-ran
+ran c = c.before.before.before.before
 
 abbrev settled : tie.After-slice_known-7-1 → tie.After-settle
 settled c = c.before.before.before.before

@@ -38,8 +38,8 @@ leaf-charged c = c.before.before.before.before
 abbrev then1 : tie.After-slice_known-then-tag-eq0-1 invariant-loop decreases-loop → tie.Then-tag-eq0 invariant-loop decreases-loop
 then1 c = c.before.before.before.before.before
 
-abbrev advanced-from-node-charge : tie.After-node-charge-arg2 invariant-loop decreases-loop → tie.After-next-e invariant-loop decreases-loop
-advanced-from-node-charge c = c.before.before.before.before.before
+abbrev advanced-from-node-charge : tie.After-node_charge-arg-1 invariant-loop decreases-loop → tie.After-next-e invariant-loop decreases-loop
+advanced-from-node-charge c = c.before.before.before
 
 abbrev advanced : tie.After-index invariant-loop decreases-loop → tie.After-next-e invariant-loop decreases-loop
 advanced c = c.before.before.before
@@ -59,7 +59,7 @@ entry-from-index c = entry (loop (advanced c))
 loop-holds : tie.Need-loop-left-init invariant-loop decreases-loop
 loop-holds c = λ q s e k.
     let a = (strengths-known c).args in
-    subst⁻¹ (λ (n : ℕ). Fill a.at.now a.strengths.now a.next-e.now s.tree a.m.now a.m.now c.begin-p.result n) k
+    subst⁻¹ (λ (n : ℕ). Fill a.at.now a.strengths.now a.next.now s.tree a.m.now a.m.now c.begin-p.result n) k
     (start read_charge put_charge (leaf_charge a.at.now a.strengths.now) node_charge (Few (length a.strengths.now)) s (chains-few a.at.now (length a.strengths.now) s) c.begin-p.result e c.begin-p.ensures.1)
 
 -- over the tree that was handed in
@@ -69,37 +69,37 @@ mine : (c : tie.At-loop-left invariant-loop decreases-loop)
 mine c = let s = entry c in c.loop-left.invariant s.args.q s.requires.0 c.begin-p.ensures.0 refl
 
 next-requires : tie.Need-next-e-requires invariant-loop decreases-loop
-next-requires c κs = climbing (mine c.before.before.before) c.loop-left-test.true
+next-requires c κs = climbing (mine c.before.before) c.loop-left-test.true
 
 -- a turn of it, with the next node taken
 abbrev Turn : (c : tie.After-next-e invariant-loop decreases-loop) → Tree ℕ → Type 0
 Turn c tree =
     let l = loop c in
     let a = (entry l).args in
-    Taken read_charge put_charge (leaf_charge a.at.now a.strengths.now) node_charge (Few (length a.strengths.now)) a.next-e.now tree a.m.now l.loop-left.m l.loop-left.p l.loop-left.left c.next-e.new.steps c.next-e.result
+    Taken read_charge put_charge (leaf_charge a.at.now a.strengths.now) node_charge (Few (length a.strengths.now)) a.next.now tree a.m.now l.loop-left.m l.loop-left.p l.loop-left.left c.next-e.new.steps c.next-e.result
 
 taken : (c : tie.After-next-e invariant-loop decreases-loop) (tree : Tree ℕ)
     → (let l = loop c in
     let a = (entry l).args in
-    Fill a.at.now a.strengths.now a.next-e.now tree a.m.now l.loop-left.m l.loop-left.p l.loop-left.left)
+    Fill a.at.now a.strengths.now a.next.now tree a.m.now l.loop-left.m l.loop-left.p l.loop-left.left)
     → Turn c tree
 taken c tree f = record { filling = f; more = c.loop-left-test.true; went = c.next-e.ensures }
 
 own : (c : tie.After-next-e invariant-loop decreases-loop) → Turn c (entry (loop c)).requires.0.tree
 own c = taken c _ (mine (loop c))
 
-internal : (c : tie.Then-tag-eq0 invariant-loop decreases-loop) → word (loop c.before.before.before).loop-left.m c.next-e.result.slot 0 ≡ 0
+internal : (c : tie.Then-tag-eq0 invariant-loop decreases-loop) → word (loop c.before.before).loop-left.m c.next-e.result.slot 0 ≡ 0
 internal c = sym c.tag-tag.ensures ∙ c.if-tag-eq0.true
 
 loop-again : tie.Need-loop-left-preserved-then-tag-eq0 invariant-loop decreases-loop
 loop-again c = λ q s e k.
     let t = then1 c in
-    let n = t.before.before.before in
+    let n = t.before.before in
     let l = loop n in
     turn-node (taken n s.tree (l.loop-left.invariant q s e k)) (internal t) charge_values c.put_charge.new.m
     (c.put_charge.ensures ∙ ap (put_charge l.loop-left.m n.next-e.result.slot) c.node_charge.ensures)
 
-leaf : (c : tie.Else-tag-eq0 invariant-loop decreases-loop) → word (loop c.before.before.before).loop-left.m c.next-e.result.slot 0 ≡ 0 → ⊥
+leaf : (c : tie.Else-tag-eq0 invariant-loop decreases-loop) → word (loop c.before.before).loop-left.m c.next-e.result.slot 0 ≡ 0 → ⊥
 leaf c z = c.if-tag-eq0.false (c.tag-tag.ensures ∙ z)
 
 -- the leaf's chain, from the first particle that was read
@@ -116,7 +116,7 @@ loop-again-2 c = λ q s e k.
     turn-leaf (taken n s.tree (l.loop-left.invariant q s e k)) (leaf i.before) charge_values c.put_charge-else-tag-eq0.new.m
     (λ is f b p.
     c.put_charge-else-tag-eq0.ensures
-    ∙ ap (put_charge l.loop-left.m n.next-e.result.slot) ((leaf-charged c).leaf_charge-c.ensures (record { members = is; follows = f; starts = omega (arith, b.tag-tag, i.index.ensures, i.tag-tag.ensures); good = p })))
+    ∙ ap (put_charge l.loop-left.m n.next-e.result.slot) ((leaf-charged c).leaf_charge-c.ensures (record { members = is; follows = f; starts = omega (arith, b.tag, i.index.ensures, i.tag-tag.ensures); good = p })))
 
 returns : tie.Need-returns invariant-loop decreases-loop
 returns c =
@@ -125,8 +125,8 @@ returns c =
     let l = c.loop-left in
     let z : l.left ≡ 0 = omega arith in
     finish charge_values (leaf_charge a.at.now a.strengths.now) node_charge (Few (length a.strengths.now))
-    (leaf_fit a.at.now a.strengths.now (strengths-known c.before.before).shared-slice-known.given (length a.strengths.now)) node_fit s.requires.0 (chains-few a.at.now (length a.strengths.now) s.requires.0) l.p
-    (subst (λ (n : ℕ). Fill a.at.now a.strengths.now a.next-e.now s.requires.0.tree a.m.now l.m l.p n) z (mine c.before))
+    (leaf_fit a.at.now a.strengths.now (strengths-known c.before.before).shared_slice_known-1.given (length a.strengths.now)) node_fit s.requires.0 (chains-few a.at.now (length a.strengths.now) s.requires.0) l.p
+    (subst (λ (n : ℕ). Fill a.at.now a.strengths.now a.next.now s.requires.0.tree a.m.now l.m l.p n) z (mine c.before))
 
 pub charges_spec : {M : Type 1} → statement M
 charges_spec =
@@ -138,8 +138,8 @@ charges_spec =
     loop-holds
     next-requires
     (λ c. search rules)
-    (λ c κs. reach (own c.before))
-    (λ c κs. (reach (own (advanced-from-node-charge c)), kids-lent (own (advanced-from-node-charge c)) (internal c.before.before)))
+    (λ c κs. reach (own c))
+    (λ c κs. (reach (own (advanced-from-node-charge c)), kids-lent (own (advanced-from-node-charge c)) (internal c.before)))
     (λ c κs. reach (own (advanced-from-node-charge c.before)))
     (λ c. search rules)
     loop-again

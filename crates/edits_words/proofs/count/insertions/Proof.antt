@@ -21,9 +21,9 @@ loop-again c =
     let o = c.loop-k in
     let w = c.args.edits.now in
     ⊎_elim
-    (λ a. omega (arith, a.1, o.invariant, count-here w o.k (omega arith) (omega (arith, a.0.taken))))
-    (λ a. omega (arith, a.1, o.invariant, count_past w o.k (omega arith) (λ z. omega (arith, a.0.left))))
-    c.if-edits-k-eq0.branch
+    (λ a. omega (arith, a.made-is, o.invariant, count-here w o.k (omega arith) (omega (arith, a.if-edits-k-eq0.true))))
+    (λ a. omega (arith, a.made-is, o.invariant, count_past w o.k (omega arith) (λ z. omega (arith, a.if-edits-k-eq0.false))))
+    c.if-edits-k-eq0.branch-raw
 
 returns : tie.Need-returns invariant-loop decreases-loop
 returns c =

@@ -36,17 +36,17 @@ loop-again c =
     ⊎_elim
     (λ a. (
       omega arith,
-      rw a.5 (simp length-set o.invariant.1),
-      omega (arith, a.6, o.invariant, count-here w o.k (omega arith) a.0.taken),
-      rw (a.5, a.6, a.2.ensures, a.4.ensures) (read_here w o.k (omega arith) o.places o.i a.0.taken (omega (arith, fits record { before = c.before; if1 = a.0 }))) ∙ o.invariant.3,
+      rw a.places-is (simp length-set o.invariant.1),
+      omega (arith, a.i-is, o.invariant, count-here w o.k (omega arith) a.if-edits-j-eq0.true),
+      rw (a.places-is, a.i-is, a.float_of.ensures, a.float_of-then-edits-j-eq0.ensures) (read_here w o.k (omega arith) o.places o.i a.if-edits-j-eq0.true (omega (arith, fits record { before = c.before; if-edits-j-eq0 = a.if-edits-j-eq0 }))) ∙ o.invariant.3,
     ))
     (λ a. (
       omega arith,
-      rw a.1 o.invariant.1,
-      omega (arith, a.2, o.invariant, count_past w o.k (omega arith) a.0.left),
-      rw (a.1, a.2) (read_past w o.k (omega arith) o.places o.i a.0.left) ∙ o.invariant.3,
+      rw a.places-is o.invariant.1,
+      omega (arith, a.i-is, o.invariant, count_past w o.k (omega arith) a.if-edits-j-eq0.false),
+      rw (a.places-is, a.i-is) (read_past w o.k (omega arith) o.places o.i a.if-edits-j-eq0.false) ∙ o.invariant.3,
     ))
-    c.if-edits-j-eq0.branch
+    c.if-edits-j-eq0.branch-raw
 
 returns : tie.Need-returns invariant-loop decreases-loop
 returns c =

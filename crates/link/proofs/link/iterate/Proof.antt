@@ -43,7 +43,7 @@ abbrev start : tie.At-loop-i invariant-loop decreases-loop → tie.Start invaria
 start l = entry l.before.before.before
 
 abbrev turn : Pulled → tie.In-loop-i invariant-loop decreases-loop
-turn p = p.before.before.before
+turn p = p.before.before
 
 abbrev top : Pulled → tie.At-loop-i invariant-loop decreases-loop
 top p = (turn p).before
@@ -87,7 +87,7 @@ loop-holds c =
 
 pull-all-requires : tie.Need-pull_all-s-requires invariant-loop decreases-loop
 pull-all-requires c κs =
-    let l = c.before.before.before in
+    let l = c.before.before in
     let s = start l in
     (l.loop-i.invariant.2, s.requires.1, omega (arith, s.requires.3, s.requires.4, l.loop-i.invariant.1), omega (arith, l.loop-i.invariant.5))
 
@@ -104,7 +104,7 @@ returns c =
     rw c.dry.ensures
     (ran_dry p.pull_all-s.new.vs a.draws.now a.p _ l.loop-i.invariant.3 (used-on p)
     (ap (visited a.p.visits)
-    (left-stops (once s) a.iterations l.loop-i.i (turn p).loop-i-test.taken (come l) (sym p.pull_all-s.ensures.0 ∙ spent_dry p.pull_all-s.new.vs a.draws.now p.pull_all-s.result c.if-dry.true)
+    (left-stops (once s) a.iterations l.loop-i.i (turn p).loop-i-test.true (come l) (sym p.pull_all-s.ensures.0 ∙ spent_dry p.pull_all-s.new.vs a.draws.now p.pull_all-s.result c.if-dry.true)
     ∙ sym l.loop-i.invariant.6
     ∙ sym (left-first (once s) a.iterations (found s)))))
 
@@ -121,7 +121,7 @@ loop-again c =
       l.loop-i.invariant.4,
       used-on p,
       l.loop-i.invariant.6
-          ∙ left-goes (once (start l)) a.iterations l.loop-i.i (turn p).loop-i-test.taken (come l) (sym p.pull_all-s.ensures.0 ∙ spent-on p.pull_all-s.new.vs a.draws.now p.pull_all-s.result c.if-dry.false),
+          ∙ left-goes (once (start l)) a.iterations l.loop-i.i (turn p).loop-i-test.true (come l) (sym p.pull_all-s.ensures.0 ∙ spent-on p.pull_all-s.new.vs a.draws.now p.pull_all-s.result c.if-dry.false),
     )
 
 returns-2 : tie.Need-returns invariant-loop decreases-loop

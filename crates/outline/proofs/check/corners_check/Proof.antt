@@ -23,7 +23,7 @@ decreases-loop corners i₀ i = length corners - i
 tested : (w : tie.After-longitude_range invariant-loop decreases-loop) → w.longitude_range.result ≡ longitude_range (get_or w.args.corners.now w.loop-i.i (pos 0))
 tested w =
     let a = get_or w.args.corners.now w.loop-i.i (pos 0) in
-    rw (to_z-of_z w64 a (sfits_of w.before.longitude-range-arg.given)) at w.longitude_range.ensures
+    rw (to_z-of_z w64 a (sfits_of w.before.longitude_range-arg-1.given)) at w.longitude_range.ensures
 
 returns : tie.Need-returns-then-not-longitude_range invariant-loop decreases-loop
 returns c =

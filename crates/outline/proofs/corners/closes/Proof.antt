@@ -22,19 +22,19 @@ some c = omega (arith, c.if-corners-eq0.false)
 short-way-requires : tie.Need-short_way-began-requires
 short-way-requires c κs =
     let l = c.args.corners.now in
-    rw (to_z-of_z w64 c.args.centre c.ranges.centre, to_z-of_z w64 (corner_at l 0) (sfits_of c.first.given))
+    rw (to_z-of_z w64 c.args.centre c.ranges.centre, to_z-of_z w64 (corner_at l 0) (sfits_of c.first-1.given))
     (asked l c.args.centre c.requires 0 c.args.centre (some c) (at_centre l c.args.centre c.requires))
 
 -- what was found of the last number is read back as it is
-last-read : (c : tie.After-last) → to_z w64 (of_z w64 c.new.result) ≡ last_from c.args.centre (outline c.args.centre c.args.corners.now)
+last-read : (c : tie.After-last) → to_z w64 (of_z w64 c.last.result) ≡ last_from c.args.centre (outline c.args.centre c.args.corners.now)
 last-read c =
-    to_z-of_z w64 c.new.result (sfits_of c.new.type-inv) ∙ (rw (to_z-of_z w64 c.args.centre c.ranges.centre) at c.new.ensures)
+    to_z-of_z w64 c.last.result (sfits_of c.last.type_inv) ∙ (rw (to_z-of_z w64 c.args.centre c.ranges.centre) at c.last.ensures)
 
 short-way-requires-2 : tie.Need-short_way-back-requires
 short-way-requires-2 c κs =
     let f = c.before.before in
     let l = f.args.corners.now in
-    rw (last-read c, to_z-of_z w64 (corner_at l 0) (sfits_of f.first.given))
+    rw (last-read c, to_z-of_z w64 (corner_at l 0) (sfits_of f.first-1.given))
     (last-far l f.args.centre f.requires, (asked l f.args.centre f.requires 0 f.args.centre (some f) (at_centre l f.args.centre f.requires)).1)
 
 returns-2 : tie.Need-returns
@@ -42,7 +42,7 @@ returns-2 c =
     let w = c.before.before in
     let f = w.before in
     let l = f.args.corners.now in
-    let first = to_z-of_z w64 (corner_at l 0) (sfits_of f.first.given) in
+    let first = to_z-of_z w64 (corner_at l 0) (sfits_of f.first-1.given) in
     closes_tested f.args.centre l w.short_way-began.result c.short_way-back.result (some f) (sfits_of w.short_way-began.type_inv) (sfits_of c.short_way-back.type_inv)
     (rw (to_z-of_z w64 f.args.centre f.ranges.centre, first) at w.short_way-began.ensures)
     (rw (last-read c.before, first) at c.short_way-back.ensures)

@@ -29,15 +29,15 @@ short-way-requires : tie.Need-short_way-end-requires invariant-loop decreases-lo
 short-way-requires c κs =
     let o = c.loop-i in
     let l = c.args.corners.now in
-    rw (to_z-of_z w64 (corner_at l o.i) (sfits_of c.short-way-arg.given)) (asked l c.args.centre c.requires o.i (to_z w64 o.end) (omega arith) o.invariant.1)
+    rw (to_z-of_z w64 (corner_at l o.i) (sfits_of c.short_way-arg-1.given)) (asked l c.args.centre c.requires o.i (to_z w64 o.end-bits) (omega arith) o.invariant.1)
 
 loop-again : tie.Need-loop-i-preserved invariant-loop decreases-loop
 loop-again c =
     let o = c.loop-i in
     let l = c.args.corners.now in
     let r = c.short_way-end.result in
-    let e = step-read (to_z w64 o.end) (corner_at l o.i) r c.before.short-way-arg.given c.short_way-end.type_inv c.short_way-end.ensures in
-    (omega arith, nearer l o.i (to_z w64 o.end) (to_z w64 (of_z w64 r)) (omega arith) e o.invariant.1, o.invariant.2 ∙ last_turn l o.i (to_z w64 o.end) (to_z w64 (of_z w64 r)) (omega arith) e)
+    let e = step-read (to_z w64 o.end-bits) (corner_at l o.i) r c.before.short_way-arg-1.given c.short_way-end.type_inv c.short_way-end.ensures in
+    (omega arith, nearer l o.i (to_z w64 o.end-bits) (to_z w64 (of_z w64 r)) (omega arith) e o.invariant.1, o.invariant.2 ∙ last_turn l o.i (to_z w64 o.end-bits) (to_z w64 (of_z w64 r)) (omega arith) e)
 
 returns : tie.Need-returns invariant-loop decreases-loop
 unfolding outline

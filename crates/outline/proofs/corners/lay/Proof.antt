@@ -32,15 +32,15 @@ short-way-requires : tie.Need-short_way-at-requires invariant-loop decreases-loo
 short-way-requires c κs =
     let o = c.loop-i in
     let l = c.args.corners.now in
-    rw (to_z-of_z w64 (corner_at l o.i) (sfits_of c.short-way-arg.given)) (asked l c.args.centre c.requires.0 o.i (to_z w64 o.at) (omega arith) o.invariant.1)
+    rw (to_z-of_z w64 (corner_at l o.i) (sfits_of c.short_way-arg-1.given)) (asked l c.args.centre c.requires.0 o.i (to_z w64 o.at-bits) (omega arith) o.invariant.1)
 
 loop-again : tie.Need-loop-i-preserved invariant-loop decreases-loop
 loop-again c =
     let o = c.loop-i in
     let l = c.args.corners.now in
-    let at = to_z w64 o.at in
+    let at = to_z w64 o.at-bits in
     let v = to_z w64 (of_z w64 c.short_way-at.result) in
-    let e = step-read at (corner_at l o.i) c.short_way-at.result c.before.short-way-arg.given c.short_way-at.type_inv c.short_way-at.ensures in (
+    let e = step-read at (corner_at l o.i) c.short_way-at.result c.before.short_way-arg-1.given c.short_way-at.type_inv c.short_way-at.ensures in (
       omega arith,
       nearer l o.i at v (omega arith) e o.invariant.1,
       length-set o.unwrapped o.i v ∙ o.invariant.2,

@@ -27,19 +27,19 @@ links s = sum (map links_needed (entries_of s.args.words.now))
 -- once the strengths are right, all is small
 small : (c : tie.Else-not-all_right) → (numbers c.before.before ≤ 131072) × (links c.before.before ≤ 65536)
 small c =
-    all_small c.args.n c.args.words.now c.requires.0 c.requires.1 (sym c.before.All-right.ensures ∙ not-false c.before.All-right.result c.if-not-all_right.false-raw)
+    all_small c.args.n c.args.words.now c.requires.0 c.requires.1 (sym c.before.all_right.ensures ∙ not-false c.before.all_right.result c.if-not-all_right.false-raw)
 
 returns : tie.Need-returns-then-not-all_right
 returns c =
     let r = c.before in
     let s = r.before in
-    wrong_strengths (right s) r.All-right.result r.All-right.ensures s.args.numbers (numbers s) s.args.links (links s) c.if-not-all_right.true-raw
+    wrong_strengths (right s) r.all_right.result r.all_right.ensures s.args.numbers (numbers s) s.args.links (links s) c.if-not-all_right.true-raw
 
 returns-2 : tie.Need-returns-then-numbers-all_numbers
 returns-2 c =
     let r = c.before.before.before in
     let s = r.before in
-    wrong-numbers (right s) r.All-right.result r.All-right.ensures s.args.numbers (numbers s) s.args.links (links s) c.if-not-all_right.false-raw
+    wrong-numbers (right s) r.all_right.result r.all_right.ensures s.args.numbers (numbers s) s.args.links (links s) c.if-not-all_right.false-raw
     c.all_numbers.result c.all_numbers.ensures c.if-numbers-all_numbers.true
 
 returns-3 : tie.Need-returns
@@ -47,7 +47,7 @@ returns-3 c =
     let m = c.before.before in
     let r = m.before.before in
     let s = r.before in
-    right-numbers (right s) r.All-right.result r.All-right.ensures s.args.numbers (numbers s) s.args.links (links s) m.if-not-all_right.false-raw
+    right-numbers (right s) r.all_right.result r.all_right.ensures s.args.numbers (numbers s) s.args.links (links s) m.if-not-all_right.false-raw
     m.all_numbers.result m.all_numbers.ensures c.if-numbers-all_numbers.false c.all_links.result c.all_links.ensures
 
 pub lengths_agree_spec : {M : Type 1} → statement M

@@ -4,20 +4,8 @@ use Rattle.tick_columns.proofs.ByColumns.{columns-read}
 use Rattle.tick_columns.proofs.sheets.read_columns.Statement.{statement}
 use Rattle.tick_columns.proofs.sheets.read_columns.Tie as tie
 
--- the points of the code, each from a later one
-abbrev pairs-read2 : tie.After-slice_known-6-1 → tie.After-read_pairs-2
-pairs-read2 c = c.before.before.before.before.before.before
-
-abbrev pairs-read : tie.After-slice_known-6-1 → tie.After-read_pairs
-pairs-read c = (pairs-read2 c).before.before.before.before
-
-abbrev entry : tie.After-slice_known-6-1 → tie.Start
-entry c = (pairs-read c).before.before.before.before.before.before
-
 returns : tie.Need-returns
-returns c =
-    let p = (entry c).requires in
-    columns-read _ _ _ _ _ _ p.0 p.1 (pairs-read c).read_pairs.ensures (pairs-read2 c).read_pairs-2.ensures c.before.before.read-Flags.ensures
+returns c = columns-read _ _ _ _ _ _ c.requires.0 c.requires.1 c.read_pairs.ensures c.read_pairs-2.ensures c.read_flags.ensures
 
 pub read_columns_spec : {M : Type 1} → statement M
 read_columns_spec =

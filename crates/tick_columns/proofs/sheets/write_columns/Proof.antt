@@ -7,7 +7,7 @@ use Rattle.tick_columns.proofs.sheets.write_columns.Tie as tie
 
 returns : tie.Need-returns
 returns c =
-    columns-written _ _ _ _ _ (λ i. omega (arith, c.slice-known.given i)) c.requires c.write_pairs.ensures c.write_pairs-2.ensures
+    columns-written _ _ _ _ _ (λ i. omega (arith, c.slice_known-1.given i)) c.requires c.write_pairs.ensures c.write_pairs-2.ensures
 
 pub write_columns_spec : {M : Type 1} → statement M
 write_columns_spec = tie.close (tie.spec (λ c κs. search rules) (λ c κs. search rules) (λ c. search rules) returns)

@@ -47,38 +47,25 @@ test c = c.before.before.before.before
 same-slots : (c : tie.After-add_next-answer invariant-loop decreases-loop) → slots_of c.add_next-answer.new.m ≡ slots_of c.args.m.now
 same-slots c = ap (λ (k : ℕ). k / slot_words) (c.add_next-answer.auto.m ∙ c.loop-p.invariant.2)
 
--- what has become of the particle
-placed : (c : tie.After-add_next-answer invariant-loop decreases-loop) (r : Inserted) → c.add_next-answer.result ≡ r
-    → let d = c in let at = (start d).args.at.now in Placed at (up_to d.loop-p.p) c.add_next-answer.new.m c.add_next-answer.new.next c.add_next-answer.new.tail (extent_of (cover_first at (d.loop-p.p + 1))) d.loop-p.p r
-placed c r e =
-    let d = c in
-    let at = (start d).args.at.now in
-    subst (λ (r : Inserted). Placed at (up_to d.loop-p.p) c.add_next-answer.new.m c.add_next-answer.new.next c.add_next-answer.new.tail (extent_of (cover_first at (d.loop-p.p + 1))) d.loop-p.p r) e (c.add_next-answer.ensures _ (puts c.before.before.before.before))
-
 returns : tie.Need-returns-in-Deep invariant-loop decreases-loop
 returns c =
-    let d = c in
-    let s = start d in
-    build-refused s.args.at.now (slots_of s.args.m.now) d.loop-p.m d.loop-p.next d.loop-p.tail d.loop-p.q d.loop-p.p d.loop-p.invariant.4 s.requires.ranged c.loop-p-test.true c.add_next-answer.new.m c.add_next-answer.new.next
-    c.add_next-answer.new.tail (same-slots c.before.before.before.before.before.before.before.before) _ (placed c.before.before.before.before.before.before.before.before _ c.enum_told.given.1 ∙ ap refused (sym c.at.ensures))
+    build-refused c.args.at.now (slots_of c.args.m.now) c.loop-p.m c.loop-p.next c.loop-p.tail c.loop-p.q c.loop-p.p c.loop-p.invariant.4 c.requires.ranged c.loop-p-test.true c.add_next-answer.new.m c.add_next-answer.new.next
+    c.add_next-answer.new.tail (same-slots c.before.before.before.before.before.before.before.before) _ (c.in-Deep.ensures _ (puts c.before.before.before.before.before.before.before.before.before.before.before.before) ∙ ap refused (sym c.at.ensures))
 
 returns-2 : tie.Need-returns-in-Full invariant-loop decreases-loop
 returns-2 c =
-    let d = c in
-    let s = start d in
-    build-refused s.args.at.now (slots_of s.args.m.now) d.loop-p.m d.loop-p.next d.loop-p.tail d.loop-p.q d.loop-p.p d.loop-p.invariant.4 s.requires.ranged c.loop-p-test.true c.add_next-answer.new.m c.add_next-answer.new.next
-    c.add_next-answer.new.tail (same-slots c.before.before.before.before.before.before.before.before) _ (placed c.before.before.before.before.before.before.before.before _ c.enum_told-in-Full-1.given.1 ∙ ap refused (sym c.at-in-Full.ensures))
+    build-refused c.args.at.now (slots_of c.args.m.now) c.loop-p.m c.loop-p.next c.loop-p.tail c.loop-p.q c.loop-p.p c.loop-p.invariant.4 c.requires.ranged c.loop-p-test.true c.add_next-answer.new.m c.add_next-answer.new.next
+    c.add_next-answer.new.tail (same-slots c.before.before.before.before.before.before.before.before) _ (c.in-Full.ensures _ (puts c.before.before.before.before.before.before.before.before.before.before.before.before) ∙ ap refused (sym c.at-in-Full.ensures))
 
 loop-again : tie.Need-loop-p-preserved invariant-loop decreases-loop
 loop-again c =
-    let d = c in
-    let s = start d in (
-      c.add_next-answer.auto.next ∙ d.loop-p.invariant.0,
-      c.add_next-answer.auto.tail ∙ d.loop-p.invariant.1,
-      c.add_next-answer.auto.m ∙ d.loop-p.invariant.2,
+    (
+      c.add_next-answer.auto.next ∙ c.loop-p.invariant.0,
+      c.add_next-answer.auto.tail ∙ c.loop-p.invariant.1,
+      c.add_next-answer.auto.m ∙ c.loop-p.invariant.2,
       omega (arith, c.loop-p-test.true),
-      build-done s.args.at.now (slots_of s.args.m.now) d.loop-p.m d.loop-p.next d.loop-p.tail d.loop-p.q d.loop-p.p d.loop-p.invariant.4 s.requires.ranged c.loop-p-test.true c.add_next-answer.new.m c.add_next-answer.new.next
-          c.add_next-answer.new.tail (same-slots c.before.before.before.before.before.before.before) c.before.answer.given.0.0 (placed c.before.before.before.before.before.before.before _ c.before.answer.given.1),
+      build-done c.args.at.now (slots_of c.args.m.now) c.loop-p.m c.loop-p.next c.loop-p.tail c.loop-p.q c.loop-p.p c.loop-p.invariant.4 c.requires.ranged c.loop-p-test.true c.add_next-answer.new.m c.add_next-answer.new.next
+          c.add_next-answer.new.tail (same-slots c.before.before.before.before.before.before.before) c.in-Done.more (c.in-Done.ensures _ (puts c.before.before.before.before.before.before.before.before.before.before.before)),
     )
 
 returns-3 : tie.Need-returns invariant-loop decreases-loop

@@ -18,37 +18,22 @@ returns c t g = fill-last _ _ _ _ t g c.if-h-x.true
 
 returns-2 : tie.Need-returns-then-q-x
 returns-2 c t g =
-    let k = c.before.before.before in
-    let y = k.before.before in
-    let e = y.before.before in
-    let s = start e in
-    let q : Quadtree = s.args.q in
-    subst (λ (w : List ℕ). Filled s.args.at.now w q (record { extent = q.extent; root = s.args.h + 1; nodes = q.nodes; deepest = q.deepest }) t) (sym k.copy.ensures) (fill-root _ _ q _ t g e.if-h-x.false y.if-q-x.true)
+    let q : Quadtree = c.args.q in
+    subst (λ (w : List ℕ). Filled c.args.at.now w q (record { extent = q.extent; root = c.args.h + 1; nodes = q.nodes; deepest = q.deepest }) t) (sym c.copy.ensures) (fill-root _ _ q _ t g c.if-h-x.false c.if-q-x.true)
 
 leaf-below-requires : tie.Need-leaf_below-f-requires
 leaf-below-requires c κs =
-    let e = c.before.before.before in
-    let s = start e in
-    fill-rooted _ _ _ _ s.requires.0 s.requires.1 e.if-h-x.false
+    fill-rooted _ _ _ _ c.requires.0 c.requires.1 c.if-h-x.false
 
 parent-requires : tie.Need-parent-up-requires
 parent-requires c κs =
-    let b = c.before in
-    let t = b.before.before in
-    let e = t.before.before in
-    let s = start e in
-    (s.requires.0, fill-under _ _ _ _ s.requires.0 s.requires.1 e.if-h-x.false b.leaf_below-f.result b.leaf_below-f.ensures t.if-q-x.false)
+    (c.requires.0, fill-under _ _ _ _ c.requires.0 c.requires.1 c.if-h-x.false c.leaf_below-f.result c.leaf_below-f.ensures c.if-q-x.false)
 
 relink-requires : tie.Need-relink-requires
 relink-requires c κs =
-    let p = c.before in
-    let b = p.before.before in
-    let t = b.before.before in
-    let e = t.before.before in
-    let s = start e in
-    let u = s.requires.0 in
-    fill-slots _ _ _ _ u s.requires.1 e.if-h-x.false b.leaf_below-f.result b.leaf_below-f.ensures t.if-q-x.false p.parent-up.result
-    (p.parent-up.ensures u (fill-under _ _ _ _ u s.requires.1 e.if-h-x.false b.leaf_below-f.result b.leaf_below-f.ensures t.if-q-x.false))
+    let u = c.requires.0 in
+    fill-slots _ _ _ _ u c.requires.1 c.if-h-x.false c.leaf_below-f.result c.leaf_below-f.ensures c.if-q-x.false c.parent-up.result
+    (c.parent-up.ensures u (fill-under _ _ _ _ u c.requires.1 c.if-h-x.false c.leaf_below-f.result c.leaf_below-f.ensures c.if-q-x.false))
 
 returns-3 : tie.Need-returns
 returns-3 c u g =

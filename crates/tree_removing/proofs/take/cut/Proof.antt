@@ -19,29 +19,20 @@ returns : tie.Need-returns-then-s-eq0
 returns c is g h gone = (cut-root _ is _ _ _ g _ h gone c.if-s-eq0.true, refl)
 
 -- the slots that are written
-slots : (e : tie.Else-s-eq0) → let s = start e in InSlots (s.args.spot.above - 1) s.args.m.now × (s.args.spot.quadrant < 4) × (0 < s.args.q.nodes)
-slots e = let p = (start e).requires in cut-slot _ p.0 _ _ _ p.1 _ p.2 p.3 e.if-s-eq0.false
+slots : (e : tie.Else-s-eq0) → InSlots (e.args.spot.above - 1) e.args.m.now × (e.args.spot.quadrant < 4) × (0 < e.args.q.nodes)
+slots e = let p = e.requires in cut-slot _ p.0 _ _ _ p.1 _ p.2 p.3 e.if-s-eq0.false
 
 fill-requires : tie.Need-fill-filled-requires
 fill-requires c κs =
-    let w = c.before.before.before.before in
-    let k = w.before.before in
-    let e = k.before.before in
-    let s = start e in
-    let p = s.requires in
-    subst (λ (q : Quadtree). (t : Tree ℕ) × Hollow s.args.at.now w.put_internal.new.m q s.args.spot.leaf t) (sym c.fewer.ensures)
-    (cut-hollow _ p.0 _ _ _ p.1 _ p.2 p.3 e.if-s-eq0.false k.children-children.result k.children-children.ensures w.put_internal.new.m w.put_internal.ensures)
+    let p = c.requires in
+    subst (λ (q : Quadtree). (t : Tree ℕ) × Hollow c.args.at.now c.put_internal.new.m q c.args.spot.leaf t) (sym c.fewer.ensures)
+    (cut-hollow _ p.0 _ _ _ p.1 _ p.2 p.3 c.if-s-eq0.false c.children-children.result c.children-children.ensures c.put_internal.new.m c.put_internal.ensures)
 
 tidy-requires : tie.Need-tidy-requires
 tidy-requires c κs =
-    let f = c.before.before.before in
-    let l = f.before in
-    let w = l.before.before.before.before in
-    let k = w.before.before in
-    let e = k.before.before in
-    let p = (start e).requires in
-    cut-tidies _ p.0 _ _ _ p.1 _ p.2 p.3 e.if-s-eq0.false k.children-children.result k.children-children.ensures w.put_internal.new.m w.put_internal.ensures l.fewer.result f.fill-filled.result l.fewer.ensures f.fill-filled.new.m
-    (f.fill-filled.auto.m ∙ w.put_internal.auto.m) f.fill-filled.ensures
+    let p = c.requires in
+    cut-tidies _ p.0 _ _ _ p.1 _ p.2 p.3 c.if-s-eq0.false c.children-children.result c.children-children.ensures c.put_internal.new.m c.put_internal.ensures c.fewer.result c.fill-filled.result c.fewer.ensures c.fill-filled.new.m
+    (c.fill-filled.auto.m ∙ c.put_internal.auto.m) c.fill-filled.ensures
 
 returns-2 : tie.Need-returns
 returns-2 c is g h gone =
@@ -54,12 +45,12 @@ cut_spec =
     (tie.spec
     returns
     (λ c. search rules)
-    (λ c κs. (slots c.before).0)
-    (λ c. let l = (slots c.before.before).1 in omega arith)
-    (λ c. (slots c.before.before).1)
+    (λ c κs. (slots c).0)
+    (λ c. let l = (slots c.before).1 in omega arith)
+    (λ c. (slots c.before).1)
     (λ c. search rules)
-    (λ c κs. (slots c.before.before.before).0)
-    (λ c κs. (slots c.before.before.before.before.before.before.before).2)
+    (λ c κs. (slots c.before.before).0)
+    (λ c κs. (slots c.before.before.before.before.before.before).2)
     fill-requires
     tidy-requires
     (λ c. search rules)

@@ -37,56 +37,38 @@ abbrev back : tie.After-put_leaf invariant-loop decreases-loop → tie.Else-fold
 back c = back-from-put-leaf c.before
 
 abbrev loop : tie.After-put_leaf invariant-loop decreases-loop → tie.At-loop-fold invariant-loop decreases-loop
-loop c = loop-from-if1 (back c).before
+loop c = loop-from-if1 c.before.before.before.before.before
 
-so_far : (c : tie.At-loop-fold invariant-loop decreases-loop) → let s = start c in Tidying s.args.at.now c.loop-fold.m s.args.q c.loop-fold.less s.args.i s.requires.0
-so_far c = let s = start c in c.loop-fold.invariant.0 s.requires.0 s.requires.1
+so_far : (c : tie.At-loop-fold invariant-loop decreases-loop) → Tidying c.args.at.now c.loop-fold.m c.args.q c.loop-fold.less c.args.i c.requires.0
+so_far c = c.loop-fold.invariant.0 c.requires.0 c.requires.1
 
-room : (c : tie.At-loop-fold invariant-loop decreases-loop) → (start c).args.q.nodes * slot_words ≤ length c.loop-fold.m
-room c = let s = start c in subst (λ (n : ℕ). s.args.q.nodes * slot_words ≤ n) (sym c.loop-fold.invariant.1) s.requires.1.room
+room : (c : tie.At-loop-fold invariant-loop decreases-loop) → c.args.q.nodes * slot_words ≤ length c.loop-fold.m
+room c = subst (λ (n : ℕ). c.args.q.nodes * slot_words ≤ n) (sym c.loop-fold.invariant.1) c.requires.1.room
 
 -- the slots that are read and written
 slots : (c : tie.Else-fold-eq0 invariant-loop decreases-loop) → let f = c.lone-fold.result in
     (0 < word c.loop-fold.m (f.child - 1) 0) × InSlots (f.child - 1) c.loop-fold.m × InSlots f.slot c.loop-fold.m × (word c.loop-fold.m (f.child - 1) 0 - 1 < most_particles) × (2 ≤ c.loop-fold.less.nodes)
 slots c =
-    let l = c.before.before in
-    let d = l.before.before in
-    let s = start d in
-    tidy-slots _ _ _ _ _ s.requires.0 (so_far d) (room d) s.requires.1.few s.requires.1.place l.lone-fold.result l.lone-fold.ensures c.if-fold-eq0.false
+    tidy-slots _ _ _ _ _ c.requires.0 (so_far c.before.before.before) (room c.before.before.before) c.requires.1.few c.requires.1.place c.lone-fold.result c.lone-fold.ensures c.if-fold-eq0.false
 
-put : (c : tie.After-put_leaf invariant-loop decreases-loop) → let e = back c in let f = e.lone-fold.result in c.put_leaf.new.m ≡ put_leaf e.loop-fold.m f.slot (word e.loop-fold.m (f.child - 1) 0 - 1)
+put : (c : tie.After-put_leaf invariant-loop decreases-loop) → let f = c.lone-fold.result in c.put_leaf.new.m ≡ put_leaf c.loop-fold.m f.slot (word c.loop-fold.m (f.child - 1) 0 - 1)
 put c =
-    let e = back c in
-    let f = e.lone-fold.result in
-    c.put_leaf.ensures ∙ ap (λ (y : ℕ). put_leaf e.loop-fold.m f.slot (y - 1)) c.tag-tag.ensures
+    let f = c.lone-fold.result in
+    c.put_leaf.ensures ∙ ap (λ (y : ℕ). put_leaf c.loop-fold.m f.slot (y - 1)) c.tag-tag.ensures
 
 returns : tie.Need-returns-then-fold-eq0 invariant-loop decreases-loop
 returns c t g =
-    let l = c.before.before in
-    let d = l.before.before in
-    let s = start d in
-    tidy-done _ _ _ _ _ t (d.loop-fold.invariant.0 t g) (room d) s.requires.1.few s.requires.1.place l.lone-fold.result l.lone-fold.ensures c.if-fold-eq0.true
+    tidy-done _ _ _ _ _ t (c.loop-fold.invariant.0 t g) (room c.before.before.before) c.requires.1.few c.requires.1.place c.lone-fold.result c.lone-fold.ensures c.if-fold-eq0.true
 
-turn : (c : tie.After-fill-less invariant-loop decreases-loop) → let p = leaf_put c.before in let d = loop p in let s = start d in (t : Tree ℕ) → Tidies s.args.at.now s.args.m.now s.args.q s.args.i t
-    → Tidying s.args.at.now c.fill-less.new.m s.args.q c.fill-less.result s.args.i t × (c.fill-less.result.nodes < d.loop-fold.less.nodes)
+turn : (c : tie.After-fill-less invariant-loop decreases-loop) → let d = loop c.before.before.before.before.before in (t : Tree ℕ) → Tidies d.args.at.now d.args.m.now d.args.q d.args.i t
+    → Tidying d.args.at.now c.fill-less.new.m d.args.q c.fill-less.result d.args.i t × (c.fill-less.result.nodes < d.loop-fold.less.nodes)
 turn c t g =
-    let w = c.before in
-    let p = leaf_put w in
-    let e = back p in
-    let l = e.before.before in
-    let d = l.before.before in
-    let s = start d in
-    tidy-turn _ _ _ _ _ t (d.loop-fold.invariant.0 t g) (room d) s.requires.1.few s.requires.1.place l.lone-fold.result l.lone-fold.ensures e.if-fold-eq0.left p.put_leaf.new.m (put p) w.fewer.result c.fill-less.result w.fewer.ensures c.fill-less.new.m c.fill-less.ensures
+    tidy-turn _ _ _ _ _ t (c.loop-fold.invariant.0 t g) (room c.before.before.before.before.before.before.before.before.before.before.before.before) c.requires.1.few c.requires.1.place c.lone-fold.result c.lone-fold.ensures c.if-fold-eq0.left c.put_leaf.new.m (put c.before.before.before.before.before) c.fewer.result c.fill-less.result c.fewer.ensures c.fill-less.new.m c.fill-less.ensures
 
 fill-requires : tie.Need-fill-less-requires invariant-loop decreases-loop
 fill-requires c κs =
-    let p = leaf_put c in
-    let e = back p in
-    let l = e.before.before in
-    let d = l.before.before in
-    let s = start d in
-    subst (λ (q : Quadtree). (t : Tree ℕ) × Hollow s.args.at.now p.put_leaf.new.m q (l.lone-fold.result.child - 1) t) (sym c.fewer.ensures)
-    (tidy-hollow _ _ _ _ _ s.requires.0 (so_far d) (room d) s.requires.1.few s.requires.1.place l.lone-fold.result l.lone-fold.ensures e.if-fold-eq0.left p.put_leaf.new.m (put p))
+    subst (λ (q : Quadtree). (t : Tree ℕ) × Hollow c.args.at.now c.put_leaf.new.m q (c.lone-fold.result.child - 1) t) (sym c.fewer.ensures)
+    (tidy-hollow _ _ _ _ _ c.requires.0 (so_far c.before.before.before.before.before.before.before.before.before.before.before) (room c.before.before.before.before.before.before.before.before.before.before.before) c.requires.1.few c.requires.1.place c.lone-fold.result c.lone-fold.ensures c.if-fold-eq0.left c.put_leaf.new.m (put c.before.before.before.before))
 
 pub tidy_spec : {M : Type 1} → statement M
 tidy_spec =
@@ -95,18 +77,16 @@ tidy_spec =
     invariant-loop
     decreases-loop
     (λ c. (λ t g. record { tree = t; packed = g.packed; same = refl; extent = refl; deepest = refl; few = omega arith }, refl))
-    (λ c κs. let d = c.before in let s = start d in (_, tidies_of _ _ _ _ _ s.requires.0 (so_far d) (room d) s.requires.1.few s.requires.1.place))
-    (λ c. (loop-from-if1 c.before).loop-fold.invariant.1)
+    (λ c κs. (_, tidies_of _ _ _ _ _ c.requires.0 (so_far c) (room c) c.requires.1.few c.requires.1.place))
+    (λ c. c.loop-fold.invariant.1)
     returns
     (λ c. search rules)
-    (λ c κs. (slots c.before.before).1)
-    (λ c. let k = slots (back-from-put-leaf c) in omega (arith, k.0, c.tag-tag.ensures))
-    (λ c κs. let k = slots (back-from-put-leaf c) in (k.2, subst (λ (y : ℕ). y - 1 < most_particles) (sym c.tag-tag.ensures) k.3))
-    (λ c κs. let k = slots (back c.before.before.before) in omega (arith, k.4))
+    (λ c κs. (slots c.before).1)
+    (λ c. let k = slots c.before.before.before in omega (arith, k.0, c.tag-tag.ensures))
+    (λ c κs. let k = slots c.before.before.before in (k.2, subst (λ (y : ℕ). y - 1 < most_particles) (sym c.tag-tag.ensures) k.3))
+    (λ c κs. let k = slots c.before.before.before.before.before.before.before in omega (arith, k.4))
     fill-requires
-    (λ c. let f = c.before.before in let s = start (loop (leaf_put f.before)) in (turn f s.requires.0 s.requires.1).1)
+    (λ c. let s = start (loop c.before.before.before.before.before.before.before) in (turn c.before.before s.requires.0 s.requires.1).1)
     (λ c.
-    (let f = c.before.before in
-    let p = leaf_put f.before in
-    let d = loop p in
-    (λ t g. (turn f t g).0, f.fill-less.auto.m ∙ p.put_leaf.auto.m ∙ d.loop-fold.invariant.1))))
+    (let d = loop c.before.before.before.before.before.before.before in
+    (λ t g. (turn c.before.before t g).0, c.fill-less.auto.m ∙ c.put_leaf.auto.m ∙ d.loop-fold.invariant.1))))
