@@ -1,12 +1,19 @@
 // The program recenter: reads a sheet from standard input, runs as many ticks as its argument says with Center in force slot 0, and writes the sheet.
 #![tactic(auto)]
 
-ghost use Rattle.std.specs.Prelude.{◌≡◌, min, length};
+ghost use Rattle.std.specs.Prelude.{◌≡◌, ◌≤◌, min, length};
 ghost use Rattle.recenter_call.specs.Recentered.{kept_bytes};
 
-use libc::{STDERR_FILENO, STDIN_FILENO, STDOUT_FILENO};
 use recenter_call::{KEPT_BYTES, recenter, ticks_of};
 use sheet_input::total_of;
+use std::env::FillError;
+use std::rt::Env;
+
+const STDIN_FILENO: i32 = 0;
+
+const STDOUT_FILENO: i32 = 1;
+
+const STDERR_FILENO: i32 = 2;
 
 // Where a page of memory has 4 KiB, as on x86-64, no argument on Linux is longer.
 const ARGUMENT_BYTES: usize = 131072;
@@ -45,21 +52,40 @@ fn recenter_input(kept: &mut [u8], ticks: u64)
     recenter_kept(&mut kept[..n], total, ticks);
 }
 
+// Puts the first argument at the start of a buffer, and answers its length: 0 where it is missing or too long.
+fn first_argument(rt: &impl Env, argument: &mut [u8]) -> usize
+    ensures { result ≤ length argument.new }
+{
+    match rt.arg(1, argument) {
+        Ok(n) => n,
+        Err(_) => 0,
+    }
+}
+
+// No room is lent for it, so a second argument that isn't empty is too long.
+fn has_second_argument(rt: &impl Env) -> bool {
+    let mut none = [0u8; 0];
+    match rt.arg(2, &mut none) {
+        Err(FillError::NotPresent) => false,
+        _ => true,
+    }
+}
+
 // One argument and no more, beside the program's own name.
-fn recenter_asked(argument: &mut [u8], kept: &mut [u8])
+fn recenter_asked(rt: &impl Env, argument: &mut [u8], kept: &mut [u8])
     requires { length kept.old ≡ kept_bytes }
 {
-    let n = os::arg(1, argument);
+    let n = first_argument(rt, argument);
     let asked = ticks_of(&argument[..n]);
-    if asked.whole && os::arg_count() == 2 {
+    if asked.whole && !has_second_argument(rt) {
         recenter_input(kept, asked.ticks);
         return;
     }
     say_usage();
 }
 
-fn main() {
+fn main(rt: HostRuntime) {
     let mut argument = [0u8; ARGUMENT_BYTES];
     let mut kept = [0u8; KEPT_BYTES];
-    recenter_asked(&mut argument, &mut kept);
+    recenter_asked(&rt, &mut argument, &mut kept);
 }

@@ -1,11 +1,9 @@
 -- Recentering from what a step answers: its refusal and its sheet. Assumes nothing.
 use mathlib.Core.Path.{◌≡◌, refl, sym, ap, ◌∙◌}
 use mathlib.Core.Bool.{Bool, cond}
-use mathlib.Core.List.{List, [], ◌++◌, append-nil}
+use mathlib.Core.List.{List, []}
 use Prim.Native.Nat.{ℕ}
 use borrow.Author.Tests.{eq-eqb, ne_eqb}
-use lib.ListN.{length, take, drop}
-use lib.Seq.{take-length, drop-length}
 use lib.Ieee.{Float, neg, of_bits}
 use Rattle.rules.specs.declared.Refusal.{Refusal}
 use Rattle.rules.specs.declared.Settings.{Settings}
@@ -21,10 +19,6 @@ use Rattle.rules.proofs.Places.{early_numbered, late_numbered, step-early, step_
 use Rattle.tick_checks.specs.Input.{lent_sheet}
 use Rattle.step_call.specs.Step.{AfterStep}
 use Rattle.recenter_call.specs.Recentered.{Recentered}
-
--- a copy of one list over another of its length
-pub copied : (s d : List ℕ) → length d ≡ length s → take (length s) s ++ drop (length s) d ≡ s
-copied s d e = rw (take-length s, ← e, drop-length d) (append-nil s)
 
 -- ticks that end by number 0 end by no refusal
 pub unstopped : (r : Refusal) → Stop r → r.number ≡ 0 → r ≡ no_refusal

@@ -70,11 +70,11 @@ pub fn step_or_put_back(sheet: &mut [u8], spare: &mut [u8], ticks: u64) -> Refus
     requires spare_len { length spare.old ≡ length sheet.old }
     ensures { Recentered sheet.old ticks result sheet.old sheet.new }
 {
-    bytes::copy(sheet, spare);
+    spare.copy_from_slice(sheet);
     let r = step_sheet(sheet, ticks);
     let number = r.number;
     if number != 0 {
-        bytes::copy(spare, sheet);
+        sheet.copy_from_slice(spare);
     }
     r
 }

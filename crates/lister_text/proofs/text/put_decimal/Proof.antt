@@ -8,7 +8,7 @@ use Rattle.lister_text.proofs.text.put_decimal.Statement.{statement}
 use Rattle.lister_text.proofs.text.put_decimal.Tie as tie
 
 digits_are : (c : tie.After-decimal-size) → take c.decimal-size.result c.decimal-size.new.out ≡ decimal c.args.n
-digits_are c = c.decimal-size.ensures.1.1 ∙ spelt c.args.n c.decimal-size.result c.requires.0 c.decimal-size.ensures.1.0
+digits_are c = c.decimal-size.ensures.1.1.0 ∙ spelt c.args.n c.decimal-size.result c.requires.0 c.decimal-size.ensures.1.0
 
 put-text-requires : tie.Need-put_text-requires
 put-text-requires c κs = let d = c.before.before in rw (digits_are d) d.requires.1
