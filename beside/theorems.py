@@ -281,8 +281,8 @@ def library(folder, name, modules):
 
 
 def check(folder, name):
-    """What the prover says, its status, and each theorem that fails with its message, but for those that take it too many steps."""
+    """What the prover says, its status, and each theorem that fails with its message, but for those that take it too many steps or too much memory."""
     done = subprocess.run(['rt', 'check'], cwd=os.path.join(folder, 'crates', name), capture_output=True, text=True)
     text = done.stdout + done.stderr
     errors = re.findall(r'/([A-Za-z0-9]+)\.antt:[0-9:]+ error: `([^`]+)`(.*)', text)
-    return text, done.returncode, [(module, theorem) for module, theorem, message in errors if 'step limit' not in message]
+    return text, done.returncode, [(module, theorem) for module, theorem, message in errors if not re.search('(step|memory) limit', message)]
