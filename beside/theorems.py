@@ -280,9 +280,14 @@ def library(folder, name, modules):
         open(os.path.join(folder, 'crates', name, 'specs', module + '.antt'), 'w').write(modules[module])
 
 
+# what the prover says of a theorem whose left side it computed, and it isn't true
+FALSE = re.compile(r'`Path Bool false false` \(found\)|and the other has `false` \(found\)')
+
+
 def check(folder, name):
-    """What the prover says, its status, and each theorem that fails with its message, but for those that take it too many steps or too much memory."""
+    """What the prover says, its status, the theorems that are false, and what else fails, as what can't be read or takes too many steps."""
     done = subprocess.run(['rt', 'check'], cwd=os.path.join(folder, 'crates', name), capture_output=True, text=True)
     text = done.stdout + done.stderr
-    errors = re.findall(r'/([A-Za-z0-9]+)\.antt:[0-9:]+ error: `([^`]+)`(.*)', text)
-    return text, done.returncode, [(module, theorem) for module, theorem, message in errors if not re.search('(step|memory) limit', message)]
+    errors = re.findall(r'/([A-Za-z0-9]+)\.antt:[0-9:]+ error: `([^`]+)`(.*(?:\n  .*)*)', text)
+    false = [(module, theorem) for module, theorem, message in errors if FALSE.search(message)]
+    return text, done.returncode, false, [(module, theorem) for module, theorem, _ in errors if (module, theorem) not in false]
