@@ -29,7 +29,7 @@ def pairs(values):
 
 def slots_input(ps, alpha, forces, draws, slots):
     entries, values, links = slot_lists(forces, lambda: 0)
-    return 'sheetInput %s 0x%x %s %s %s %s (replicate %d 7)' % (numbers(sheet(ps)), alpha, numbers(entries), floats(values), numbers(links), floats(draws), slots * 8)
+    return 'sheet_input %s 0x%x %s %s %s %s (replicate %d 7)' % (numbers(sheet(ps)), alpha, numbers(entries), floats(values), numbers(links), floats(draws), slots * 8)
 
 
 # ---- a case and its answer: the term, and the numbers it has to be
@@ -42,7 +42,7 @@ def work(number, slots):
 def tree_case(t, answer):
     slots, ps = t.number(), t.particles()
     number, place = refusal(answer)
-    term = 'treeNumbers %s %d %d' % (numbers(sheet(ps)), slots, len(ps))
+    term = 'tree_numbers %s %d %d' % (numbers(sheet(ps)), slots, len(ps))
     if number:
         return term, [number, place, 0, 0, 0, 0, 0] + [9] * (4 * slots + len(ps)) + work(number, slots)
     head, rows, chains = answer.split('|')
@@ -58,31 +58,31 @@ def visit_case(t, answer):
     if refusal(answer)[0]:
         return None
     first, last = answer[2:].split('|')
-    return 'visitNumbers %s %d %s' % (floats([v for p in ps for v in p[:2]]), len(ps), numbers(skips)), [int(w) for w in (first + last).split()]
+    return 'visit_numbers %s %d %s' % (floats([v for p in ps for v in p[:2]]), len(ps), numbers(skips)), [int(w) for w in (first + last).split()]
 
 
 def force_case(t, answer):
     slots, force, alpha, ps, draws = t.number(), t.force(), t.float(), t.particles(), t.list()
     number, place = refusal(answer)
     if force[0] == 'E':
-        term = 'listNumbers (centerResult %s %s %s) %s' % (f(force[1]), f(force[2]), f(force[3]), particles(ps))
+        term = 'list_numbers (center_result %s %s %s) %s' % (f(force[1]), f(force[2]), f(force[3]), particles(ps))
         return term, [number, place] + [v for p in (ps if number else moved(ps, answer)) for v in p]
     speeds = [v for p in ps for v in p[2:4]] if number else hexes(answer.split('|')[1])
     counts = [0, 0] if number else [int(w) for w in answer.split('|')[0].split()[1:3]]
-    lent = '(forceInput %s %s %s (replicate %d 7))' % (floats([v for p in ps for v in p[:2]]), numbers([1, 2, 3] + pairs([v for p in ps for v in p[2:4]]) + [4]), floats(draws), slots * 8)
+    lent = '(force_input %s %s %s (replicate %d 7))' % (floats([v for p in ps for v in p[:2]]), numbers([1, 2, 3] + pairs([v for p in ps for v in p[2:4]]) + [4]), floats(draws), slots * 8)
     if force[0] == 'M':
-        run = 'manyBodyResult l %s %s' % (floats(force[1]), f(alpha))
+        run = 'many_body_result l %s %s' % (floats(force[1]), f(alpha))
     elif force[0] == 'C':
-        run = 'collideResult l %s %s %d' % (floats(force[3]), f(force[1]), force[2])
+        run = 'collide_result l %s %s %d' % (floats(force[3]), f(force[1]), force[2])
     else:
-        run = 'linkResult l %s %s %s %d %s' % (numbers([e for link in force[2] for e in link]), floats(force[3]), floats(force[4]), force[1], f(alpha))
-    return '(let l = %s in forceNumbers l (%s))' % (lent, run), [number, place] + counts + [1, 2, 3] + pairs(speeds) + [4] + work(number, slots)
+        run = 'link_result l %s %s %s %d %s' % (numbers([e for link in force[2] for e in link]), floats(force[3]), floats(force[4]), force[1], f(alpha))
+    return '(let l = %s in force_numbers l (%s))' % (lent, run), [number, place] + counts + [1, 2, 3] + pairs(speeds) + [4] + work(number, slots)
 
 
 def move_case(t, answer):
     decay, ps = t.float(), t.particles()
     number, place = refusal(answer)
-    return 'listNumbers (closingResult %s) %s' % (f(decay), particles(ps)), [number, place] + [v for p in (ps if number else moved(ps, answer)) for v in p]
+    return 'list_numbers (closing_result %s) %s' % (f(decay), particles(ps)), [number, place] + [v for p in (ps if number else moved(ps, answer)) for v in p]
 
 
 def tick_case(t, answer):
@@ -92,7 +92,7 @@ def tick_case(t, answer):
     head = answer.split('|')[0].split()
     counts = [0, 0, settings[0]] if number else [int(head[1]), int(head[2]), int(head[3], 16)]
     lent = slots_input(ps, settings[0], forces, draws, slots)
-    term = 'tickNumbers (%s) (settings %s %s %s)' % (lent, f(settings[1]), f(settings[2]), f(settings[3]))
+    term = 'tick_numbers (%s) (settings %s %s %s)' % (lent, f(settings[1]), f(settings[2]), f(settings[3]))
     return term, [number, place] + counts + sheet(ps if number else moved(ps, answer)) + work(number, slots)
 
 
@@ -102,7 +102,7 @@ def step_case(t, answer):
     ps, forces, draws = t.particles(), [t.force() for _ in range(8)], t.list()
     number, place = refusal(answer)
     lent = slots_input(ps, settings[0], forces, draws, slots)
-    term = 'stepNumbers (%s) (settings %s %s %s) %s %d' % (lent, f(settings[1]), f(settings[2]), f(settings[3]), f(settings[4]), budget)
+    term = 'step_numbers (%s) (settings %s %s %s) %s %d' % (lent, f(settings[1]), f(settings[2]), f(settings[3]), f(settings[4]), budget)
     if number:
         return term, [number, place, 0, 0, 0, 0, settings[0]] + sheet(ps) + work(number, slots)
     head = answer.split('|')[0].split()
@@ -114,11 +114,11 @@ def floor_case(t, answer):
     value = t.float()
     number, place = refusal(answer)
     z = 0 if number else int(answer.split()[1])
-    return 'floorNumbers %s' % f(value), [number, place, int(z < 0), abs(z)]
+    return 'floor_numbers %s' % f(value), [number, place, int(z < 0), abs(z)]
 
 
 def root_case(t, answer):
-    return '(rootBits 0x%x ∷ [])' % t.float(), [int(answer.split()[1], 16)]
+    return '(root_bits 0x%x ∷ [])' % t.float(), [int(answer.split()[1], 16)]
 
 
 def list_case(t, answer):
@@ -141,33 +141,26 @@ def list_case(t, answer):
 
 CASES = {'list': list_case, 'tree': tree_case, 'visit': visit_case, 'force': force_case, 'move': move_case, 'tick': tick_case, 'step': step_case, 'floor': floor_case, 'root': root_case}
 
-HEAD = '''use mathlib.Core.Path.{_≡_, refl}
-use mathlib.Core.Bool.{Bool, true, false, cond, _&&_, _||_}
-use mathlib.Core.List.{List, [], _∷_, _++_, map, reverse}
-use Prim.Native.Nat.{ℕ, suc, _*_}
-use lib.Dec.{eqb}
-use lib.IntN.{ℤ, pos, negsuc}
-use lib.ListN.{length, replicate}
-use lib.Ieee.{Float}
-use Rattle·rules.specs.declared.Particle.{Particle}
-use Rattle·rules.specs.declared.Visit.{Visit}
-use Rattle·rules.specs.Outcome.{Outcome, done, refused, refusalOf, workAfter}
-use Rattle·rules.specs.Number.{floatOf, bitsOf}
-use Rattle·rules.specs.Floor.{floorAnswer}
-use Rattle·rules.specs.Root.{rootBits}
-use Rattle·rules.specs.Refusal.{mostParticles}
-use Rattle·rules.specs.Sheet.{particle}
-use Rattle·rules.specs.Tree.{Tree, none, leaf, node, treeOf}
-use Rattle·rules.specs.Walk.{Entry, internal, tip, Counted, counted, after, continueIf, walk, parentLast}
-use Rattle·rules.specs.Flow.{Flow}
-use Rattle·rules.specs.Calls.{TreeInput, treeResult, treeAnswer, rowsAfter, chainsAfter, treeWorkAfter, ForceInput, forceAnswer, bufferAfter, manyBodyResult, collideResult, linkResult, centerResult, closingResult, particlesAfter}
-use Rattle·rules.specs.declared.Settings.{Settings}
-use Rattle·rules.specs.Tick.{SheetInput, settings, tickAnswer, sheetAfterTick, alphaAfterTick, workAfterTick, stepAnswer, sheetAfterStep, alphaAfterStep, workAfterStep}
-use Rattle·rules.specs.Listing.{lister}
-use Rattle·rules.specs.Opened.{opened}
+HEAD = '''use Rattle.std.specs.Prelude.{◌≡◌, refl, Bool, true, false, cond, ◌&&◌, ◌||◌, List, [], ◌∷◌, ◌++◌, map, reverse, ℕ, suc, ◌*◌, eqb, ℤ, pos, negsuc, length, replicate, Float}
+use Rattle.rules.specs.declared.Particle.{Particle}
+use Rattle.rules.specs.declared.Visit.{Visit}
+use Rattle.rules.specs.Outcome.{Outcome, done, refused, refusal_of, work_after}
+use Rattle.rules.specs.Number.{float_of, bits_of}
+use Rattle.rules.specs.Floor.{floor_answer}
+use Rattle.rules.specs.Root.{root_bits}
+use Rattle.rules.specs.Refusal.{most_particles}
+use Rattle.rules.specs.Sheet.{particle}
+use Rattle.rules.specs.Tree.{Tree, none, leaf, node, tree_of}
+use Rattle.rules.specs.Walk.{Entry, internal, tip, Counted, counted, after, continue_if, walk, parent_last}
+use Rattle.rules.specs.Flow.{Flow}
+use Rattle.rules.specs.Calls.{TreeInput, tree_result, tree_answer, rows_after, chains_after, tree_work_after, ForceInput, force_answer, buffer_after, many_body_result, collide_result, link_result, center_result, closing_result, particles_after}
+use Rattle.rules.specs.declared.Settings.{Settings}
+use Rattle.rules.specs.Tick.{SheetInput, settings, tick_answer, sheet_after_tick, alpha_after_tick, work_after_tick, step_answer, sheet_after_step, alpha_after_step, work_after_step}
+use Rattle.rules.specs.Listing.{lister}
+use Rattle.rules.specs.Opened.{opened}
 
 f : ℕ → Float
-f b = floatOf b
+f b = float_of b
 
 equals : List ℕ → List ℕ → Bool
 equals [] [] = true
@@ -179,16 +172,16 @@ integer : ℤ → List ℕ
 integer (pos n) = 0 ∷ n ∷ []
 integer (negsuc n) = 1 ∷ suc n ∷ []
 
-floorNumbers : Float → List ℕ
-floorNumbers x = let a = floorAnswer x in a .refusal .number ∷ a .refusal .place ∷ integer (a .value)
+floor_numbers : Float → List ℕ
+floor_numbers x = let a = floor_answer x in a.refusal.number ∷ a.refusal.place ∷ integer a.value
 
-treeNumbers : List ℕ → ℕ → ℕ → List ℕ
-treeNumbers sheet slots n =
+tree_numbers : List ℕ → ℕ → ℕ → List ℕ
+tree_numbers sheet slots n =
     let l : TreeInput = record { sheet = sheet; rows = replicate (slots * 4) 9; chains = replicate n 9; work = replicate (slots * 8) 7 } in
-    let o = treeResult mostParticles l in
-    let a = treeAnswer l o in
-    let e = a .extent in
-    a .refusal .number ∷ a .refusal .place ∷ a .nodes ∷ bitsOf (e .x0) ∷ bitsOf (e .y0) ∷ bitsOf (e .x1) ∷ bitsOf (e .y1) ∷ (rowsAfter l o ++ chainsAfter l o ++ treeWorkAfter l o)
+    let o = tree_result most_particles l in
+    let a = tree_answer l o in
+    let e = a.extent in
+    a.refusal.number ∷ a.refusal.place ∷ a.nodes ∷ bits_of e.x0 ∷ bits_of e.y0 ∷ bits_of e.x1 ∷ bits_of e.y1 ∷ (rows_after l o ++ chains_after l o ++ tree_work_after l o)
 
 has : List ℕ → ℕ → Bool
 has [] n = false
@@ -200,51 +193,51 @@ numbered n none = (none, n)
 numbered n (leaf a is) = (leaf n is, suc n)
 numbered n (node a t0 t1 t2 t3) =
     let r0 = numbered (suc n) t0 in
-    let r1 = numbered (r0 .1) t1 in
-    let r2 = numbered (r1 .1) t2 in
-    let r3 = numbered (r2 .1) t3 in
-    (node n (r0 .0) (r1 .0) (r2 .0) (r3 .0), r3 .1)
+    let r1 = numbered r0.1 t1 in
+    let r2 = numbered r1.1 t2 in
+    let r3 = numbered r2.1 t3 in
+    (node n r0.0 r1.0 r2.0 r3.0, r3.1)
 
-labelOf : Entry ℕ → ℕ
-labelOf (internal n) = n
-labelOf (tip n is) = n
+label_of : Entry ℕ → ℕ
+label_of (internal n) = n
+label_of (tip n is) = n
 
 seen : Outcome (Counted (List ℕ)) → List ℕ
-seen (done m) = reverse (m .state)
+seen (done m) = reverse m.state
 seen (refused r) = []
 
-visitNumbers : List Float → ℕ → List ℕ → List ℕ
-visitNumbers at n skips =
-    let t = numbered 0 (treeOf at n) .0 in
-    seen (walk (λ e s. done (after (labelOf e ∷ s) (continueIf (cond (has skips (labelOf e)) false true)))) t (counted [] 0)) ++ map labelOf (parentLast t)
+visit_numbers : List Float → ℕ → List ℕ → List ℕ
+visit_numbers at n skips =
+    let t = (numbered 0 (tree_of at n)).0 in
+    seen (walk (λ e s. done (after (label_of e ∷ s) (continue_if (cond (has skips (label_of e)) false true)))) t (counted [] 0)) ++ map label_of (parent_last t)
 
-forceInput : List Float → List ℕ → List Float → List ℕ → ForceInput
-forceInput at buffer draws work = record { places = at; buffer = buffer; start = 3; draws = draws; work = work }
+force_input : List Float → List ℕ → List Float → List ℕ → ForceInput
+force_input at buffer draws work = record { places = at; buffer = buffer; start = 3; draws = draws; work = work }
 
-forceNumbers : ForceInput → Outcome (Counted Flow) → List ℕ
-forceNumbers l o = let a = forceAnswer l o in a .refusal .number ∷ a .refusal .place ∷ a .visits ∷ a .draws ∷ (bufferAfter l o ++ workAfter o (l .work))
+force_numbers : ForceInput → Outcome (Counted Flow) → List ℕ
+force_numbers l o = let a = force_answer l o in a.refusal.number ∷ a.refusal.place ∷ a.visits ∷ a.draws ∷ (buffer_after l o ++ work_after o l.work)
 
 spread : List Particle → List ℕ
 spread [] = []
-spread (p ∷ ps) = bitsOf (p .x) ∷ bitsOf (p .y) ∷ bitsOf (p .vx) ∷ bitsOf (p .vy) ∷ p .flags ∷ spread ps
+spread (p ∷ ps) = bits_of p.x ∷ bits_of p.y ∷ bits_of p.vx ∷ bits_of p.vy ∷ p.flags ∷ spread ps
 
-listNumbers : (List Particle → Outcome (List Particle)) → List Particle → List ℕ
-listNumbers call ps = let o = call ps in refusalOf o .number ∷ refusalOf o .place ∷ spread (particlesAfter o ps)
+list_numbers : (List Particle → Outcome (List Particle)) → List Particle → List ℕ
+list_numbers call ps = let o = call ps in (refusal_of o).number ∷ (refusal_of o).place ∷ spread (particles_after o ps)
 
-sheetInput : List ℕ → ℕ → List ℕ → List Float → List ℕ → List Float → List ℕ → SheetInput
-sheetInput s a e n l d w = record { sheet = s; alpha = a; words = e; numbers = n; links = l; draws = d; work = w }
+sheet_input : List ℕ → ℕ → List ℕ → List Float → List ℕ → List Float → List ℕ → SheetInput
+sheet_input s a e n l d w = record { sheet = s; alpha = a; words = e; numbers = n; links = l; draws = d; work = w }
 
-tickNumbers : SheetInput → Settings → List ℕ
-tickNumbers l s =
-    let a = tickAnswer l s in
-    a .refusal .number ∷ a .refusal .place ∷ a .visits ∷ a .draws ∷ alphaAfterTick l s ∷ (sheetAfterTick l s ++ workAfterTick l s)
+tick_numbers : SheetInput → Settings → List ℕ
+tick_numbers l s =
+    let a = tick_answer l s in
+    a.refusal.number ∷ a.refusal.place ∷ a.visits ∷ a.draws ∷ alpha_after_tick l s ∷ (sheet_after_tick l s ++ work_after_tick l s)
 
-stepNumbers : SheetInput → Settings → Float → ℕ → List ℕ
-stepNumbers l s least budget =
-    let a = stepAnswer l s least budget in
-    a .refusal .number ∷ a .refusal .place ∷ a .ticks ∷ a .finished ∷ a .visits ∷ a .draws ∷ alphaAfterStep l s least budget ∷ (sheetAfterStep l s least budget ++ workAfterStep l s least budget)
+step_numbers : SheetInput → Settings → Float → ℕ → List ℕ
+step_numbers l s least budget =
+    let a = step_answer l s least budget in
+    a.refusal.number ∷ a.refusal.place ∷ a.ticks ∷ a.finished ∷ a.visits ∷ a.draws ∷ alpha_after_step l s least budget ∷ (sheet_after_step l s least budget ++ work_after_step l s least budget)
 '''
-OPEN = 'opened f equals integer floorNumbers treeNumbers has numbered labelOf seen visitNumbers forceInput forceNumbers spread listNumbers sheetInput tickNumbers stepNumbers'
+OPEN = 'opened f equals integer floor_numbers tree_numbers has numbered label_of seen visit_numbers force_input force_numbers spread list_numbers sheet_input tick_numbers step_numbers'
 
 
 # ---- theorems
@@ -270,7 +263,7 @@ def judged(lines):
 def definitions(folder):
     """A copy of crates/rules: its definitions and types, without functions and theorems, so that a changed definition is judged by what it computes and by nothing else."""
     rules = os.path.join(folder, 'crates', 'rules')
-    shutil.copytree(os.path.join(ROOT, 'crates', 'rules'), rules, ignore=shutil.ignore_patterns('proofs'))
+    shutil.copytree(os.path.join(ROOT, 'crates', 'rules'), rules, ignore=shutil.ignore_patterns('proofs', 'out'))
     source = os.path.join(rules, 'src', 'lib.rt')
     types = re.sub(r'^impl .*?^}\n', '', open(source).read(), flags=re.M | re.S)
     open(source, 'w').write(types + '\npub fn none() {}\n')
@@ -287,9 +280,14 @@ def library(folder, name, modules):
         open(os.path.join(folder, 'crates', name, 'specs', module + '.antt'), 'w').write(modules[module])
 
 
+# what the prover says of a theorem whose left side it computed, and it isn't true
+FALSE = re.compile(r'`Path Bool false false` \(found\)|and the other has `false` \(found\)')
+
+
 def check(folder, name):
-    """What the prover says, its status, and each theorem that fails with its message, but for those that take it too many steps."""
-    done = subprocess.run(['rt', 'check', name], cwd=folder, capture_output=True, text=True, env=dict(os.environ, RT_CUT='400'))
+    """What the prover says, its status, the theorems that are false, and what else fails, as what can't be read or takes too many steps."""
+    done = subprocess.run(['rt', 'check'], cwd=os.path.join(folder, 'crates', name), capture_output=True, text=True)
     text = done.stdout + done.stderr
-    errors = re.findall(r'/([A-Za-z0-9]+)\.antt:[0-9:]+ error: `([^`]+)`(.*)', text)
-    return text, done.returncode, [(module, theorem) for module, theorem, message in errors if 'step limit' not in message]
+    errors = re.findall(r'/([A-Za-z0-9]+)\.antt:[0-9:]+ error: `([^`]+)`(.*(?:\n  .*)*)', text)
+    false = [(module, theorem) for module, theorem, message in errors if FALSE.search(message)]
+    return text, done.returncode, false, [(module, theorem) for module, theorem, _ in errors if (module, theorem) not in false]

@@ -126,14 +126,22 @@ fn hex(b: &u64) -> String {
     format!("{b:#x}")
 }
 
-// An array as `rt fmt` lays it out.
+// An array as `rt fmt` lays it out: of short values as many on a line as there is room for, else one.
 fn array(out: &mut String, comment: &str, name: &str, of: &str, values: &[String]) {
     let n = values.len();
-    write!(out, "\n// {comment}\npub const {name}: [{of}; {n}] = [\n").unwrap();
+    write!(out, "\n// {comment}\npub const {name}: [{of}; {n}] = [").unwrap();
+    let room = if values.iter().all(|v| v.len() <= 10) { 100 } else { 0 };
+    let mut column = usize::MAX;
     for v in values {
-        writeln!(out, "    {v},").unwrap();
+        let width = v.len() + 2;
+        if column.saturating_add(width) > room {
+            out.push_str("\n   ");
+            column = 3;
+        }
+        write!(out, " {v},").unwrap();
+        column += width;
     }
-    out.push_str("];\n");
+    out.push_str("\n];\n");
 }
 
 const MADE: &str = "Made by `rustc -O -o beside/build/vectors beside/vectors.rs && beside/build/vectors crates/replay_vectors/src`";

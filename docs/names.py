@@ -23,10 +23,11 @@ class Crate:
     def __init__(self, name):
         self.called, self.laws, self.all, self.words = set(), {}, {name}, set()
         self.edits = {os.path.basename(path)[:-5] for path in glob.glob('crates/%s/must-fail/*.edit' % name)}
-        for path in glob.glob('crates/%s/**/*.rt' % name, recursive=True):
+        for path in glob.glob('crates/%s/src/**/*.rt' % name, recursive=True):
             self.read_source(os.path.basename(path)[:-3], code(path))
-        for path in glob.glob('crates/%s/**/*.antt' % name, recursive=True):
-            self.laws[path[len('crates/') : -len('.antt')]] = self.read_laws(code(path))
+        for folder in ('specs', 'proofs'):  # rt lays copies of them into out/
+            for path in glob.glob('crates/%s/%s/**/*.antt' % (name, folder), recursive=True):
+                self.laws[path[len('crates/') : -len('.antt')]] = self.read_laws(code(path))
         self.all |= self.called
 
     def read_source(self, file, text):
@@ -48,7 +49,7 @@ class Crate:
                 block = None
             law = LAW.match(line)
             if law:
-                name = (law['type'] or law['name']).strip('_')
+                name = (law['type'] or law['name']).strip('_◌')
                 self.all.add(name)
                 if block is None:
                     names.add(name)

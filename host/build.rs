@@ -1,4 +1,4 @@
-//! Links the archive: from the folder that TALEMIKU_LIB names, else, also where it is empty, from ../target/staticlib.
+//! Links the archive: from the folder that TALEMIKU_LIB names, else, also where it is empty, from ../crates/talemiku/out.
 use std::env;
 use std::path::PathBuf;
 use std::process::exit;
@@ -15,11 +15,11 @@ fn main() {
     }
     let folder = match env::var_os("TALEMIKU_LIB") {
         Some(folder) if !folder.is_empty() => PathBuf::from(folder),
-        _ => PathBuf::from(variable("CARGO_MANIFEST_DIR")).join("../target/staticlib"),
+        _ => PathBuf::from(variable("CARGO_MANIFEST_DIR")).join("../crates/talemiku/out"),
     };
     let archive = folder.join("libtalemiku.a");
     if !archive.exists() {
-        fail(&format!("there is no {}: `rt staticlib talemiku` makes it, or TALEMIKU_LIB names its folder", archive.display()));
+        fail(&format!("there is no {}: `rt lib` in crates/talemiku makes it, or TALEMIKU_LIB names its folder", archive.display()));
     }
     let name = folder.to_str().unwrap_or_else(|| fail(&format!("cargo takes no folder whose name isn't UTF-8: {}", folder.display())));
     println!("cargo:rerun-if-env-changed=TALEMIKU_LIB");

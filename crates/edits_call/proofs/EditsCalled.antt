@@ -17,7 +17,6 @@ use Rattle.rules.specs.Tree.{Tree, nodes, depth, fits_check, greatest_level}
 use Rattle.rules.specs.Calls.{slots_of}
 use Rattle.rules.specs.Edits.{Edit, points_of, insertions, Present, present, edited, present_after, removable, extent_now, tree_now, edit_check, edits_from, EditsInput, edit_list, edit_input_check, edits_result, edits_answer, edit_rows_after, edit_chains_after, edit_work_after}
 use Rattle.tree_build.specs.declared.build.Built.{Built}
-use Rattle.tree_build.specs.declared.build.Built.TheVariants as Built
 use Rattle.tree_build.specs.Build.{particles}
 use Rattle.rules.proofs.RefusalLaws.{Refuses, of_require, of_done, ◌then·◌, ◌>>=·◌}
 use Rattle.tree_call.specs.Tree.{refused_tree, refused_work, Comes, extent_built, Answers}

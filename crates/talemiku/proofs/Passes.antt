@@ -135,3 +135,9 @@ module _ (x y strength : Float) (ps : List Particle) where
   pub centered_each : centered x y strength ps ≡ map (shifted shift.x shift.y) ps
   unfolding centered
   centered_each = sym (ap (λ (s : Pair). map (shifted s.x s.y) ps) shift_is)
+
+  -- the same by what the code makes of the sums s of all of them
+  pub centered-by : (s : Pair) (i : ℕ) → s ≡ sum_to i ps → i ≡ length ps → (t : Pair) → t ≡ offsets_of s (length ps) x y strength → centered x y strength ps ≡ map (shifted t.x t.y) ps
+  centered-by s i e h t o =
+      centered_each
+      ∙ ap (λ (u : Pair). map (shifted u.x u.y) ps) (sym (o ∙ ap (λ (u : Pair). offsets_of u (length ps) x y strength) (e ∙ ap (λ (i : ℕ). sum_to i ps) h)))

@@ -36,43 +36,31 @@ abbrev decreases-loop : tie.decreases-loop-t
 decreases-loop words numbers links places₀ speeds₀ flags draws kept₀ next₀ tail₀ work₀ settings alpha_min budget n p₀ t₀ places speeds kept next tail work p t = budget - t
 
 -- the points of the code, each from a later one
-abbrev put : tie.After-slice_known-then-number-ne0-2-1 invariant-loop decreases-loop → tie.After-put_back invariant-loop decreases-loop
-put c = c.before.before.before.before
+abbrev start : tie.At-loop-t invariant-loop decreases-loop → tie.Start invariant-loop decreases-loop
+start c = c.before.before.before.before.before.before.before.before.before.before.before.before
 
-abbrev stopped : tie.After-put_back invariant-loop decreases-loop → tie.Then-number-ne0 invariant-loop decreases-loop
-stopped c = c.before.before.before
+abbrev turn : tie.After-keep invariant-loop decreases-loop → tie.At-loop-t invariant-loop decreases-loop
+turn c = c.before.before.before.before.before
 
-abbrev after-refusal : tie.After-put_back-arg-1 invariant-loop decreases-loop → tie.After-refusal-1 invariant-loop decreases-loop
-after-refusal c = c.before.before
+abbrev lent : tie.After-tick_on-r invariant-loop decreases-loop → tie.After-keep invariant-loop decreases-loop
+lent c = c.before.before.before.before.before.before.before.before
 
 abbrev ticked : tie.After-refusal-1 invariant-loop decreases-loop → tie.After-tick_on-r invariant-loop decreases-loop
 ticked c = c.before.before.before.before.before.before.before.before.before.before.before
 
-abbrev lent : tie.After-tick_on-arg-in-loop-t-4-1 invariant-loop decreases-loop → tie.After-keep invariant-loop decreases-loop
-lent c = c.before.before.before.before.before.before.before
-
-abbrev begun : tie.After-keep invariant-loop decreases-loop → tie.Then-alpha_min-p invariant-loop decreases-loop
-begun c = c.before.before
-
-abbrev turn : tie.Then-alpha_min-p invariant-loop decreases-loop → tie.At-loop-t invariant-loop decreases-loop
-turn c = c.before.before.before
-
-abbrev start : tie.After-settings-1 invariant-loop decreases-loop → tie.Start invariant-loop decreases-loop
-start c = c.before.before.before.before.before.before.before.before.before.before.before
-
-abbrev entry : tie.At-loop-t invariant-loop decreases-loop → tie.Start invariant-loop decreases-loop
-entry c = start c.before
+abbrev stopped : tie.After-put_back-arg-then-number-ne0-1 invariant-loop decreases-loop → tie.After-tick_on-r invariant-loop decreases-loop
+stopped c = ticked c.before.before.before
 
 -- the forces
 abbrev fs : tie.Start invariant-loop decreases-loop → List Force
 fs s = forces_from (length s.args.flags.now) (entries_of s.args.words.now) s.args.numbers.now s.args.links.now
 
 loop-holds : tie.Need-loop-t-init invariant-loop decreases-loop
-loop-holds c = let p = (start c).requires in (p.1.0, p.1.1, refl, refl, refl, refl, refl, refl, omega arith, omega arith, refl)
+loop-holds c = let p = c.requires in (p.1.0, p.1.1, refl, refl, refl, refl, refl, refl, omega arith, omega arith, refl)
 
 -- as many places and velocities as are kept
-room : (k : tie.At-loop-t invariant-loop decreases-loop) → length k.loop-t.auto ≡ length k.loop-t.places + length k.loop-t.speeds
-room k = omega (arith, k.loop-t.invariant.4, (entry k).requires.0.2, k.loop-t.invariant.0.places, k.loop-t.invariant.0.speeds)
+room : (k : tie.At-loop-t invariant-loop decreases-loop) → length k.loop-t.kept ≡ length k.loop-t.places + length k.loop-t.speeds
+room k = omega (arith, k.loop-t.invariant.4, k.requires.0.2, k.loop-t.invariant.0.places, k.loop-t.invariant.0.speeds)
 
 -- of one turn, in which places and velocities were kept
 module _ (c : tie.After-keep invariant-loop decreases-loop) where
@@ -80,121 +68,109 @@ module _ (c : tie.After-keep invariant-loop decreases-loop) where
   kept = c.keep.new.kept
 
   abbrev before : Columns
-  before = let l = (turn (begun c)).loop-t in columns l.places l.speeds (entry (turn (begun c))).args.flags.now
+  before = columns c.loop-t.places c.loop-t.speeds c.args.flags.now
 
   long : length kept ≡ length before.places + length before.speeds
-  long = c.keep.auto.kept ∙ room (turn (begun c))
+  long = c.keep.auto.kept ∙ room (turn c)
 
-  half : (n : ℕ) → n ≡ length (entry (turn (begun c))).args.places.now → n ≤ length kept
-  half n e = omega (arith, e, (turn (begun c)).loop-t.invariant.2, long)
+  half : (n : ℕ) → n ≡ length c.args.places.now → n ≤ length kept
+  half n e = omega (arith, e, c.loop-t.invariant.2, long)
 
-  home-long : (n : ℕ) → n ≡ length (entry (turn (begun c))).args.places.now → length (take n kept) ≡ n
+  home-long : (n : ℕ) → n ≡ length c.args.places.now → length (take n kept) ≡ n
   home-long n e = length-take-le n kept (half n e)
 
 tick-on-requires : tie.Need-tick_on-r-requires invariant-loop decreases-loop
 tick-on-requires c κs =
-    let g = lent c in
-    let k = turn (begun g) in
-    let l = k.loop-t in
-    let p = (entry k).requires in (
+    let g = c.before.before.before.before.before.before.before in
+    let l = c.loop-t in
+    let p = c.requires in (
       (p.0.0, omega (arith, home-long g _ refl, l.invariant.2, l.invariant.0.places)),
       (l.invariant.0, l.invariant.1, omega (arith, l.invariant.8, l.invariant.9, p.0.1)),
     )
 
 -- the columns that the tick of this turn left
 abbrev after : tie.After-tick_on-r invariant-loop decreases-loop → Columns
-after c = columns c.tick_on-r.new.places c.tick_on-r.new.speeds (entry (turn (begun (lent c.before)))).args.flags.now
+after c = columns c.tick_on-r.new.places c.tick_on-r.new.speeds c.args.flags.now
 
 -- how it ended
-staged : (c : tie.After-tick_on-r invariant-loop decreases-loop) → let g = lent c.before in let k = turn (begun g) in let l = k.loop-t in let s = entry k in let a = s.args in
-    staged_of (after c) a.draws.now c.tick_on-r.result ≡ tick_home a.plan.settings (take (length a.places.now) (kept g)) (fs s) (slots_of a.work.now) (state_of (before g) a.draws.now l.p)
+staged : (c : tie.After-tick_on-r invariant-loop decreases-loop) → let g = lent c in let s = start (turn g) in let a = c.args in
+    staged_of (after c) a.draws.now c.tick_on-r.result ≡ tick_home a.plan.settings (take (length a.places.now) (kept g)) (fs s) (slots_of a.work.now) (state_of (before g) a.draws.now c.loop-t.p)
 staged c =
-    let g = lent c.before in
-    let k = turn (begun g) in
-    let l = k.loop-t in
-    let s = entry k in
-    let a = s.args in
-    c.tick_on-r.ensures.is ∙ ap (λ (w : ℕ). tick_home a.plan.settings (take (length a.places.now) (kept g)) (fs s) (w / slot_words) (state_of (before g) a.draws.now l.p)) l.invariant.7
+    let g = lent c in
+    let s = start (turn g) in
+    let a = c.args in
+    c.tick_on-r.ensures.is ∙ ap (λ (w : ℕ). tick_home a.plan.settings (take (length a.places.now) (kept g)) (fs s) (w / slot_words) (state_of (before g) a.draws.now c.loop-t.p)) c.loop-t.invariant.7
 
 -- held axes return to the places of this turn
-home : (g : tie.After-keep invariant-loop decreases-loop) → take (length (entry (turn (begun g))).args.places.now) (kept g) ≡ (before g).places
-home g = first_part (kept g) (before g).places (before g).speeds _ g.keep.ensures (sym (turn (begun g)).loop-t.invariant.2)
+home : (g : tie.After-keep invariant-loop decreases-loop) → take (length g.args.places.now) (kept g) ≡ (before g).places
+home g = first_part (kept g) (before g).places (before g).speeds _ g.keep.ensures (sym g.loop-t.invariant.2)
 
 put-back-requires : tie.Need-put_back-requires invariant-loop decreases-loop
-put-back-requires c κs =
-    let m = ticked (after-refusal c.before.before) in
-    omega (arith, long (lent m.before), m.tick_on-r.auto.places, m.tick_on-r.auto.speeds)
+put-back-requires c κs = omega (arith, long (lent (stopped c)), c.tick_on-r.auto.places, c.tick_on-r.auto.speeds)
 
 returns : tie.Need-returns-then-number-ne0 invariant-loop decreases-loop
 returns c =
-    let b = put c in
-    let w = stopped b in
-    let m = ticked w.before in
-    let g = lent m.before in
-    let i = begun g in
-    let k = turn i in
-    let l = k.loop-t in
-    let s = entry k in
-    let a = s.args in
-    let r = m.tick_on-r.result in
+    let m = stopped c.before.before.before.before.before in
+    let g = lent m in
+    let s = start (turn g) in
+    let l = c.loop-t in
+    let a = c.args in
+    let r = c.tick_on-r.result in
+    let e = c.tick_on-r.auto in
     let q = a.plan in
-    stopped_steps (before g) a.draws.now l.p _ q.budget l.t _ l.invariant.0 l.invariant.8 l.invariant.9 b.put_back.new.places b.put_back.new.speeds r.refusal
-    (b.put_back.ensures.0 ∙ first_part (kept g) (before g).places (before g).speeds _ g.keep.ensures m.tick_on-r.auto.places)
-    (b.put_back.ensures.1 ∙ second_part (kept g) (before g).places (before g).speeds _ _ g.keep.ensures m.tick_on-r.auto.places m.tick_on-r.auto.speeds)
-    m.tick_on-r.ensures.late
-    (ticks_stop q.settings q.alpha_min (fs s) (slots_of a.work.now) q.budget l.t (state_of (before g) a.draws.now l.p) i.loop-t-test.taken i.if-alpha_min-p.taken r.refusal
-    (tick-stops q.settings (fs s) (slots_of a.work.now) (before g) (after m) a.draws.now l.p r _ (home g) l.invariant.0.places (staged m) w.if-number-ne0.taken)
+    stopped_steps (before g) a.draws.now l.p _ q.budget l.t _ l.invariant.0 l.invariant.8 l.invariant.9 c.put_back.new.places c.put_back.new.speeds r.refusal
+    (c.put_back.ensures.0 ∙ first_part (kept g) (before g).places (before g).speeds _ c.keep.ensures e.places)
+    (c.put_back.ensures.1 ∙ second_part (kept g) (before g).places (before g).speeds _ _ c.keep.ensures e.places e.speeds)
+    c.tick_on-r.ensures.late
+    (ticks_stop q.settings q.alpha_min (fs s) (slots_of a.work.now) q.budget l.t (state_of (before g) a.draws.now l.p) c.loop-t-test.true c.if-alpha_min-p.true r.refusal
+    (tick-stops q.settings (fs s) (slots_of a.work.now) (before g) (after m) a.draws.now l.p r _ (home g) l.invariant.0.places (staged m) c.if-number-ne0.true)
     ∙ sym l.invariant.10 ∙ sym (ticks_first q.settings q.alpha_min (fs s) (slots_of a.work.now) q.budget _))
 
 loop-again : tie.Need-loop-t-preserved invariant-loop decreases-loop
 loop-again c =
-    let w = c.before in
-    let m = ticked w.before in
-    let g = lent m.before in
-    let i = begun g in
-    let k = turn i in
-    let l = k.loop-t in
-    let s = entry k in
-    let a = s.args in
-    let r = m.tick_on-r.result in
+    let m = ticked c.before.before in
+    let g = lent m in
+    let s = start (turn g) in
+    let l = c.loop-t in
+    let a = c.args in
+    let r = c.tick_on-r.result in
     let q = a.plan in
-    let e = m.tick_on-r.auto in
-    let t = m.tick_on-r.ensures in
-    let z = w.if-number-ne0.false in (
+    let e = c.tick_on-r.auto in
+    let t = c.tick_on-r.ensures in
+    let z = c.if-number-ne0.false in (
       record {
         few = l.invariant.0.few;
-        places = e.1.1.1.1.0 ∙ l.invariant.0.places;
-        speeds = e.1.1.1.1.1.0 ∙ l.invariant.0.speeds;
+        places = e.places ∙ l.invariant.0.places;
+        speeds = e.speeds ∙ l.invariant.0.speeds;
         ranged = t.ranged z;
         drawn = t.draws.reach;
       },
-      record { links = e.1.1.1.1.1.1.1.1.1.0 ∙ l.invariant.1.links; tails = e.1.1.1.1.1.1.1.1.1.1.0 ∙ l.invariant.1.tails },
-      e.1.1.1.1.0 ∙ l.invariant.2,
-      e.1.1.1.1.1.0 ∙ l.invariant.3,
-      g.keep.auto.kept ∙ l.invariant.4,
-      e.1.1.1.1.1.1.1.1.1.0 ∙ l.invariant.5,
-      e.1.1.1.1.1.1.1.1.1.1.0 ∙ l.invariant.6,
-      e.1.1.1.1.1.1.1.1.1.1.1.0 ∙ l.invariant.7,
-      omega (arith, i.loop-t-test.taken),
+      record { links = e.next ∙ l.invariant.1.links; tails = e.tail ∙ l.invariant.1.tails },
+      e.places ∙ l.invariant.2,
+      e.speeds ∙ l.invariant.3,
+      c.keep.auto.kept ∙ l.invariant.4,
+      e.next ∙ l.invariant.5,
+      e.tail ∙ l.invariant.6,
+      e.work ∙ l.invariant.7,
+      omega (arith, c.loop-t-test.true),
       omega (arith, t.few z, l.invariant.9),
       l.invariant.10
-          ∙ ticks-on q.settings q.alpha_min (fs s) (slots_of a.work.now) q.budget l.t (state_of (before g) a.draws.now l.p) i.loop-t-test.taken i.if-alpha_min-p.taken
+          ∙ ticks-on q.settings q.alpha_min (fs s) (slots_of a.work.now) q.budget l.t (state_of (before g) a.draws.now l.p) c.loop-t-test.true c.if-alpha_min-p.true
           (state_of (after m) a.draws.now r.progress)
           (tick_goes q.settings (fs s) (slots_of a.work.now) (before g) (after m) a.draws.now l.p r _ (home g) l.invariant.0.places (staged m) z),
     )
 
 returns-2 : tie.Need-returns invariant-loop decreases-loop
 returns-2 c =
-    let k = c.before.before in
-    let l = k.loop-t in
-    let s = entry k in
-    let a = s.args in
+    let s = start c.before.before in
+    let l = c.loop-t in
+    let a = c.args in
     let q = a.plan in
     let now = columns l.places l.speeds a.flags.now in
     let m = state_of now a.draws.now l.p in
     ended_steps now a.draws.now l.p _ q.budget l.t _ l.invariant.0 l.invariant.8 l.invariant.9 c.unrefused.result c.unrefused.ensures
-    (⊎_elim (λ w. ticks-low q.settings q.alpha_min (fs s) (slots_of a.work.now) q.budget l.t m w.0.taken w.2.left)
-    (λ w. ticks_end q.settings q.alpha_min (fs s) (slots_of a.work.now) q.budget l.t m w.left) c.loop-t-test.branch
+    (⊎_elim (λ w. ticks-low q.settings q.alpha_min (fs s) (slots_of a.work.now) q.budget l.t m w.loop-t-test.true w.if-alpha_min-p.false)
+    (λ w. ticks_end q.settings q.alpha_min (fs s) (slots_of a.work.now) q.budget l.t m w.loop-t-test.false) c.loop-t-test.branch-raw
     ∙ sym l.invariant.10 ∙ sym (ticks_first q.settings q.alpha_min (fs s) (slots_of a.work.now) q.budget _))
 
 pub step_on_spec : {M : Type 1} → statement M
@@ -204,20 +180,20 @@ step_on_spec =
     invariant-loop
     decreases-loop
     loop-holds
-    (λ c κs. room (turn c.before.before.before))
+    (λ c κs. room c.before.before.before.before)
     (λ c. half c.before.before _ refl)
-    (λ c. sym (home-long c.before.before.before _ refl))
+    (λ c. sym (home-long c.before.before _ refl))
     tick-on-requires
     put-back-requires
-    (λ c. let b = put c in let m = ticked (stopped b).before in b.put_back.auto.places ∙ m.tick_on-r.auto.places ∙ (turn (begun (lent m.before))).loop-t.invariant.2)
-    (λ c. let b = put c in let m = ticked (stopped b).before in b.put_back.auto.speeds ∙ m.tick_on-r.auto.speeds ∙ (turn (begun (lent m.before))).loop-t.invariant.3)
-    (λ c. let b = put c in let m = ticked (stopped b).before in (lent m.before).keep.auto.kept ∙ (turn (begun (lent m.before))).loop-t.invariant.4)
-    (λ c. let b = put c in let m = ticked (stopped b).before in m.tick_on-r.auto.next ∙ (turn (begun (lent m.before))).loop-t.invariant.5)
-    (λ c. let b = put c in let m = ticked (stopped b).before in m.tick_on-r.auto.tail ∙ (turn (begun (lent m.before))).loop-t.invariant.6)
-    (λ c. let b = put c in let m = ticked (stopped b).before in m.tick_on-r.auto.work ∙ (turn (begun (lent m.before))).loop-t.invariant.7)
+    (λ c. c.put_back.auto.places ∙ c.tick_on-r.auto.places ∙ c.loop-t.invariant.2)
+    (λ c. c.put_back.auto.speeds ∙ c.tick_on-r.auto.speeds ∙ c.loop-t.invariant.3)
+    (λ c. c.keep.auto.kept ∙ c.loop-t.invariant.4)
+    (λ c. c.tick_on-r.auto.next ∙ c.loop-t.invariant.5)
+    (λ c. c.tick_on-r.auto.tail ∙ c.loop-t.invariant.6)
+    (λ c. c.tick_on-r.auto.work ∙ c.loop-t.invariant.7)
     returns
-    (λ c. let i = begun (lent (ticked c.before.before).before) in omega (arith, i.loop-t-test.taken, (entry (turn i)).requires.0.1))
-    (λ c. let i = begun (lent (ticked c.before.before).before) in omega (arith, i.loop-t-test.taken))
+    (λ c. omega (arith, c.loop-t-test.true, c.requires.0.1))
+    (λ c. omega (arith, c.loop-t-test.true))
     loop-again
     (λ c κs. search rules)
     (λ c. c.loop-t.invariant.2)

@@ -20,26 +20,30 @@ abbrev start : tie.After-step_check-r → tie.Start
 start d = d.before.before.before.before.before.before.before.before
 
 -- what the check answered
-answer : (d : tie.After-step_check-r) → let s = start d in d.step_check-r.result ≡ refusal_of (sheet_check (input s) (count_check most_ticks s.args.budget) (tick_settings (input s) s.args.s ++ (s.args.alpha_min ∷ [])))
+answer : (d : tie.After-step_check-r) → let s = start d in let a = d.args in d.step_check-r.result ≡ refusal_of (sheet_check (input s) (count_check most_ticks a.budget) (tick_settings (input s) a.s ++ (a.alpha_min ∷ [])))
 answer d =
     let s = start d in
-    answered (input s) s.args.budget (tick_settings (input s) s.args.s ++ (s.args.alpha_min ∷ [])) d.step_check-r.result
+    let a = d.args in
+    answered (input s) a.budget (tick_settings (input s) a.s ++ (a.alpha_min ∷ [])) d.step_check-r.result
     (d.step_check-r.ensures
-    ∙ ap (λ (a : Float). refusal_of (sheet_check (lent_sheet s.args.sheet.now 0 s.args.words.now s.args.numbers.now s.args.links.now s.args.draws.now []) (count_check most_ticks s.args.budget) ((a ∷ s.args.s.target ∷ s.args.s.alpha_decay ∷ s.args.s.velocity_decay ∷ []) ++ (s.args.alpha_min ∷ []))))
+    ∙ ap (λ (x : Float). refusal_of (sheet_check (lent_sheet a.sheet.now 0 a.words.now a.numbers.now a.links.now a.draws.now []) (count_check most_ticks a.budget) ((x ∷ a.s.target ∷ a.s.alpha_decay ∷ a.s.velocity_decay ∷ []) ++ (a.alpha_min ∷ []))))
     d.float_of-first_alpha.ensures)
 
 returns : tie.Need-returns-then-number-ne0
 returns c =
     let d = c.before.before in
     let s = start d in
-    step-stopped (input s) s.args.s s.args.alpha_min s.args.budget d.step_check-r.result c.refused_step.result (stopped (input s) s.args.budget (tick_settings (input s) s.args.s ++ (s.args.alpha_min ∷ [])) d.step_check-r.result (answer d) c.if-number-ne0.true) c.refused_step.ensures
+    let a = c.args in
+    let r = c.step_check-r.result in
+    step-stopped (input s) a.s a.alpha_min a.budget r c.refused_step.result (stopped (input s) a.budget (tick_settings (input s) a.s ++ (a.alpha_min ∷ [])) r (answer d) c.if-number-ne0.true) c.refused_step.ensures
 
 with-lists-requires : tie.Need-with_lists-requires
 with-lists-requires c κs =
-    let e = c.before.before.before in
-    let s = start e.before in (
-      past (input s) s.args.budget (tick_settings (input s) s.args.s ++ (s.args.alpha_min ∷ [])) e.step_check-r.result (answer e.before) e.if-number-ne0.false,
-      e.float_of-first_alpha.ensures,
+    let d = c.before.before.before.before in
+    let s = start d in
+    let a = c.args in (
+      past (input s) a.budget (tick_settings (input s) a.s ++ (a.alpha_min ∷ [])) c.step_check-r.result (answer d) c.if-number-ne0.false,
+      c.float_of-first_alpha.ensures,
     )
 
 pub step_spec : {M : Type 1} → statement M

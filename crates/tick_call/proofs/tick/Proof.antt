@@ -22,22 +22,23 @@ start d = d.before.before.before.before.before.before.before.before
 answer : (d : tie.After-tick_check-r) → let s = start d in d.tick_check-r.result ≡ refusal_of (sheet_check (input s) fine (tick_settings (input s) s.args.s))
 answer d =
     let s = start d in
-    answered (input s) 0 (tick_settings (input s) s.args.s) d.tick_check-r.result
+    let a = d.args in
+    answered (input s) 0 (tick_settings (input s) a.s) d.tick_check-r.result
     (d.tick_check-r.ensures
-    ∙ ap (λ (a : Float). refusal_of (sheet_check (lent_sheet s.args.sheet.now 0 s.args.words.now s.args.numbers.now s.args.links.now s.args.draws.now []) fine (a ∷ s.args.s.target ∷ s.args.s.alpha_decay ∷ s.args.s.velocity_decay ∷ [])))
+    ∙ ap (λ (x : Float). refusal_of (sheet_check (lent_sheet a.sheet.now 0 a.words.now a.numbers.now a.links.now a.draws.now []) fine (x ∷ a.s.target ∷ a.s.alpha_decay ∷ a.s.velocity_decay ∷ [])))
     d.float_of.ensures)
 
 returns : tie.Need-returns-then-number-ne0
 returns c =
     let d = c.before.before in
     let s = start d in
-    tick-stopped (input s) s.args.s d.tick_check-r.result c.refused.result (stopped (input s) 0 (tick_settings (input s) s.args.s) d.tick_check-r.result (answer d) c.if-number-ne0.true) c.refused.ensures
+    tick-stopped (input s) c.args.s c.tick_check-r.result c.refused.result (stopped (input s) 0 (tick_settings (input s) c.args.s) c.tick_check-r.result (answer d) c.if-number-ne0.true) c.refused.ensures
 
 with-lists-requires : tie.Need-with_lists-requires
 with-lists-requires c κs =
-    let e = c.before.before.before in
-    let s = start e.before in
-    past (input s) 0 (tick_settings (input s) s.args.s) e.tick_check-r.result (answer e.before) e.if-number-ne0.false
+    let d = c.before.before.before.before in
+    let s = start d in
+    past (input s) 0 (tick_settings (input s) c.args.s) c.tick_check-r.result (answer d) c.if-number-ne0.false
 
 pub tick_spec : {M : Type 1} → statement M
 tick_spec =

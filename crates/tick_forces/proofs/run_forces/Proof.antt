@@ -36,20 +36,14 @@ abbrev decreases-loop : tie.decreases-loop-i
 decreases-loop words numbers links places₀ speeds₀ flags t draws next₀ tail₀ work₀ n p a₀ b₀ i₀ places speeds next tail work at a b i = force_slots - i
 
 -- the points of the code, each from a later one
-abbrev entry : tie.At-loop-i invariant-loop decreases-loop → tie.Start invariant-loop decreases-loop
-entry c = c.before.before.before.before.before.before.before.before.before.before
-
-abbrev turn : tie.After-entry_at-e invariant-loop decreases-loop → tie.At-loop-i invariant-loop decreases-loop
-turn c = c.before.before
-
 abbrev read : tie.After-stage-arg-in-loop-i-6-1 invariant-loop decreases-loop → tie.After-entry_at-e invariant-loop decreases-loop
 read c = c.before.before.before.before.before.before.before
 
 abbrev ran : tie.After-refusal-1 invariant-loop decreases-loop → tie.After-stage-r invariant-loop decreases-loop
 ran c = c.before.before.before.before.before.before.before.before.before.before.before
 
-abbrev passed : tie.After-numbers_needed-a invariant-loop decreases-loop → tie.Else-number-ne0 invariant-loop decreases-loop
-passed c = c.before.before
+abbrev passed : tie.After-at-1 invariant-loop decreases-loop → tie.After-entry_at-e invariant-loop decreases-loop
+passed c = read (ran c.before.before).before
 
 loop-holds : tie.Need-loop-i-init invariant-loop decreases-loop
 loop-holds c =
@@ -60,50 +54,49 @@ loop-holds c =
 -- the slot's own lists, from what is left
 module _ (c : tie.After-entry_at-e invariant-loop decreases-loop) where
   abbrev n : ℕ
-  n = length (entry (turn c)).args.flags.now
+  n = length c.args.flags.now
 
   abbrev e : ForceEntry
   e = c.entry_at-e.result
 
-  slot : let l = (turn c).loop-i in let a = (entry (turn c)).args in EntryFits n e (drop l.a a.numbers.now) (drop l.b a.links.now)
+  slot : EntryFits n e (drop c.loop-i.a c.args.numbers.now) (drop c.loop-i.b c.args.links.now)
   slot =
-      let l = (turn c).loop-i in
-      let a = (entry (turn c)).args in
+      let l = c.loop-i in
+      let a = c.args in
       left-slot n a.words.now a.numbers.now a.links.now l.i l.a l.b l.invariant.0 (omega (arith, c.loop-i-test.true)) e c.entry_at-e.ensures
 
-  next : let l = (turn c).loop-i in let a = (entry (turn c)).args in Left n a.words.now a.numbers.now a.links.now (l.i + 1) (l.a + numbers_needed n e) (l.b + links_needed e * 2)
+  next : let l = c.loop-i in let a = c.args in Left n a.words.now a.numbers.now a.links.now (l.i + 1) (l.a + numbers_needed n e) (l.b + links_needed e * 2)
   next =
-      let l = (turn c).loop-i in
-      let a = (entry (turn c)).args in
+      let l = c.loop-i in
+      let a = c.args in
       left-next n a.words.now a.numbers.now a.links.now l.i l.a l.b l.invariant.0 (omega (arith, c.loop-i-test.true)) e c.entry_at-e.ensures
 
   -- the force of this turn, and those after it
-  forces : let l = (turn c).loop-i in let a = (entry (turn c)).args in
+  forces : let l = c.loop-i in let a = c.args in
       forces_left n a.words.now a.numbers.now a.links.now l.i l.a l.b ≡ force_of n e (drop l.a a.numbers.now) (drop l.b a.links.now) ∷ forces_left n a.words.now a.numbers.now a.links.now (l.i + 1) (l.a + numbers_needed n e) (l.b + links_needed e * 2)
   forces =
-      let l = (turn c).loop-i in
-      let a = (entry (turn c)).args in
+      let l = c.loop-i in
+      let a = c.args in
       left-forces n a.words.now a.numbers.now a.links.now l.i l.a l.b l.invariant.0 (omega (arith, c.loop-i-test.true)) e c.entry_at-e.ensures
 
 stage-requires : tie.Need-stage-r-requires invariant-loop decreases-loop
 stage-requires c κs =
-    let k = read c in
-    let l = (turn k).loop-i in
-    let s = entry (turn k) in
-    (l.invariant.1, l.invariant.2, rw (rest-is s.args.numbers.now l.a, rest-is s.args.links.now l.b) (slot k), omega (arith, l.invariant.10, s.requires.1.2, l.invariant.0.some))
+    let l = c.loop-i in
+    let a = c.args in
+    (l.invariant.1, l.invariant.2, rw (rest-is a.numbers.now l.a, rest-is a.links.now l.b) (slot (read c)), omega (arith, l.invariant.10, c.requires.1.2, l.invariant.0.some))
 
 -- the columns that the stage of this turn left
 abbrev after : tie.After-stage-r invariant-loop decreases-loop → Columns
-after c = columns c.stage-r.new.places c.stage-r.new.speeds (entry (turn (read c.before))).args.flags.now
+after c = columns c.stage-r.new.places c.stage-r.new.speeds c.args.flags.now
 
 -- how it ended
-staged : (c : tie.After-stage-r invariant-loop decreases-loop) → let k = read c.before in let l = (turn k).loop-i in let a = (entry (turn k)).args in
+staged : (c : tie.After-stage-r invariant-loop decreases-loop) → let k = read c.before in let l = c.loop-i in let a = c.args in
     staged_of (after c) a.draws.now c.stage-r.result
     ≡ force_stage a.t (slots_of a.work.now) (state_of (columns l.places l.speeds a.flags.now) a.draws.now l.at) (force_of (n k) (e k) (drop l.a a.numbers.now) (drop l.b a.links.now))
 staged c =
     let k = read c.before in
-    let l = (turn k).loop-i in
-    let a = (entry (turn k)).args in
+    let l = c.loop-i in
+    let a = c.args in
     staged_rest (after c) a.draws.now c.stage-r.result a.t (n k) (e k) a.numbers.now a.links.now l.a l.b
     (length l.work) (length a.work.now) (state_of (columns l.places l.speeds a.flags.now) a.draws.now l.at) l.invariant.7 c.stage-r.ensures.is
 
@@ -111,11 +104,11 @@ returns : tie.Need-returns-then-number-ne0 invariant-loop decreases-loop
 returns c =
     let g = ran c.before in
     let k = read g.before in
-    let l = (turn k).loop-i in
-    let a = (entry (turn k)).args in
-    let r = g.stage-r.ensures in
+    let l = c.loop-i in
+    let a = c.args in
+    let r = c.stage-r.ensures in
     record {
-      is = stage-stop (after g) a.draws.now g.stage-r.result a.t (slots_of a.work.now) _ _ _ (forces_left (n k) a.words.now a.numbers.now a.links.now l.i l.a l.b) (forces k) (staged g) c.if-number-ne0.true ∙ sym l.invariant.11;
+      is = stage-stop (after g) a.draws.now c.stage-r.result a.t (slots_of a.work.now) _ _ _ (forces_left (n k) a.words.now a.numbers.now a.links.now l.i l.a l.b) (forces k) (staged g) c.if-number-ne0.true ∙ sym l.invariant.11;
       alpha = r.alpha ∙ l.invariant.8;
       draws = omega (arith, r.draws, l.invariant.9);
       late = r.late;
@@ -125,34 +118,33 @@ returns c =
 
 loop-again : tie.Need-loop-i-preserved invariant-loop decreases-loop
 loop-again c =
-    let i = passed c.before in
-    let g = ran i.before in
+    let g = ran c.before.before.before.before in
     let k = read g.before in
-    let l = (turn k).loop-i in
-    let a = (entry (turn k)).args in
-    let kept = g.stage-r.auto in
-    let r = g.stage-r.ensures in
-    let z = i.if-number-ne0.left in (
+    let l = c.loop-i in
+    let a = c.args in
+    let kept = c.stage-r.auto in
+    let r = c.stage-r.ensures in
+    let z = c.if-number-ne0.false in (
       rw (c.numbers_needed-a.ensures, c.links_needed.ensures) (next k),
       record {
         few = l.invariant.1.few;
-        places = kept.1.1.1.0 ∙ l.invariant.1.places;
-        speeds = kept.1.1.1.1.0 ∙ l.invariant.1.speeds;
+        places = kept.places ∙ l.invariant.1.places;
+        speeds = kept.speeds ∙ l.invariant.1.speeds;
         ranged = r.ranged z;
         drawn = r.draws.reach;
       },
-      record { links = kept.1.1.1.1.1.1.1.1.1.0 ∙ l.invariant.2.links; tails = kept.1.1.1.1.1.1.1.1.1.1.0 ∙ l.invariant.2.tails },
-      kept.1.1.1.0 ∙ l.invariant.3,
-      kept.1.1.1.1.0 ∙ l.invariant.4,
-      kept.1.1.1.1.1.1.1.1.1.0 ∙ l.invariant.5,
-      kept.1.1.1.1.1.1.1.1.1.1.0 ∙ l.invariant.6,
-      kept.1.1.1.1.1.1.1.1.1.1.1.0 ∙ l.invariant.7,
+      record { links = kept.next ∙ l.invariant.2.links; tails = kept.tail ∙ l.invariant.2.tails },
+      kept.places ∙ l.invariant.3,
+      kept.speeds ∙ l.invariant.4,
+      kept.next ∙ l.invariant.5,
+      kept.tail ∙ l.invariant.6,
+      kept.work ∙ l.invariant.7,
       r.alpha ∙ l.invariant.8,
       omega (arith, r.draws, l.invariant.9),
       omega (arith, r.few z, l.invariant.10),
       rw (c.numbers_needed-a.ensures, c.links_needed.ensures)
           (l.invariant.11
-          ∙ stage-on (after g) a.draws.now g.stage-r.result a.t (slots_of a.work.now) _ _ _ (forces_left (n k) a.words.now a.numbers.now a.links.now l.i l.a l.b) (forces k) (staged g) z),
+          ∙ stage-on (after g) a.draws.now c.stage-r.result a.t (slots_of a.work.now) _ _ _ (forces_left (n k) a.words.now a.numbers.now a.links.now l.i l.a l.b) (forces k) (staged g) z),
     )
 
 returns-2 : tie.Need-returns invariant-loop decreases-loop
@@ -160,7 +152,7 @@ unfolding staged_of ran_check zeroes_work
 returns-2 c =
     rw c.done.ensures
     (let l = c.loop-i in
-    let a = (entry c.before.before).args in
+    let a = c.args in
     record {
       is =
           sym (l.invariant.11 ∙ ap (fold_stages (force_stage a.t (slots_of a.work.now)) _) (left-none (length a.flags.now) a.words.now a.numbers.now a.links.now l.i l.a l.b (omega arith)));
@@ -171,13 +163,6 @@ returns-2 c =
       ranged = λ _. l.invariant.1.ranged;
     })
 
--- a list that was lent to this turn's stage is as long as it was at entry: its place among the stage's arguments, and that of its length in the invariant
-abbrev of_stage : tie.Then-number-ne0 invariant-loop decreases-loop → tie.After-stage-r invariant-loop decreases-loop
-of_stage c = ran c.before
-
-abbrev invariant : tie.Then-number-ne0 invariant-loop decreases-loop → tie.At-loop-i invariant-loop decreases-loop
-invariant c = turn (read (of_stage c).before)
-
 pub run_forces_spec : {M : Type 1} → statement M
 run_forces_spec =
     tie.close
@@ -186,26 +171,26 @@ run_forces_spec =
     decreases-loop
     loop-holds
     (λ c κs. omega arith)
-    (λ c. omega (arith, (turn c).loop-i.invariant.0.first))
-    (λ c. omega (arith, (turn c).loop-i.invariant.0.first))
-    (λ c. omega (arith, (turn c).loop-i.invariant.0.first))
+    (λ c. omega (arith, c.loop-i.invariant.0.first))
+    (λ c. omega (arith, c.loop-i.invariant.0.first))
+    (λ c. omega (arith, c.loop-i.invariant.0.first))
     (λ c. search rules)
-    (λ c. omega (arith, (turn c.before).loop-i.invariant.0.second))
-    (λ c. omega (arith, (turn c.before).loop-i.invariant.0.second))
-    (λ c. omega (arith, (turn c.before).loop-i.invariant.0.second))
+    (λ c. omega (arith, c.loop-i.invariant.0.second))
+    (λ c. omega (arith, c.loop-i.invariant.0.second))
+    (λ c. omega (arith, c.loop-i.invariant.0.second))
     (λ c. search rules)
     stage-requires
-    (λ c. (of_stage c).stage-r.auto.places ∙ (invariant c).loop-i.invariant.3)
-    (λ c. (of_stage c).stage-r.auto.speeds ∙ (invariant c).loop-i.invariant.4)
-    (λ c. (of_stage c).stage-r.auto.next ∙ (invariant c).loop-i.invariant.5)
-    (λ c. (of_stage c).stage-r.auto.tail ∙ (invariant c).loop-i.invariant.6)
-    (λ c. (of_stage c).stage-r.auto.work ∙ (invariant c).loop-i.invariant.7)
+    (λ c. c.stage-r.auto.places ∙ c.loop-i.invariant.3)
+    (λ c. c.stage-r.auto.speeds ∙ c.loop-i.invariant.4)
+    (λ c. c.stage-r.auto.next ∙ c.loop-i.invariant.5)
+    (λ c. c.stage-r.auto.tail ∙ c.loop-i.invariant.6)
+    (λ c. c.stage-r.auto.work ∙ c.loop-i.invariant.7)
     returns
-    (λ c κs. let k = read (ran c.before.before).before in omega (arith, (next k).first, (entry (turn k)).good))
-    (λ c. let k = read (ran (passed c).before).before in omega (arith, (next k).first, c.numbers_needed-a.ensures, (entry (turn k)).good))
+    (λ c κs. omega (arith, (next (passed c)).first, c.well_formed))
+    (λ c. omega (arith, (next (passed c.before)).first, c.numbers_needed-a.ensures, c.well_formed))
     (λ c κs. search rules)
-    (λ c. let k = read (ran (passed c.before).before).before in omega (arith, (next k).second, c.links_needed.ensures, (entry (turn k)).good))
-    (λ c. let k = read (ran (passed c.before).before).before in omega (arith, (next k).second, c.links_needed.ensures, (entry (turn k)).good))
+    (λ c. omega (arith, (next (passed c.before.before)).second, c.links_needed.ensures, c.well_formed))
+    (λ c. omega (arith, (next (passed c.before.before)).second, c.links_needed.ensures, c.well_formed))
     (λ c. omega arith)
     (λ c. omega arith)
     loop-again

@@ -18,10 +18,10 @@ few c = omega (arith, c.insertions-made.ensures, (passing (lent c.args.edits.now
 edits-with-requires : tie.Need-edits_with-requires
 edits-with-requires c κs =
     let i = c.before.before.before.before.before.before.before in
-    let e = i.insertions-made.ensures in
-    let n = i.insertions-made.result in
+    let e = c.insertions-made.ensures in
+    let n = c.insertions-made.result in
     record {
-      passed = i.requires;
+      passed = c.requires;
       pairs = room (n * 2) (2 * most_edits) 0· (omega (arith, few i)) ∙ ap (λ (k : ℕ). k * 2) e;
       flags = room {A = ℕ} n most_edits 0 (few i) ∙ e;
       links = room {A = ℕ} n most_edits 0 (few i) ∙ e;

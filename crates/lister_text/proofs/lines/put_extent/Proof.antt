@@ -12,30 +12,6 @@ use Rattle.lister_text.proofs.lines.put_extent.Statement.{statement}
 use Rattle.lister_text.proofs.lines.put_extent.Tie as tie
 
 -- the points of the code, each from a later one
-abbrev end-put4 : tie.After-put_byte-arg-1 → tie.After-put_end-next-4
-end-put4 c = c.before.before.before
-
-abbrev end-put3 : tie.After-put_end-arg-4-1 → tie.After-put_end-next-3
-end-put3 c = c.before.before.before
-
-abbrev end-put2 : tie.After-put_end-arg-3-1 → tie.After-put_end-next-2
-end-put2 c = c.before.before.before
-
-abbrev end-put : tie.After-put_end-arg-2-1 → tie.After-put_end-next
-end-put c = c.before.before.before
-
-abbrev text-put : tie.After-put_end-arg-1 → tie.After-put_text-next
-text-put c = c.before.before.before
-
-abbrev entry : tie.After-put_text-next → tie.Start
-entry c = c.before.before.before.before.before
-
-abbrev entry-from-put-end2 : tie.After-put_end-arg-2-1 → tie.Start
-entry-from-put-end2 c = entry (text-put (end-put c).before)
-
-abbrev entry-from-put-end3 : tie.After-put_end-arg-3-1 → tie.Start
-entry-from-put-end3 c = entry-from-put-end2 (end-put2 c).before
-
 abbrev word : Float → List ℕ
 word x = signed (integer x)
 
@@ -43,46 +19,44 @@ word x = signed (integer x)
 abbrev Ahead : tie.Start → List ℕ → ℕ → Float → List (List ℕ) → Type 0
 Ahead s k next x rest = Next s.args.out.now s.args.at (extent_line (holds (integer_square s.args.e))) k next (32 ∷ word x) (other_words rest)
 
-x0-ahead : (c : tie.After-put_text-next) → let s = entry c in Ahead s c.put_text-next.new.out c.put_text-next.result s.args.e.x0 (word s.args.e.y0 ∷ word s.args.e.x1 ∷ word s.args.e.y1 ∷ [])
-x0-ahead c = left-next _ _ ((left-next (ascii "extent") _ (left-all _ _ _ (entry c).requires.1)).after c.put_text-next.ensures)
+x0-ahead : (c : tie.After-put_text-next) → Ahead c.before.before.before.before.before c.put_text-next.new.out c.put_text-next.result c.args.e.x0 (word c.args.e.y0 ∷ word c.args.e.x1 ∷ word c.args.e.y1 ∷ [])
+x0-ahead c = left-next _ _ ((left-next (ascii "extent") _ (left-all _ _ _ c.requires.1)).after c.put_text-next.ensures)
 
 put-end-requires : tie.Need-put_end-next-requires
-put-end-requires c κs = ((entry (text-put c)).requires.0.x0, (x0-ahead (text-put c)).room)
+put-end-requires c κs = (c.requires.0.x0, (x0-ahead c.before.before.before).room)
 
-y0-ahead : (c : tie.After-put_end-next) → let s = entry (text-put c.before) in Ahead s c.put_end-next.new.out c.put_end-next.result s.args.e.y0 (word s.args.e.x1 ∷ word s.args.e.y1 ∷ [])
-y0-ahead c = left-next _ _ ((x0-ahead (text-put c.before)).after c.put_end-next.ensures)
+y0-ahead : (c : tie.After-put_end-next) → Ahead c.before.before.before.before.before.before.before.before.before c.put_end-next.new.out c.put_end-next.result c.args.e.y0 (word c.args.e.x1 ∷ word c.args.e.y1 ∷ [])
+y0-ahead c = left-next _ _ ((x0-ahead c.before.before.before.before).after c.put_end-next.ensures)
 
 put-end-requires-2 : tie.Need-put_end-next-requires-2
-put-end-requires-2 c κs = ((entry-from-put-end2 c).requires.0.y0, (y0-ahead (end-put c)).room)
+put-end-requires-2 c κs = (c.requires.0.y0, (y0-ahead c.before.before.before).room)
 
-x1-ahead : (c : tie.After-put_end-next-2) → let s = entry-from-put-end2 c.before in Ahead s c.put_end-next-2.new.out c.put_end-next-2.result s.args.e.x1 (word s.args.e.y1 ∷ [])
-x1-ahead c = left-next _ _ ((y0-ahead (end-put c.before)).after c.put_end-next-2.ensures)
+x1-ahead : (c : tie.After-put_end-next-2) → Ahead c.before.before.before.before.before.before.before.before.before.before.before.before.before c.put_end-next-2.new.out c.put_end-next-2.result c.args.e.x1 (word c.args.e.y1 ∷ [])
+x1-ahead c = left-next _ _ ((y0-ahead c.before.before.before.before).after c.put_end-next-2.ensures)
 
 put-end-requires-3 : tie.Need-put_end-next-requires-3
-put-end-requires-3 c κs = ((entry-from-put-end3 c).requires.0.x1, (x1-ahead (end-put2 c)).room)
+put-end-requires-3 c κs = (c.requires.0.x1, (x1-ahead c.before.before.before).room)
 
-y1-ahead : (c : tie.After-put_end-next-3) → let s = entry-from-put-end3 c.before in Ahead s c.put_end-next-3.new.out c.put_end-next-3.result s.args.e.y1 []
-y1-ahead c = left-next _ _ ((x1-ahead (end-put2 c.before)).after c.put_end-next-3.ensures)
+y1-ahead : (c : tie.After-put_end-next-3) → Ahead c.before.before.before.before.before.before.before.before.before.before.before.before.before.before.before.before.before c.put_end-next-3.new.out c.put_end-next-3.result c.args.e.y1 []
+y1-ahead c = left-next _ _ ((x1-ahead c.before.before.before.before).after c.put_end-next-3.ensures)
 
 put-end-requires-4 : tie.Need-put_end-next-requires-4
-put-end-requires-4 c κs = ((entry-from-put-end3 (end-put3 c).before).requires.0.y1, (y1-ahead (end-put3 c)).room)
+put-end-requires-4 c κs = (c.requires.0.y1, (y1-ahead c.before.before.before).room)
 
 line-end : (c : tie.After-put_end-next-4)
-    → let s = entry-from-put-end3 (end-put3 c.before).before in
-    Left s.args.out.now s.args.at (extent_line (holds (integer_square s.args.e))) c.put_end-next-4.new.out c.put_end-next-4.result (10 ∷ [])
-line-end c = (y1-ahead (end-put3 c.before)).after c.put_end-next-4.ensures
+    → Left c.args.out.now c.args.at (extent_line (holds (integer_square c.args.e))) c.put_end-next-4.new.out c.put_end-next-4.result (10 ∷ [])
+line-end c = (y1-ahead c.before.before.before.before).after c.put_end-next-4.ensures
 
 put-byte-requires : tie.Need-put_byte-requires
-put-byte-requires c κs = (line-end (end-put4 c)).fits
+put-byte-requires c κs = (line-end c.before.before.before).fits
 
 returns : tie.Need-returns
-returns c = left-last (line-end (end-put4 c.before.before.before)) c.put_byte.ensures
+returns c = left-last (line-end c.before.before.before.before.before.before) c.put_byte.ensures
 
 pub put_extent_spec : {M : Type 1} → statement M
 put_extent_spec =
     tie.close
     (tie.spec
-    (λ c. search rules)
     (λ c κs. search rules)
     put-end-requires
     put-end-requires-2

@@ -16,7 +16,7 @@ room s = omega (arith, s.requires.1, refused_length s.args.number)
 number-left : (c : tie.After-put_text-next)
     → let e = c.args in
     Next e.out.now e.at (line (ascii "refused" ∷ decimal e.number ∷ [])) c.put_text-next.new.out c.put_text-next.result (32 ∷ decimal e.number) (10 ∷ [])
-number-left c = left-next _ _ ((left-next (ascii "refused") _ (left-all _ _ _ (room c.before.before.before.before))).after c.put_text-next.ensures)
+number-left c = left-next _ _ ((left-next (ascii "refused") _ (left-all _ _ _ (room c.before.before.before.before.before))).after c.put_text-next.ensures)
 
 put-number-requires : tie.Need-put_number-next-requires
 put-number-requires c κs = (c.requires.0, (number-left c.before.before.before).room)
@@ -33,4 +33,4 @@ returns : tie.Need-returns
 returns c = left-last (end-left c.before.before.before.before.before.before) c.put_byte.ensures
 
 pub put_refused_spec : {M : Type 1} → statement M
-put_refused_spec = tie.close (tie.spec (λ c. search rules) (λ c κs. search rules) put-number-requires put-byte-requires (λ c. search rules) returns)
+put_refused_spec = tie.close (tie.spec (λ c κs. search rules) put-number-requires put-byte-requires (λ c. search rules) returns)

@@ -10,24 +10,6 @@ use Rattle.lister_text.proofs.lines.put_row.Statement.{statement}
 use Rattle.lister_text.proofs.lines.put_row.Tie as tie
 
 -- the points of the code, each from a later one
-abbrev kind-put : tie.After-put_chain-arg-1 → tie.After-put_kind-next
-kind-put c = c.before.before.before
-
-abbrev byte_put : tie.After-put_kind-arg-1 → tie.After-put_byte-next
-byte_put c = c.before.before.before
-
-abbrev number_put : tie.After-put_byte-arg-1 → tie.After-put_number-next
-number_put c = c.before.before.before
-
-abbrev decimal-put : tie.After-put_number-arg-1 → tie.After-put_decimal-next
-decimal-put c = c.before.before.before
-
-abbrev entry : tie.After-put_decimal-arg-1 → tie.Start
-entry c = c.before.before.before
-
-abbrev entry-from-byte-put : tie.After-put_byte-next → tie.Start
-entry-from-byte-put c = entry (decimal-put (number_put c.before).before).before
-
 abbrev text : tie.Start → List ℕ
 text s = line (decimal s.args.level ∷ decimal s.args.quadrant ∷ row_letter s.args.kind ∷ map decimal s.args.chain.now)
 
@@ -39,42 +21,38 @@ level-ahead : (s : tie.Start) → Ahead s s.args.out.now s.args.at (decimal s.ar
 level-ahead s = left-next _ _ (left-all s.args.out.now s.args.at (text s) s.requires)
 
 put-decimal-requires : tie.Need-put_decimal-next-requires
-put-decimal-requires c κs = (omega (arith, (entry c).ranges.level), (level-ahead (entry c)).room)
+put-decimal-requires c κs = (omega (arith, c.ranges.level), (level-ahead c.before.before.before).room)
 
 quadrant-ahead : (c : tie.After-put_decimal-next)
-    → let s = entry c.before in
-    Ahead s c.put_decimal-next.new.out c.put_decimal-next.result (32 ∷ decimal s.args.quadrant) (other_words (row_letter s.args.kind ∷ map decimal s.args.chain.now))
-quadrant-ahead c = left-next _ _ ((level-ahead (entry c.before)).after c.put_decimal-next.ensures)
+    → Ahead c.before.before.before.before c.put_decimal-next.new.out c.put_decimal-next.result (32 ∷ decimal c.args.quadrant) (other_words (row_letter c.args.kind ∷ map decimal c.args.chain.now))
+quadrant-ahead c = left-next _ _ ((level-ahead c.before.before.before.before).after c.put_decimal-next.ensures)
 
 put-number-requires : tie.Need-put_number-next-requires
-put-number-requires c κs = (omega (arith, (entry (decimal-put c).before).ranges.quadrant), (quadrant-ahead (decimal-put c)).room)
+put-number-requires c κs = (omega (arith, c.ranges.quadrant), (quadrant-ahead c.before.before.before).room)
 
 space-ahead : (c : tie.After-put_number-next)
-    → let s = entry (decimal-put c.before).before in
-    Ahead s c.put_number-next.new.out c.put_number-next.result (32 ∷ []) (row_letter s.args.kind ++ other_words (map decimal s.args.chain.now))
-space-ahead c = left-next _ _ ((quadrant-ahead (decimal-put c.before)).after c.put_number-next.ensures)
+    → Ahead c.before.before.before.before.before.before.before.before c.put_number-next.new.out c.put_number-next.result (32 ∷ []) (row_letter c.args.kind ++ other_words (map decimal c.args.chain.now))
+space-ahead c = left-next _ _ ((quadrant-ahead c.before.before.before.before).after c.put_number-next.ensures)
 
 put-byte-requires : tie.Need-put_byte-next-requires
-put-byte-requires c κs = (space-ahead (number_put c)).room
+put-byte-requires c κs = (space-ahead c.before.before.before).room
 
 kind-ahead : (c : tie.After-put_byte-next)
-    → let s = entry-from-byte-put c in
-    Ahead s c.put_byte-next.new.out c.put_byte-next.result (row_letter s.args.kind) (other_words (map decimal s.args.chain.now))
-kind-ahead c = left-next _ _ ((space-ahead (number_put c.before)).after c.put_byte-next.ensures)
+    → Ahead c.before.before.before.before.before.before.before.before.before.before.before.before c.put_byte-next.new.out c.put_byte-next.result (row_letter c.args.kind) (other_words (map decimal c.args.chain.now))
+kind-ahead c = left-next _ _ ((space-ahead c.before.before.before.before).after c.put_byte-next.ensures)
 
 put-kind-requires : tie.Need-put_kind-next-requires
-put-kind-requires c κs = (kind-ahead (byte_put c)).room
+put-kind-requires c κs = (kind-ahead c.before.before.before).room
 
 chain_left : (c : tie.After-put_kind-next)
-    → let s = entry-from-byte-put (byte_put c.before) in
-    Left s.args.out.now s.args.at (text s) c.put_kind-next.new.out c.put_kind-next.result (other_words (map decimal s.args.chain.now))
-chain_left c = (kind-ahead (byte_put c.before)).after c.put_kind-next.ensures
+    → Left c.args.out.now c.args.at (text c.before.before.before.before.before.before.before.before.before.before.before.before.before.before.before.before) c.put_kind-next.new.out c.put_kind-next.result (other_words (map decimal c.args.chain.now))
+chain_left c = (kind-ahead c.before.before.before.before).after c.put_kind-next.ensures
 
 put-chain-requires : tie.Need-put_chain-requires
-put-chain-requires c κs = (chain_left (kind-put c)).fits
+put-chain-requires c κs = (chain_left c.before.before.before).fits
 
 returns : tie.Need-returns
-returns c = left-last (chain_left (kind-put c.before.before.before)) c.put_chain.ensures
+returns c = left-last (chain_left c.before.before.before.before.before.before) c.put_chain.ensures
 
 pub put_row_spec : {M : Type 1} → statement M
 put_row_spec =

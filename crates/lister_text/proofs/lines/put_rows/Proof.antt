@@ -14,24 +14,12 @@ invariant-loop out₀ at nodes rows chains next₀ from₀ i₀ out next from i 
 abbrev decreases-loop : tie.decreases-loop-i
 decreases-loop out₀ at nodes rows chains next₀ from₀ i₀ out next from i = nodes - i
 
--- the points of the code, each from a later one
-abbrev within-loop : tie.After-shared_slice_known-in-loop-i-4-1 invariant-loop decreases-loop → tie.In-loop-i invariant-loop decreases-loop
-within-loop c = c.before.before.before.before.before
-
-abbrev entry : tie.After-shared_slice_known-2-1 invariant-loop decreases-loop → tie.Start invariant-loop decreases-loop
-entry c = c.before.before.before
-
-abbrev within-loop-from-end : tie.After-slice_known-in-loop-i-1 invariant-loop decreases-loop → tie.In-loop-i invariant-loop decreases-loop
-within-loop-from-end c = within-loop c.before.before.before.before
-
 loop-holds : tie.Need-loop-i-init invariant-loop decreases-loop
 loop-holds c =
-    let s = entry c in
-    going_start s.args.nodes s.args.rows.now s.args.chains.now s.args.out.now s.args.at s.requires.1.0 s.requires.1.1
+    going_start c.args.nodes c.args.rows.now c.args.chains.now c.args.out.now c.args.at c.requires.1.0 c.requires.1.1
 
 chain-within : (c : tie.In-loop-i invariant-loop decreases-loop)
-    → let s = entry c.before.before in
-    c.loop-i.from + get_or s.args.rows.now (row_numbers * c.loop-i.i + 3) 0 ≤ length s.args.chains.now
+    → c.loop-i.from + get_or c.args.rows.now (row_numbers * c.loop-i.i + 3) 0 ≤ length c.args.chains.now
 chain-within c = going-chain _ _ _ _ _ _ _ _ _ c.loop-i.invariant c.loop-i-test.true
 
 cast-to : tie.Need-overflow_cast-to invariant-loop decreases-loop
@@ -41,13 +29,13 @@ add-to-2 : tie.Need-overflow_add-to-in-loop-i invariant-loop decreases-loop
 add-to-2 c = omega (arith, chain-within c.before)
 
 part-put-row-end : tie.Need-slice_bounds-put_row-end invariant-loop decreases-loop
-part-put-row-end c = chain-within (within-loop c)
+part-put-row-end c = chain-within c.before.before.before.before.before
 
 put-row-requires : tie.Need-put_row-next-requires invariant-loop decreases-loop
-put-row-requires c κs = let l = within-loop c.before in (going-row _ _ _ _ _ _ _ _ _ l.loop-i.invariant l.loop-i-test.taken).room
+put-row-requires c κs = (going-row _ _ _ _ _ _ _ _ _ c.loop-i.invariant c.loop-i-test.true).room
 
 loop-again : tie.Need-loop-i-preserved invariant-loop decreases-loop
-loop-again c = let l = within-loop-from-end c in going_next _ _ _ _ _ _ _ _ _ l.loop-i.invariant l.loop-i-test.taken _ _ c.put_row-next.ensures
+loop-again c = going_next _ _ _ _ _ _ _ _ _ c.loop-i.invariant c.loop-i-test.true _ _ c.put_row-next.ensures
 
 returns : tie.Need-returns invariant-loop decreases-loop
 returns c = going_end _ _ _ _ _ _ _ _ _ c.loop-i.invariant c.loop-i-test.false

@@ -26,14 +26,12 @@ fits s cov t h = omega (arith, listing-length cov t h.listed, s.requires.1)
 
 returns : tie.Need-returns-then-nodes-eq0
 returns c = λ cov t h.
-    let s = c.before.before.before.before.before.before.before.before in
-    left-last (left_as s.args.out.now 0 _ _ (none_told cov t _ _ _ _ h c.if-nodes-eq0.true) (fits s cov t h)) c.put_empty.ensures
+    left-last (left_as c.args.out.now 0 _ _ (none_told cov t _ _ _ _ h c.if-nodes-eq0.true) (fits c.before.before.before.before.before.before.before.before cov t h)) c.put_empty.ensures
 
 extent-ahead : (c : tie.Else-nodes-eq0)
-    → let s = c.before.before.before.before in
-    (cov : Covered) (t : Tree Extent) → IsTold s cov t
-    → Next s.args.out.now 0 (text cov t) s.args.out.now 0 (extent_line (holds (integer_square s.args.extent))) (row_lines (rows_at s.args.nodes s.args.rows.now) s.args.chains.now)
-extent-ahead c cov t h = let s = c.before.before.before.before in left-next _ _ (left_as s.args.out.now 0 _ _ (some-told cov t _ _ _ _ h c.if-nodes-eq0.false) (fits s cov t h))
+    → (cov : Covered) (t : Tree Extent) → IsTold c.before.before.before.before cov t
+    → Next c.args.out.now 0 (text cov t) c.args.out.now 0 (extent_line (holds (integer_square c.args.extent))) (row_lines (rows_at c.args.nodes c.args.rows.now) c.args.chains.now)
+extent-ahead c cov t h = left-next _ _ (left_as c.args.out.now 0 _ _ (some-told cov t _ _ _ _ h c.if-nodes-eq0.false) (fits c.before.before.before.before cov t h))
 
 put-extent-requires : tie.Need-put_extent-next-requires
 put-extent-requires c κs =
@@ -41,9 +39,8 @@ put-extent-requires c κs =
     (some_extent _ _ _ _ _ _ given.told c.if-nodes-eq0.false, (extent-ahead c.before _ _ given.told).room)
 
 rows_left : (c : tie.After-put_extent-next)
-    → let s = c.before.before.before.before.before.before in
-    (cov : Covered) (t : Tree Extent) → IsTold s cov t
-    → Left s.args.out.now 0 (text cov t) c.put_extent-next.new.out c.put_extent-next.result (row_lines (rows_at s.args.nodes s.args.rows.now) s.args.chains.now)
+    → (cov : Covered) (t : Tree Extent) → IsTold c.before.before.before.before.before.before cov t
+    → Left c.args.out.now 0 (text cov t) c.put_extent-next.new.out c.put_extent-next.result (row_lines (rows_at c.args.nodes c.args.rows.now) c.args.chains.now)
 rows_left c cov t h = (extent-ahead c.before.before cov t h).after c.put_extent-next.ensures
 
 put-rows-requires : tie.Need-put_rows-requires

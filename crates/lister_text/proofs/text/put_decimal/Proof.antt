@@ -11,10 +11,10 @@ digits_are : (c : tie.After-decimal-size) → take c.decimal-size.result c.decim
 digits_are c = c.decimal-size.ensures.1.1.0 ∙ spelt c.args.n c.decimal-size.result c.requires.0 c.decimal-size.ensures.1.0
 
 put-text-requires : tie.Need-put_text-requires
-put-text-requires c κs = let d = c.before.before in rw (digits_are d) d.requires.1
+put-text-requires c κs = rw (digits_are c.before.before) c.requires.1
 
 returns : tie.Need-returns
-returns c = let d = c.before.before.before.before.before in rw (← digits_are d) c.put_text.ensures
+returns c = rw (← digits_are c.before.before.before.before.before) c.put_text.ensures
 
 pub put_decimal_spec : {M : Type 1} → statement M
 put_decimal_spec = tie.close (tie.spec (λ c κs. search rules) (λ c. search rules) (λ c. search rules) put-text-requires (λ c. search rules) returns)

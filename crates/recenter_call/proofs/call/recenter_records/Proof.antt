@@ -12,12 +12,12 @@ use Rattle.recenter_call.proofs.call.recenter_records.Tie as tie
 few : (s : tie.Start) → length s.args.sheet.now ≤ kept_bytes
 few s = kept-room s.args.sheet.now s.requires
 
-pub recenter-records-spec : {M : Type 1} → statement M
-recenter-records-spec =
+pub recenter_records_spec : {M : Type 1} → statement M
+recenter_records_spec =
     tie.close
     (tie.spec
     (λ c. few c.before.before)
     (λ c. sym (room {A = ℕ} _ kept_bytes 0 (few c.before.before.before)))
-    (λ c κs. let s = c.before.before.before in (s.requires, room {A = ℕ} _ kept_bytes 0 (few s)))
+    (λ c κs. (c.requires, room {A = ℕ} _ kept_bytes 0 (few c.before.before.before)))
     (λ c. search rules)
     (λ c. search rules))

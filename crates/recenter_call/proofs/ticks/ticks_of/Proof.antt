@@ -11,34 +11,32 @@ use Rattle.recenter_call.proofs.Digits.{Reading, reading-start, reading-turn, re
 use Rattle.recenter_call.proofs.ticks.ticks_of.Statement.{statement}
 use Rattle.recenter_call.proofs.ticks.ticks_of.Tie as tie
 
-abbrev invariant-loop : tie.invariant-loop
+abbrev invariant-loop : tie.invariant-loop-i
 invariant-loop text whole ticks₀ i₀ ticks i = Reading text ticks i
 
-abbrev decreases-loop : tie.decreases-loop
+abbrev decreases-loop : tie.decreases-loop-i
 decreases-loop text whole ticks₀ i₀ ticks i = length text - i
 
 -- what was tested is the byte itself
-tested : (d : tie.After-is-digit invariant-loop decreases-loop) (b : Bool) → d.is_digit.result ≡ b → is_digit (get_or d.before.before.before.before.before.args.text.now d.before.before.before.loop.i 0) ≡ b
+tested : (d : tie.After-is_digit invariant-loop decreases-loop) (b : Bool) → d.is_digit.result ≡ b → is_digit (get_or d.args.text.now d.loop-i.i 0) ≡ b
 tested d b e = sym d.is_digit.ensures ∙ e
 
-returns : tie.Need-returns invariant-loop decreases-loop
+returns : tie.Need-returns-then-not-is_digit invariant-loop decreases-loop
 returns c =
-    let d = c.before in
-    let o = d.before.before.before.loop in
-    reading-stop _ o.ticks o.i o.invariant d.before.before.loop-test.true (tested d false (not-true _ c.if1.true))
+    let o = c.loop-i in
+    reading-stop _ o.ticks o.i o.invariant c.loop-i-test.true (tested c.before false (not-true _ c.if-not-is_digit.true-raw))
 
 -- a digit
-digit : (c : tie.Else1 invariant-loop decreases-loop) → is_digit (get_or c.before.before.before.before.before.before.args.text.now c.before.before.before.before.loop.i 0) ≡ true
-digit c = tested c.before true (not-false _ c.if1.false)
+digit : (c : tie.Else-not-is_digit invariant-loop decreases-loop) → is_digit (get_or c.args.text.now c.loop-i.i 0) ≡ true
+digit c = tested c.before true (not-false _ c.if-not-is_digit.false-raw)
 
-loop-again : tie.Need-loop-preserved invariant-loop decreases-loop
+loop-again : tie.Need-loop-i-preserved invariant-loop decreases-loop
 loop-again c =
-    let e = c.before.before in
-    let o = e.before.before.before.before.loop in
-    reading-turn _ o.ticks o.i o.invariant e.before.before.before.loop-test.true c.with-digit.result (digit e) c.with-digit.ensures
+    let o = c.loop-i in
+    reading-turn _ o.ticks o.i o.invariant c.loop-i-test.true c.with_digit-ticks.result (digit c.before.before) c.with_digit-ticks.ensures
 
-pub ticks-of-spec : {M : Type 1} → statement M
-ticks-of-spec =
+pub ticks_of_spec : {M : Type 1} → statement M
+ticks_of_spec =
     tie.close
     (tie.spec
     invariant-loop
@@ -48,8 +46,8 @@ ticks-of-spec =
     (λ c κs. search rules)
     returns
     (λ c. search rules)
-    (λ c κs. (c.before.before.before.before.before.loop.invariant.few, digit c.before))
+    (λ c κs. (c.loop-i.invariant.few, digit c.before))
     (λ c. omega arith)
     (λ c. omega arith)
     loop-again
-    (λ c. reading_end _ c.before.loop.ticks c.before.loop.i c.before.loop.invariant c.loop-test.false))
+    (λ c. reading_end _ c.loop-i.ticks c.loop-i.i c.loop-i.invariant c.loop-i-test.false))

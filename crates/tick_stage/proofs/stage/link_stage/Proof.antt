@@ -12,18 +12,10 @@ use Rattle.tick_columns.proofs.Staged.{visits_kept, pushed-stages}
 use Rattle.tick_stage.proofs.stage.link_stage.Statement.{statement}
 use Rattle.tick_stage.proofs.stage.link_stage.Tie as tie
 
--- the points of the code, each from a later one
-abbrev ran : tie.After-ranged → tie.After-link-ran
-ran c = c.before.before.before
-
-abbrev entry : tie.After-link-arg-1 → tie.Start
-entry c = c.before.before.before.before.before.before.before
-
 link-requires : tie.Need-link-ran-requires
 link-requires c κs =
-    let s = entry c in
-    let a = s.args in
-    let p = s.requires in
+    let a = c.args in
+    let p = c.requires in
     let h : length a.speeds.now / 2 ≡ length a.places.now / 2 = omega (arith, p.0.speeds) in (
       subst⁻¹ (λ (n : ℕ). EndsLent n a.links.now) h p.1,
       p.2,
@@ -36,16 +28,15 @@ link-requires c κs =
 returns : tie.Need-returns
 unfolding run
 returns c t flags slots l =
-    let m = ran c in
-    let s = entry m.before in
-    let a = s.args in
-    pushed-stages a.places.now a.speeds.now m.link-ran.new.vs a.draws.now flags t (link (ends_of a.links.now) a.strengths.now a.distances.now a.iterations) slots _ a.p _
-    m.link-ran.result c.ranged.result s.requires.0 l m.link-ran.auto.vs m.link-ran.ensures
+    let a = c.args in
+    let m = c.link-ran in
+    pushed-stages a.places.now a.speeds.now m.new.vs a.draws.now flags t (link (ends_of a.links.now) a.strengths.now a.distances.now a.iterations) slots _ a.p _
+    m.result c.ranged.result c.requires.0 l m.auto.vs m.ensures
     (λ z. omega (
       arith,
-      visits_kept m.link-ran.new.vs a.draws.now m.link-ran.result a.p.visits
+      visits_kept m.new.vs a.draws.now m.result a.p.visits
           (run_link a.places.now (ends_of a.links.now) a.strengths.now a.distances.now a.iterations a.p.alpha (flow a.speeds.now (drop a.p.used a.draws.now)))
-          m.link-ran.ensures.is z,
+          m.ensures.is z,
     )) c.ranged.ensures
 
 pub link_stage_spec : {M : Type 1} → statement M

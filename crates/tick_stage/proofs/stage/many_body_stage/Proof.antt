@@ -8,24 +8,16 @@ use Rattle.tick_stage.proofs.EntryLists.{can_build}
 use Rattle.tick_stage.proofs.stage.many_body_stage.Statement.{statement}
 use Rattle.tick_stage.proofs.stage.many_body_stage.Tie as tie
 
--- the points of the code, each from a later one
-abbrev ran : tie.After-ranged → tie.After-many_body-ran
-ran c = c.before.before.before.before.before.before.before.before.before
-
-abbrev entry : tie.After-many_body-arg-4-1 → tie.Start
-entry c = c.before.before.before.before.before.before.before.before.before.before.before
-
 many-body-requires : tie.Need-many_body-ran-requires
-many-body-requires c κs = let p = (entry c).requires in (can_build p.0 p.1, (p.0.places, p.0.speeds, p.0.drawn, p.2))
+many-body-requires c κs = let p = c.requires in (can_build p.0 p.1, (p.0.places, p.0.speeds, p.0.drawn, p.2))
 
 returns : tie.Need-returns
 unfolding run
 returns c flags l =
-    let m = ran c in
-    let s = entry m.before in
-    let a = s.args in
-    pushed-stages a.places.now a.speeds.now m.many_body-ran.new.vs a.draws.now flags a.t (many_body a.strengths.now) (slots_of a.work.now) _ a.p _
-    m.many_body-ran.result c.ranged.result s.requires.0 l m.many_body-ran.auto.vs m.many_body-ran.ensures.0 (λ _. omega (arith, m.many_body-ran.ensures.1)) c.ranged.ensures
+    let a = c.args in
+    let m = c.many_body-ran in
+    pushed-stages a.places.now a.speeds.now m.new.vs a.draws.now flags a.t (many_body a.strengths.now) (slots_of a.work.now) _ a.p _
+    m.result c.ranged.result c.requires.0 l m.auto.vs m.ensures.0 (λ _. omega (arith, m.ensures.1)) c.ranged.ensures
 
 pub many_body_stage_spec : {M : Type 1} → statement M
 many_body_stage_spec =
