@@ -1,6 +1,6 @@
 -- Center and the closing move come in two forms: over a lent list of particles here, and over columns in the crate `center` (`center_all`) and the crate `closing` (`close_all`). Where the list's form accepts, both give the same particles.
 --     accepted         number 0 is answered only for an outcome that is done
---     closing-agrees, center-agrees        the particles of the columns that one form leaves are those that the other leaves
+--     closing-agrees, center_agrees        the particles of the columns that one form leaves are those that the other leaves
 use mathlib.Core.Path.{◌≡◌, refl, sym, ap, ◌∙◌}
 use mathlib.Core.List.{List, [], ◌∷◌}
 use Prim.Native.Nat.{ℕ}

@@ -7,19 +7,17 @@ use Rattle.collide_contact.proofs.meet_first.Statement.{statement}
 use Rattle.collide_contact.proofs.meet_first.Tie as tie
 
 returns : tie.Need-returns-then-i-j
-returns c =
-    (
-      rw (← c.tag.ensures, ← c.index-j.ensures, lt-ltb _ _ c.if-i-j.true, ← c.node_value-rj.ensures) c.meet.ensures.0,
-      c.meet.ensures.1,
-    )
+returns c = (
+  rw (← c.tag.ensures, ← c.index-j.ensures, lt-ltb _ _ c.if-i-j.true, ← c.node_value-rj.ensures) c.meet.ensures.0,
+  c.meet.ensures.1,
+)
 
 returns-2 : tie.Need-returns
 unfolding spent_of
-returns-2 c =
-    (
-      rw (← c.tag.ensures, ← c.index-j.ensures, le-ltb _ _ c.if-i-j.false),
-      omega (arith, c.requires),
-    )
+returns-2 c = (
+  rw (← c.tag.ensures, ← c.index-j.ensures, le-ltb _ _ c.if-i-j.false),
+  omega (arith, c.requires),
+)
 
 pub meet_first_spec : {M : Type 1} → statement M
 meet_first_spec =

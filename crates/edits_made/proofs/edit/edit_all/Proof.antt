@@ -84,16 +84,15 @@ returns c =
     ∙ edit_refused _ _ _ _ _ _ _ _ _ _ c.loop-k.invariant.5 (more c.before.before.before.before.before.before.before.before.before.before.before.before.before.before.before.before) _ (changed c.before.before.before.before.before.before.before.before.before _ c.in-Refused.is)
 
 loop-again : tie.Need-loop-k-preserved invariant-loop decreases-loop
-loop-again c =
-    (
-      c.edit_one-answer.auto.there ∙ c.loop-k.invariant.0,
-      c.edit_one-answer.auto.next ∙ c.loop-k.invariant.1,
-      c.edit_one-answer.auto.tail ∙ c.loop-k.invariant.2,
-      c.edit_one-answer.auto.m ∙ c.loop-k.invariant.3,
-      omega (arith, c.loop-k-test.true),
-      edit-next _ _ _ _ _ _ _ _ _ _ c.loop-k.invariant.5 (more c.before.before.before.before.before.before.before.before.before.before.before.before.before.before.before.before.before) _ _ _ _ _ (changed c.before.before.before.before.before.before.before.before.before.before _ c.in-Tree.is) (c.requires.0.known c.loop-k.k (more c.before.before.before.before.before.before.before.before.before.before.before.before.before.before.before.before.before)) c.if-kind-eq0.made
-          (⊎_elim (λ t. inl (t.if-kind-eq0.true, t.made-is)) (λ e. inr (e.if-kind-eq0.false, e.made-is)) c.if-kind-eq0.branch-raw),
-    )
+loop-again c = (
+  c.edit_one-answer.auto.there ∙ c.loop-k.invariant.0,
+  c.edit_one-answer.auto.next ∙ c.loop-k.invariant.1,
+  c.edit_one-answer.auto.tail ∙ c.loop-k.invariant.2,
+  c.edit_one-answer.auto.m ∙ c.loop-k.invariant.3,
+  omega (arith, c.loop-k-test.true),
+  edit-next _ _ _ _ _ _ _ _ _ _ c.loop-k.invariant.5 (more c.before.before.before.before.before.before.before.before.before.before.before.before.before.before.before.before.before) _ _ _ _ _ (changed c.before.before.before.before.before.before.before.before.before.before _ c.in-Tree.is) (c.requires.0.known c.loop-k.k (more c.before.before.before.before.before.before.before.before.before.before.before.before.before.before.before.before.before)) c.if-kind-eq0.made
+      (⊎_elim (λ t. inl (t.if-kind-eq0.true, t.made-is)) (λ e. inr (e.if-kind-eq0.false, e.made-is)) c.if-kind-eq0.branch-raw),
+)
 
 returns-2 : tie.Need-returns invariant-loop decreases-loop
 returns-2 c =

@@ -58,15 +58,14 @@ returns-2 c =
     c.add_next-answer.new.tail (same-slots c.before.before.before.before.before.before.before.before) _ (c.in-Full.ensures _ (puts c.before.before.before.before.before.before.before.before.before.before.before.before) ∙ ap refused (sym c.at-in-Full.ensures))
 
 loop-again : tie.Need-loop-p-preserved invariant-loop decreases-loop
-loop-again c =
-    (
-      c.add_next-answer.auto.next ∙ c.loop-p.invariant.0,
-      c.add_next-answer.auto.tail ∙ c.loop-p.invariant.1,
-      c.add_next-answer.auto.m ∙ c.loop-p.invariant.2,
-      omega (arith, c.loop-p-test.true),
-      build-done c.args.at.now (slots_of c.args.m.now) c.loop-p.m c.loop-p.next c.loop-p.tail c.loop-p.q c.loop-p.p c.loop-p.invariant.4 c.requires.ranged c.loop-p-test.true c.add_next-answer.new.m c.add_next-answer.new.next
-          c.add_next-answer.new.tail (same-slots c.before.before.before.before.before.before.before) c.in-Done.more (c.in-Done.ensures _ (puts c.before.before.before.before.before.before.before.before.before.before.before)),
-    )
+loop-again c = (
+  c.add_next-answer.auto.next ∙ c.loop-p.invariant.0,
+  c.add_next-answer.auto.tail ∙ c.loop-p.invariant.1,
+  c.add_next-answer.auto.m ∙ c.loop-p.invariant.2,
+  omega (arith, c.loop-p-test.true),
+  build-done c.args.at.now (slots_of c.args.m.now) c.loop-p.m c.loop-p.next c.loop-p.tail c.loop-p.q c.loop-p.p c.loop-p.invariant.4 c.requires.ranged c.loop-p-test.true c.add_next-answer.new.m c.add_next-answer.new.next
+      c.add_next-answer.new.tail (same-slots c.before.before.before.before.before.before.before) c.in-Done.more (c.in-Done.ensures _ (puts c.before.before.before.before.before.before.before.before.before.before.before)),
+)
 
 returns-3 : tie.Need-returns invariant-loop decreases-loop
 returns-3 c =
