@@ -26,7 +26,7 @@ fn particles(input: &Input) -> Vec<Particle> {
 }
 
 fn sheet(input: &Input) -> Vec<u8> {
-    talemiku::sheet_of(&particles(input)).expect("points in range")
+    talemiku::sheet_of(&particles(input))
 }
 
 fn ends(input: &Input) -> Vec<u32> {
@@ -59,8 +59,7 @@ fn forces(input: &Input) -> Forces {
 
 fn whole(draws: u64, alpha: u64, sheet: &[u8]) -> Vec<u64> {
     let mut bits = vec![draws, alpha];
-    let particles = talemiku::particles_of(sheet).expect("ticks leave a sheet that can be read");
-    bits.extend(particles.iter().flat_map(|p| [p.x, p.y, p.vx, p.vy].map(f64::to_bits)));
+    bits.extend(talemiku::particles_of(sheet).iter().flat_map(|p| [p.x, p.y, p.vx, p.vy].map(f64::to_bits)));
     bits
 }
 

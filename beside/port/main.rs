@@ -3,8 +3,6 @@
 //! can answer. `port grid KIND SIDE POINTS` writes every small sheet, `port large SEED KINDS` sheets of 4,096 particles and 8,192 links.
 //! Stays within Rust 1.63, as host/ does.
 
-#[path = "../../host/tests/by_hand/mod.rs"]
-mod by_hand;
 #[path = "../oracle/case.rs"]
 #[allow(dead_code)]
 mod case;

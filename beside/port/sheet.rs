@@ -172,9 +172,8 @@ impl Call {
     }
 }
 
-fn moved(head: String, sheet: &[u8]) -> Line {
-    let particles = particles_of(sheet).map_err(|refusal| format!("what is left can't be read: {refusal}"))?;
-    Ok(head + &hexes(particles.into_iter().flat_map(|p| [p.x, p.y, p.vx, p.vy])))
+fn moved(head: String, sheet: &[u8]) -> String {
+    head + &hexes(particles_of(sheet).into_iter().flat_map(|p| [p.x, p.y, p.vx, p.vy]))
 }
 
 pub fn tick(tick: &Tick, layout: &mut Layout) -> Line {
@@ -183,7 +182,7 @@ pub fn tick(tick: &Tick, layout: &mut Layout) -> Line {
     if a.refusal.number != 0 {
         return Ok(refused(a.refusal));
     }
-    moved(format!("ok {} {} {:016x} |", a.visits, a.draws, left.alpha), &left.sheet)
+    Ok(moved(format!("ok {} {} {:016x} |", a.visits, a.draws, left.alpha), &left.sheet))
 }
 
 pub fn step(tick: &Tick, min: f64, budget: u64, layout: &mut Layout) -> Line {
@@ -194,5 +193,5 @@ pub fn step(tick: &Tick, min: f64, budget: u64, layout: &mut Layout) -> Line {
     }
     let counts = format!("{} {} {} {}", a.ticks, a.finished, a.visits, a.draws);
     let head = format!("ok {counts} {:016x} {} {} |", left.alpha, a.refusal.number, a.refusal.place);
-    moved(head, &left.sheet)
+    Ok(moved(head, &left.sheet))
 }

@@ -1,6 +1,5 @@
 //! The tree call.
 
-use crate::by_hand::laid;
 use crate::case::Record;
 use crate::fence::Fenced;
 use crate::lent::{expect, hexes, lengths_rule, refused, require, zeroes_work, Layout, Line, BAD_LENGTH, RESULT, WORK};
@@ -28,7 +27,7 @@ pub fn particle(r: &Record, layout: &mut Layout) -> Particle {
 }
 
 pub fn sheet(records: &[Record], layout: &mut Layout) -> Vec<u8> {
-    laid(&records.iter().map(|r| particle(r, layout)).collect::<Vec<_>>())
+    records.iter().flat_map(|r| particle(r, layout).to_record()).collect()
 }
 
 impl Call {

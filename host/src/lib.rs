@@ -4,7 +4,7 @@
 //! its input, ends, and refuses by number what it can't do ([`Refusal`]). What a call may change is borrowed as `&mut`, so no two buffers of a call overlap.
 //!
 //! - [`floor()`], [`root`]: numbers.
-//! - [`sheet_of`], [`particles_of`]: a sheet of 40-byte records, written and read; [`write_sheet`], [`read_sheet`]: the same into what is lent.
+//! - [`written_sheet_of`], [`read_particles_of`]: a sheet of 40-byte records, written and read; [`write_sheet`], [`read_sheet`]: the same into what is lent.
 //! - [`tree()`]: the quadtree of a sheet.
 //! - [`many_body`], [`collide`], [`link`]: one force on places and velocities.
 //! - [`center`], [`apply_velocities`]: Center and the closing move on particles.
@@ -36,6 +36,6 @@ pub use number::{floor, root};
 pub use outline::{unwrap, HALF_TURN};
 pub use particles::{apply_velocities, center};
 pub use refusal::Refusal;
-pub use sheet::{particles_of, read_sheet, sheet_of, write_sheet, Particle, RECORD_BYTES};
+pub use sheet::{particles_of, read_particles_of, read_sheet, sheet_of, write_sheet, written_sheet_of, Particle, RECORD_BYTES};
 pub use tick::{step, tick, Settings, Steps};
 pub use tree::{rows, tree, Extent, Row, Tree, ROW_NUMBERS, SLOT_WORDS};

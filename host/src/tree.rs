@@ -43,7 +43,7 @@ pub struct Row {
 ///
 /// ```
 /// use talemiku::{rows, sheet_of, tree, Particle, ROW_NUMBERS, SLOT_WORDS};
-/// let sheet = sheet_of(&[Particle::at(0.0, 0.0), Particle::at(3.0, 3.0), Particle::at(0.0, 0.0)])?;
+/// let sheet = sheet_of(&[Particle::at(0.0, 0.0), Particle::at(3.0, 3.0), Particle::at(0.0, 0.0)]);
 /// let (mut nodes, mut chains, mut work) = ([0; 5 * ROW_NUMBERS], [0; 3], [0; 5 * SLOT_WORDS]);
 /// let made = tree(&sheet, &mut nodes, &mut chains, &mut work)?;
 /// assert_eq!((made.nodes, made.extent.x1), (3, 4.0));

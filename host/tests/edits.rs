@@ -212,7 +212,7 @@ fn points(n: usize, places: usize) -> Vec<(f64, f64)> {
 fn insertions_alone_are_the_tree() {
     for (n, places) in [(0, 1), (1, 1), (7, 3), (100, 97), (512, 40), (4096, 2048)] {
         let points = points(n, places);
-        let sheet = sheet_of(&points.iter().map(|&(x, y)| Particle::at(x, y)).collect::<Vec<_>>()).expect("points in range");
+        let sheet = sheet_of(&points.iter().map(|&(x, y)| Particle::at(x, y)).collect::<Vec<_>>());
         let all: Vec<E> = points.iter().map(|&(x, y)| In(x, y)).collect();
         let whole = |slots| lend(slots, slots * ROW_NUMBERS, n, |rows, chains, work| tree(&sheet, rows, chains, work));
         let enough = whole(8192).expect("a tree").rows.len();

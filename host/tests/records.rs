@@ -4,7 +4,7 @@ mod fence;
 
 use by_hand::laid;
 use fence::Fenced;
-use talemiku::{particles_of, read_sheet, sheet_of, write_sheet, Particle, Refusal, RECORD_BYTES};
+use talemiku::{read_particles_of, read_sheet, write_sheet, written_sheet_of, Particle, Refusal, RECORD_BYTES};
 
 const LIMIT: f64 = 1_099_511_627_776.0; // 2^40
 const SPARE: u8 = 0xa5;
@@ -81,8 +81,8 @@ fn three_labels_byte_for_byte() {
     for more in 0..3 {
         assert_eq!(read(&bytes, 3 + more).map(|list| words(&list)), Ok(words(&labels)));
     }
-    assert_eq!(sheet_of(&labels), Ok(bytes.clone()));
-    assert_eq!(particles_of(&bytes).map(|list| words(&list)), Ok(words(&labels)));
+    assert_eq!(written_sheet_of(&labels), Ok(bytes.clone()));
+    assert_eq!(read_particles_of(&bytes).map(|list| words(&list)), Ok(words(&labels)));
 }
 
 #[test]
@@ -91,7 +91,7 @@ fn none() {
         assert_eq!(written(&[], room), Ok(vec![]));
         assert_eq!(read(&[], room), Ok(vec![]));
     }
-    assert_eq!((sheet_of(&[]), particles_of(&[])), (Ok(vec![]), Ok(vec![])));
+    assert_eq!((written_sheet_of(&[]), read_particles_of(&[])), (Ok(vec![]), Ok(vec![])));
 }
 
 #[test]
@@ -126,7 +126,7 @@ fn as_many_as_are_taken() {
     for places in [0, 4096, 4097, 4098] {
         assert_eq!(read(&laid(&more), places), Err(Refusal::TooMany));
     }
-    assert_eq!((sheet_of(&more), particles_of(&laid(&more))), (Err(Refusal::TooMany), Err(Refusal::TooMany)));
+    assert_eq!((written_sheet_of(&more), read_particles_of(&laid(&more))), (Err(Refusal::TooMany), Err(Refusal::TooMany)));
 }
 
 /// Labels that are bad, and how each is refused at a place. The first two are bad in several ways: flags come before coordinates, and those before velocities.

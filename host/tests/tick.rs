@@ -19,7 +19,7 @@ struct Sheet {
 }
 
 fn sheet(particles: &[Particle], draws: &[f64]) -> Sheet {
-    Sheet { bytes: sheet_of(particles).expect("particles in range"), alpha: 1.0, slots: 9, draws: draws.to_vec() }
+    Sheet { bytes: sheet_of(particles), alpha: 1.0, slots: 9, draws: draws.to_vec() }
 }
 
 fn still(points: &[[f64; 2]]) -> Vec<Particle> {
@@ -40,7 +40,7 @@ impl Sheet {
         match answer {
             Ok(done) => {
                 assert_eq!(work_now, zero);
-                Ok((done, particles_of(bytes_now).expect("a tick leaves a sheet that can be read"), alpha))
+                Ok((done, particles_of(bytes_now), alpha))
             }
             Err(refusal) => {
                 assert_eq!(bytes_now, self.bytes, "sheet after {refusal}");
@@ -162,7 +162,7 @@ fn a_step_in_portions_ends_as_one_step() {
     let draws: Vec<f64> = (0..200).map(|k| f64::from(k * 37 % 101 - 50) * 1e-3).collect();
     // draws lent to a portion; a tick that wants more has changed nothing, and is run again with twice as many
     let run = |(portion, mut most): (u64, usize)| {
-        let (mut sheet, mut alpha, mut work) = (sheet_of(&places).expect("places in range"), 1.0, [0; 400 * SLOT_WORDS]);
+        let (mut sheet, mut alpha, mut work) = (sheet_of(&places), 1.0, [0; 400 * SLOT_WORDS]);
         let (mut ticks, mut visits, mut used, mut finished) = (0, 0, 0, false);
         while !finished && ticks < 100 {
             let lent = Lent { draws: &draws[used..draws.len().min(used + most)], work: &mut work };

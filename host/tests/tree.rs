@@ -1,16 +1,14 @@
 //! The tree call through the archive: T1 to T8, refusals, and every lent byte.
-mod by_hand;
 mod fence;
 mod listed;
 
-use by_hand::laid;
 use listed::{lend, Listed};
-use talemiku::{tree, Particle, Refusal, ROW_NUMBERS};
+use talemiku::{sheet_of, tree, Particle, Refusal, ROW_NUMBERS};
 
 const LIMIT: f64 = 1_099_511_627_776.0; // 2^40
 
 fn still(points: &[[f64; 2]]) -> Vec<u8> {
-    laid(&points.iter().map(|p| Particle::at(p[0], p[1])).collect::<Vec<_>>())
+    sheet_of(&points.iter().map(|p| Particle::at(p[0], p[1])).collect::<Vec<_>>())
 }
 
 fn list_with(slots: usize, sheet: &[u8], rows: usize, chains: usize) -> Result<Listed, Refusal> {
@@ -96,7 +94,7 @@ fn the_first_bad_record() {
         (Particle { vy: f64::from_bits(0x7ff0_0000_0000_0001), ..good }, Refusal::Number { place: 1 }),
     ];
     for (bad, refusal) in cases {
-        let sheet = laid(&[good, bad, Particle { flags: u64::MAX, ..bad }]);
+        let sheet = sheet_of(&[good, bad, Particle { flags: u64::MAX, ..bad }]);
         assert_eq!(list_with(9, &sheet, 36, 3), Err(refusal));
     }
 }

@@ -34,7 +34,7 @@ impl Chart {
     pub fn harbour() -> Chart {
         let place = |&(_, x, y, flags): &(&str, f64, f64, u64)| Particle { flags, ..Particle::at(x, y) };
         Chart {
-            sheet: sheet_of(&HARBOUR.iter().map(place).collect::<Vec<_>>()).expect("the harbour's labels are in range"),
+            sheet: sheet_of(&HARBOUR.iter().map(place).collect::<Vec<_>>()),
             names: HARBOUR.iter().map(|label| label.0.to_string()).collect(),
             radii: HARBOUR.iter().map(|label| text::radius(label.0, PRINT)).collect(),
             links: PAIRS.iter().flat_map(|pair| pair.map(number)).collect(),

@@ -64,9 +64,7 @@ fn lay_out(chart: &Chart, out: &OsStr) -> Result<(), String> {
     let refused = |refusal: Refusal| refusal.to_string();
     let done = spread(chart, progress()).map_err(refused)?;
     let seconds = start.elapsed().as_secs_f64();
-    // neither is refused any more, since the ticks weren't
-    let pairs_of = |sheet: &[u8]| particles_of(sheet).map(|places| overlapping(&places, &chart.radii)).map_err(refused);
-    let pairs = [pairs_of(&chart.sheet)?, pairs_of(&done.sheet)?];
+    let pairs = [&chart.sheet, &done.sheet].map(|sheet| overlapping(&particles_of(sheet), &chart.radii));
     let picture = picture::draw(chart, &done, pairs).map_err(refused)?;
 
     let [sheet, svg] = [".sheet", ".svg"].map(|ending| with(out, ending));

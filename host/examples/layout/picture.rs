@@ -35,7 +35,7 @@ impl fmt::Display for Short {
 pub fn draw(chart: &Chart, done: &Spread, pairs: [usize; 2]) -> Result<String, Refusal> {
     let sheets = [&chart.sheet, &done.sheet];
     let when = ["before".to_string(), format!("after {} ticks", done.ticks)];
-    let places = [particles_of(sheets[0])?, particles_of(sheets[1])?];
+    let places = sheets.map(|sheet| particles_of(sheet));
     let view = View::of(places.iter().flat_map(|places| places.iter().zip(&chart.radii)));
     let (width, height) = (Short(2.0 * WIDTH + 3.0 * GAP), Short(view.height + 2.0 * BAND));
     let size = format!("width=\"{width}\" height=\"{height}\"");

@@ -1,6 +1,6 @@
 //! Spreads the labels of a chart by `step`, in portions, so that a long run can say how far it is.
 use crate::chart::{Chart, GREATEST};
-use talemiku::{particles_of, step, Force, Forces, Lent, Links, Particle, Refusal, Settings, SLOT_WORDS};
+use talemiku::{particles_of, step, Force, Forces, Lent, Links, Refusal, Settings, SLOT_WORDS};
 
 /// How many ticks it takes alpha to come down from 1 to `LEAST`.
 pub const TICKS: u64 = 300;
@@ -47,7 +47,7 @@ pub fn spread(chart: &Chart, mut progress: impl FnMut(u64)) -> Result<Spread, Re
     let labels = chart.radii.len();
     let (mut draws, mut most) = (Draws::new(), FEW * (1 + labels.min(MOST)));
     let mut work = vec![0; slots(labels) * SLOT_WORDS];
-    let forces = forces(chart)?;
+    let forces = forces(chart);
     let mut done = Spread { sheet: chart.sheet.clone(), alpha: 1.0, ticks: 0, visits: 0, draws: 0 };
     loop {
         let lent = Lent { draws: draws.next(most), work: &mut work };
@@ -69,26 +69,26 @@ pub fn spread(chart: &Chart, mut progress: impl FnMut(u64)) -> Result<Spread, Re
 }
 
 /// What moves the labels, by slot: all push each other away a little, linked ones come together, discs are parted, and the middle stays where it was.
-fn forces(chart: &Chart) -> Result<Forces, Refusal> {
+fn forces(chart: &Chart) -> Forces {
     let charges: Vec<f64> = chart.radii.iter().map(|radius| -PUSH * radius).collect();
     let room: Vec<f64> = chart.radii.iter().map(|radius| (ROOM * radius).min(GREATEST)).collect();
     let reach = |ends: &[u32]| REACH * (chart.radii[ends[0] as usize] + chart.radii[ends[1] as usize]);
     let distances: Vec<f64> = chart.links.chunks_exact(2).map(reach).collect();
-    let (x, y) = middle(&chart.sheet)?;
+    let (x, y) = middle(&chart.sheet);
     let mut slots = [None; 8];
     slots[0] = Some(Force::ManyBody { strengths: &charges });
     slots[1] = Some(Force::Link(Links { ends: &chart.links, strengths: &[], distances: &distances, iterations: 1 }));
     slots[2] = Some(Force::Collide { radii: &room, strength: 0.9, iterations: 3 });
     slots[3] = Some(Force::Center { x, y, strength: 1.0 });
-    Ok(Forces::new(chart.radii.len(), &slots))
+    Forces::new(chart.radii.len(), &slots)
 }
 
-/// The middle of all places; of none, no matter where. A sheet that can't be read is refused as the first tick would refuse it.
-fn middle(sheet: &[u8]) -> Result<(f64, f64), Refusal> {
-    let places = particles_of(sheet)?;
+/// The middle of all places; of none, or of places that will be refused, no matter where.
+fn middle(sheet: &[u8]) -> (f64, f64) {
+    let places = particles_of(sheet);
     let share = 1.0 / places.len().max(1) as f64;
-    let mean = |axis: fn(&Particle) -> f64| places.iter().map(axis).sum::<f64>() * share;
-    Ok((mean(|p| p.x), mean(|p| p.y)))
+    let finite = |sum: f64| if sum.is_finite() { sum * share } else { 0.0 };
+    (finite(places.iter().map(|p| p.x).sum()), finite(places.iter().map(|p| p.y).sum()))
 }
 
 /// Jiggles, as small as the Rust's and the same on every run, without end: those that aren't used yet and have been made already, and how the next is made.

@@ -1,4 +1,4 @@
-//! Sheets laid out by hand, for what the crate's own writer refuses: any particles, whatever is wrong with them.
+//! Sheets laid out by hand, apart from the crate's own: of any particles, whatever is wrong with them, which the archive's writer refuses.
 use talemiku::Particle;
 
 /// The records of these particles: x, y, vx, vy and flags, little-endian, 8 bytes each.
