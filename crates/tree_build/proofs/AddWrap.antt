@@ -13,7 +13,7 @@ use Rattle.rules.specs.declared.Extent.{Extent}
 use Rattle.rules.specs.Plain.{branch}
 use Rattle.rules.specs.Number.{within, x_at, y_at}
 use Rattle.rules.specs.Floor.{floor}
-use Rattle.rules.specs.Cell.{quadrant, quarter}
+use Rattle.rules.specs.Cell.{quarter}
 use Rattle.rules.specs.Cover.{Square, inside, old_quadrant, holds, extent_of}
 use Rattle.rules.specs.Tree.{Tree, none, leaf, node, depth, nodes, tree_in}
 use Rattle.rules.specs.Calls.{slot_words}

@@ -10,7 +10,6 @@ use Rattle.rules.specs.Outcome.{refused, fine}
 use Rattle.rules.specs.Tree.{tree_check}
 use Rattle.rules.specs.Calls.{slots_of}
 use Rattle.tree_slots.specs.declared.Quadtree.{Quadtree}
-use Rattle.tree_build.specs.declared.build.Built as Built
 use Rattle.tree_build.specs.declared.build.Built.{Built}
 use Rattle.tree_build.specs.declared.build.Built.TheVariants.{Refused}
 use Rattle.tree_slots.specs.Trees.{Stands}

@@ -25,7 +25,6 @@ use Rattle.tree_slots.specs.Trees.{Stands}
 use Rattle.tree_rows.proofs.ListWhole.{chains-all}
 use Rattle.tree_call.specs.Tree.{AfterTree, refused_tree, refused_work, Comes, extent_built, Answers, built, TreeReady}
 use Rattle.tree_build.specs.declared.build.Built.{Built}
-use Rattle.tree_build.specs.declared.build.Built.TheVariants as Built
 use Rattle.tree_build.specs.Build.{particles, Lent, Builds}
 use Rattle.tree_slots.proofs.Trees.{lays_levels}
 use Rattle.tree_build.proofs.Refusals.{tree_clears}

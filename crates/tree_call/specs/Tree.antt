@@ -11,7 +11,6 @@ use Rattle.rules.specs.Tree.{Tree, nodes, row_numbers, tree_of, tree_check}
 use Rattle.rules.specs.Calls.{slots_of, rows_in, chains_in, TreeInput, tree_answer, rows_after, chains_after, tree_work_after}
 use Rattle.tree_rows.specs.List.{Whole}
 use Rattle.tree_build.specs.declared.build.Built.{Built}
-use Rattle.tree_build.specs.declared.build.Built.TheVariants as Built
 
 -- what is lent to the call
 abbrev pub lent : List ℕ → List ℕ → List ℕ → List ℕ → TreeInput

@@ -8,7 +8,7 @@ use lib.ListN.{length, set}
 use lib.Ieee.{Float}
 use Rattle.rules.specs.declared.Extent.{Extent}
 use Rattle.rules.specs.Refusal.{most_particles}
-use Rattle.rules.specs.Tree.{Tree, none, leaf, node, depth, nodes}
+use Rattle.rules.specs.Tree.{Tree, none, leaf, node, depth}
 use Rattle.rules.proofs.CellCount.{Fruitful}
 use Rattle.rules.proofs.CellChain.{EachLeaf}
 use Rattle.tree_slots.specs.declared.Quadtree.{Quadtree}

@@ -12,7 +12,7 @@ use Rattle.rules.specs.declared.Extent.{Extent}
 use Rattle.rules.specs.Plain.{branch, others}
 use Rattle.rules.specs.Refusal.{most_particles}
 use Rattle.rules.specs.Cell.{quarter}
-use Rattle.rules.specs.Tree.{Tree, none, leaf, node, depth, nodes, same, in_quarter, tree_in}
+use Rattle.rules.specs.Tree.{Tree, none, leaf, node, depth, same, in_quarter, tree_in}
 use Rattle.rules.specs.Terms.{leaves, most_nodes}
 use Rattle.rules.specs.Calls.{slot_words}
 use Rattle.rules.proofs.CellList.{In, in_keep}

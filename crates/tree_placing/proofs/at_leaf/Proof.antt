@@ -49,10 +49,6 @@ returns-3 : tie.Need-returns
 returns-3 c is g h =
     grown-split _ _ _ _ _ g _ _ _ _ h c.requires.3 c.shared_levels-g.result c.shared_levels-g.ensures c.if-g-left.false (fits c.before.before.before.before.before) c.split.new.m c.more.result c.split.ensures c.more.ensures
 
--- from after the split back to the count
-abbrev shared : tie.After-slice_known-2-1 → tie.After-shared_levels-g
-shared c = c.before.before.before.before.before.before.before.before
-
 pub at_leaf_spec : {M : Type 1} → statement M
 at_leaf_spec =
     tie.close

@@ -1,19 +1,14 @@
 -- `place` puts a particle where its way ends, and the slots then hold the tree with it, or it is refused as the rules do.
-use mathlib.Core.Path.{sym, subst, ◌∙◌}
+use mathlib.Core.Path.{sym, ◌∙◌}
 use mathlib.Core.List.{List}
 use Prim.Native.Nat.{ℕ}
 use native.Mathlib.Omega.{arith}
 use borrow.Author.Rules.{rules}
-use Rattle.tree_placing.specs.declared.Stop.{Stop}
 use Rattle.tree_placing.specs.declared.Inserted.TheVariants.{Done}
-use Rattle.tree_placing.specs.Add.{Seeks, Found, FoundLeaf, FoundHole}
+use Rattle.tree_placing.specs.Add.{Seeks, FoundLeaf, FoundHole}
 use Rattle.tree_placing.proofs.AddPlaced.{placed, few, first-less, leaf-new-point, hole-most, hole-new-point, grown-hole-full, hang-asks, grown-hung, kept, join-asks, placed-joined}
 use Rattle.tree_placing.proofs.place.Statement.{statement}
 use Rattle.tree_placing.proofs.place.Tie as tie
-
--- where the function begins
-abbrev start : tie.After-find-stop → tie.Start
-start c = c.before.before.before.before.before
 
 -- ---- at a leaf
 
@@ -59,10 +54,6 @@ returns-2 c is g =
 hang-requires : tie.Need-hang-requires
 hang-requires c κs =
     hang-asks _ _ _ _ _ c.requires.1.seeks _ _ _ (found-hole c.before.before.before.before _ c.requires.1.seeks) (λ z. c.if-slots-q.false (c.slots.ensures ∙ z))
-
--- from after the leaf is hung back to the hole
-abbrev hole : tie.After-slice_known-in-Hole-1 → tie.In-Hole
-hole c = c.before.before.before.before.before.before.before
 
 returns-4 : tie.Need-returns-else-slots-q
 returns-4 c is g =

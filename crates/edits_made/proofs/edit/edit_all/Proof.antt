@@ -22,25 +22,6 @@ invariant-loop edits at there₀ next₀ tail₀ m₀ n q₀ made₀ k₀ there 
 abbrev decreases-loop : tie.decreases-loop-k
 decreases-loop edits at there₀ next₀ tail₀ m₀ n q₀ made₀ k₀ there next tail m q made k = n - k
 
--- the points of the code, each from a later one
-abbrev edited-from-slices : tie.After-slice_known-in-loop-k-4-1 invariant-loop decreases-loop → tie.After-edit_one-answer invariant-loop decreases-loop
-edited-from-slices c = c.before.before.before.before.before.before.before.before
-
-abbrev within-loop : tie.After-edit_one-arg-in-loop-k-3-1 invariant-loop decreases-loop → tie.In-loop-k invariant-loop decreases-loop
-within-loop c = c.before.before.before.before.before.before
-
-abbrev start-from-loop-start : tie.After-slice_known-4-1 invariant-loop decreases-loop → tie.Start invariant-loop decreases-loop
-start-from-loop-start c = c.before.before.before.before.before.before
-
-abbrev edited : tie.In-Tree invariant-loop decreases-loop → tie.After-edit_one-answer invariant-loop decreases-loop
-edited c = c.before.before.before.before.before.before.before.before.before
-
-abbrev looped : tie.After-edit_one-answer invariant-loop decreases-loop → tie.At-loop-k invariant-loop decreases-loop
-looped c = c.before.before.before.before.before.before.before.before
-
-abbrev start : tie.At-loop-k invariant-loop decreases-loop → tie.Start invariant-loop decreases-loop
-start c = c.before.before.before.before.before.before.before
-
 -- there is an edit more
 more : (c : tie.In-loop-k invariant-loop decreases-loop) → c.loop-k.k * edit_words + edit_words ≤ length c.args.edits.now
 more c = omega (arith, c.loop-k-test.true)

@@ -1,23 +1,12 @@
 -- `insert_next` makes an insertion, or refuses it by 6 or 7.
-use mathlib.Core.Path.{◌≡◌, refl, subst}
-use mathlib.Core.List.{List}
-use Prim.Native.Nat.{ℕ, ◌+◌}
+use mathlib.Core.Path.{◌≡◌, refl}
 use native.Mathlib.Omega.{arith}
 use lib.ListN.{length}
 use borrow.Author.Rules.{rules}
-use Rattle.rules.specs.Cover.{cover_first, extent_of}
-use Rattle.rules.specs.Edits.{present}
-use Rattle.tree_placing.specs.declared.Inserted.{Inserted}
-use Rattle.tree_placing.specs.Add.{Placed}
-use Rattle.edits_made.specs.Editing.{Now}
 use Rattle.edits_made.proofs.Told.{told}
 use Rattle.edits_made.proofs.Inserting.{insert_follows, insert-puts, insert-refused, insert-fine, insert-now}
 use Rattle.edits_made.proofs.insert.insert_next.Statement.{statement}
 use Rattle.edits_made.proofs.insert.insert_next.Tie as tie
-
--- where the function begins
-abbrev start : tie.After-add_next-answer → tie.Start
-start c = c.before.before.before.before.before.before.before.before.before
 
 -- as many slots
 size : (c : tie.After-add_next-answer) → length c.add_next-answer.new.m ≡ length c.args.m.now

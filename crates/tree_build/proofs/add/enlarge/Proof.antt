@@ -27,10 +27,6 @@ deepest-requires : tie.Need-deepest-deepest-requires
 deepest-requires c κs =
     (_, bounded _ _ _ _ c.requires.1.holds c.requires.2, omega (arith, c.requires.3.covered.few))
 
--- from after the levels were looked at back to the tag
-abbrev tagged : tie.After-deepest-deepest → tie.After-tag
-tagged c = c.before.before
-
 internal : (c : tie.After-deepest-deepest) → let a = c.args in InternalIn a.m.now (a.q.root - 1)
 internal c = sym c.tag.ensures ∙ c.if-tag-ne0.false
 

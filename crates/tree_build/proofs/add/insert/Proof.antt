@@ -1,22 +1,14 @@
 -- `insert` puts p into the tree in the extent that it is given, or refuses as the rules do.
-use mathlib.Core.Path.{◌≡◌, subst}
+use mathlib.Core.Path.{subst}
 use mathlib.Core.List.{List}
 use Prim.Native.Nat.{ℕ, ◌<◌}
 use native.Mathlib.Omega.{arith}
 use borrow.Author.Rules.{rules}
 use Rattle.rules.specs.declared.Extent.{Extent}
-use Rattle.tree_placing.specs.declared.Inserted.{Inserted}
-use Rattle.tree_placing.specs.Add.{Seeks, Puts, Placed, Enlarged, Wrapped}
+use Rattle.tree_placing.specs.Add.{Seeks, Puts, Placed, Wrapped}
 use Rattle.tree_build.proofs.AddInsert.{begun-alone, begun-puts, first-placed}
 use Rattle.tree_build.proofs.add.insert.Statement.{statement}
 use Rattle.tree_build.proofs.add.insert.Tie as tie
-
--- where the function begins
-abbrev start : tie.After-begin → tie.Start
-start c = c.before.before.before.before.before.before.before
-
-abbrev begun : tie.After-struct_known-1 → tie.After-begin
-begun c = c.before.before.before.before.before
 
 -- there is a root
 rooted : (c : tie.Else-q-eq0) → 0 < c.args.q.root

@@ -24,10 +24,6 @@ invariant-loop m₀ at p x y wrapped₀ left₀ m wrapped left = (length m ≡ l
 abbrev decreases-loop : tie.decreases-loop-left
 decreases-loop m₀ at p x y wrapped₀ left₀ m wrapped left = left
 
--- where the function begins
-abbrev start : tie.At-loop-left invariant-loop decreases-loop → tie.Start invariant-loop decreases-loop
-start c = c.before.before.before.before.before
-
 -- what is left to wrap
 left-wraps : (c : tie.At-loop-left invariant-loop decreases-loop) → Wraps c.args.at.now c.requires.0 c.loop-left.m c.loop-left.wrapped c.args.covered.extent c.args.p c.loop-left.left
 left-wraps c = c.loop-left.invariant.1 c.requires.0 c.args.covered.extent c.requires.1

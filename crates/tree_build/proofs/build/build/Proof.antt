@@ -1,15 +1,13 @@
 -- `build` puts in all particles one after the other, and refuses at the earliest that the rules refuse.
-use mathlib.Core.Path.{◌≡◌, refl, sym, ap, ◌∙◌, subst}
-use Prim.Native.Nat.{ℕ, ◌+◌, ◌-◌, ◌/◌, ◌≤◌}
+use mathlib.Core.Path.{◌≡◌, refl, sym, ap, ◌∙◌}
+use Prim.Native.Nat.{ℕ, ◌-◌, ◌/◌, ◌≤◌}
 use native.Mathlib.Omega.{arith}
 use lib.ListN.{length}
 use borrow.Author.Rules.{rules}
 use Rattle.rules.specs.Plain.{up_to}
-use Rattle.rules.specs.Cover.{cover_first, extent_of}
 use Rattle.rules.specs.Outcome.{refused}
 use Rattle.rules.specs.Calls.{slot_words, slots_of}
-use Rattle.tree_placing.specs.declared.Inserted.{Inserted}
-use Rattle.tree_placing.specs.Add.{Puts, Placed}
+use Rattle.tree_placing.specs.Add.{Puts}
 use Rattle.tree_build.proofs.AddBuild.{Building, build_start, build-follows, build-puts, build-done, build-refused, build_end}
 use Rattle.tree_build.proofs.build.build.Statement.{statement}
 use Rattle.tree_build.proofs.build.build.Tie as tie
@@ -20,10 +18,6 @@ invariant-loop at next₀ tail₀ m₀ n q₀ p₀ next tail m q p =
 
 abbrev decreases-loop : tie.decreases-loop-p
 decreases-loop at next₀ tail₀ m₀ n q₀ p₀ next tail m q p = n - p
-
--- where the function begins
-abbrev start : tie.At-loop-p invariant-loop decreases-loop → tie.Start invariant-loop decreases-loop
-start c = c.before.before.before.before.before
 
 loop-holds : tie.Need-loop-p-init invariant-loop decreases-loop
 loop-holds c =
@@ -38,10 +32,6 @@ puts t =
 add-next-requires : tie.Need-add_next-answer-requires invariant-loop decreases-loop
 add-next-requires c κs =
     (_, build-follows c.args.at.now (slots_of c.args.m.now) c.loop-p.m c.loop-p.next c.loop-p.tail c.loop-p.q c.loop-p.p c.loop-p.invariant.4 c.requires.ranged c.loop-p-test.true, puts c.before.before.before)
-
--- the test before the particle is added
-abbrev test : tie.After-add_next-answer invariant-loop decreases-loop → tie.In-loop-p invariant-loop decreases-loop
-test c = c.before.before.before.before
 
 -- as many slots as at the start
 same-slots : (c : tie.After-add_next-answer invariant-loop decreases-loop) → slots_of c.add_next-answer.new.m ≡ slots_of c.args.m.now

@@ -13,10 +13,6 @@ use Rattle.tree_build.proofs.AddBuild.{first_extends, extend-near, next-extends}
 use Rattle.tree_build.proofs.build.extend.Statement.{statement}
 use Rattle.tree_build.proofs.build.extend.Tie as tie
 
--- where the function begins
-abbrev start : tie.After-y_at-y → tie.Start
-start c = c.before.before.before
-
 first-requires : tie.Need-first-requires
 first-requires c κs =
     let r = c.requires.ranged c.args.p (omega arith) in

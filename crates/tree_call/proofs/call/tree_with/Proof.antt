@@ -5,19 +5,6 @@ use Rattle.tree_call.proofs.TreeCalled.{can_build, sheet-comes, sheet-after}
 use Rattle.tree_call.proofs.call.tree_with.Statement.{statement}
 use Rattle.tree_call.proofs.call.tree_with.Tie as tie
 
--- the points of the code, each from a later one
-abbrev answered : tie.After-slice_known-13-1 → tie.After-answer
-answered c = c.before.before.before.before.before.before
-
-abbrev built : tie.After-answer-arg-3-1 → tie.After-build-built
-built c = c.before.before.before.before.before.before.before.before.before
-
-abbrev read : tie.After-build-arg-3-1 → tie.After-read_pairs
-read c = c.before.before.before.before.before
-
-abbrev start : tie.After-read_pairs → tie.Start
-start c = c.before.before.before.before.before.before.before.before.before
-
 build-requires : tie.Need-build-built-requires
 build-requires c κs = can_build c.requires c.read_pairs.ensures c.read_pairs.auto.out refl refl
 

@@ -9,10 +9,6 @@ use Rattle.tree_removing.proofs.Filling.{fill-last, fill-root, fill-rooted, fill
 use Rattle.tree_removing.proofs.fill.fill.Statement.{statement}
 use Rattle.tree_removing.proofs.fill.fill.Tie as tie
 
--- where the function begins
-abbrev start : tie.Else-h-x → tie.Start
-start c = c.before.before.before
-
 returns : tie.Need-returns-then-h-x
 returns c t g = fill-last _ _ _ _ t g c.if-h-x.true
 

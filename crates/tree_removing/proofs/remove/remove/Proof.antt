@@ -30,10 +30,6 @@ first-is t is g =
     let w = (spot-leaf _ is _ _ _ (finds _ is _ _ _ _ _ g) t.leaf_of-spot.result (spotted t.before is g)).1.tag in
     (omega (arith, w, t.tag-tag.ensures), omega (arith, w, t.tag-tag.ensures))
 
--- from the chains back to the leaf's word
-abbrev back : tie.After-leave-link → tie.After-tag-tag
-back l = l.before.before.before
-
 left : (l : tie.After-leave-link) (is : List ℕ) → Asked l.before.before.before.before.before.before.before.before.before is → Left l.args.next.now l.args.tail.now l.leave-link.new.next l.leave-link.new.tail (at_point l.args.at.now is l.args.i) (l.tag-tag.result - 1) l.args.i l.leave-link.result
 left l is g = let s = start l.before.before.before.before in l.leave-link.ensures (at_point s.args.at.now is s.args.i) (member _ is _ _ _ _ _ g _ (first-is l.before.before.before is g).1)
 
@@ -41,10 +37,6 @@ leave-requires : tie.Need-leave-link-requires
 leave-requires c κs =
     let p = c.requires in
     (_, member _ p.0 _ _ _ _ _ p.1 _ (first-is c.before.before p.0 p.1).1, p.1.lengths)
-
--- from the test back to the chains
-abbrev left-of : tie.After-slice_known-5-1 → tie.After-leave-link
-left-of c = c.before.before.before.before
 
 put-leaf-requires : tie.Need-put_leaf-requires
 put-leaf-requires c κs =

@@ -11,10 +11,6 @@ use Rattle.tree_removing.proofs.Taking.{cut-root, cut-slot, cut-hollow, cut-tidi
 use Rattle.tree_removing.proofs.take.cut.Statement.{statement}
 use Rattle.tree_removing.proofs.take.cut.Tie as tie
 
--- where the function begins
-abbrev start : tie.Else-s-eq0 → tie.Start
-start c = c.before.before.before
-
 returns : tie.Need-returns-then-s-eq0
 returns c is g h gone = (cut-root _ is _ _ _ g _ h gone c.if-s-eq0.true, refl)
 

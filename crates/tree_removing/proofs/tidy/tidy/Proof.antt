@@ -21,20 +21,11 @@ abbrev decreases-loop : tie.decreases-loop-fold
 decreases-loop m₀ at i less₀ m less = less.nodes
 
 -- the points of the code, each from a later one
-abbrev leaf_put : tie.After-fewer invariant-loop decreases-loop → tie.After-put_leaf invariant-loop decreases-loop
-leaf_put c = c.before.before.before.before
-
-abbrev back-from-put-leaf : tie.After-put_leaf-arg-1 invariant-loop decreases-loop → tie.Else-fold-eq0 invariant-loop decreases-loop
-back-from-put-leaf c = c.before.before.before
-
 abbrev loop-from-if1 : tie.After-struct_known-1 invariant-loop decreases-loop → tie.At-loop-fold invariant-loop decreases-loop
 loop-from-if1 c = c.before.before
 
 abbrev start : tie.At-loop-fold invariant-loop decreases-loop → tie.Start invariant-loop decreases-loop
 start c = c.before.before.before
-
-abbrev back : tie.After-put_leaf invariant-loop decreases-loop → tie.Else-fold-eq0 invariant-loop decreases-loop
-back c = back-from-put-leaf c.before
 
 abbrev loop : tie.After-put_leaf invariant-loop decreases-loop → tie.At-loop-fold invariant-loop decreases-loop
 loop c = loop-from-if1 c.before.before.before.before.before
