@@ -20,6 +20,7 @@ pub mod Tick
 pub mod Listing
 pub mod Outline
 pub mod Edits
+pub mod Reason
 pub mod Records
 pub mod Recenter
 pub mod Terms

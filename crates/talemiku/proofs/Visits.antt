@@ -23,7 +23,9 @@ use Rattle.rules.specs.Flow.{Flow, flow}
 use Rattle.rules.specs.ManyBody.{charged_tree, leaf_charge, node_charge, many_body_step, run_many_body}
 use Rattle.rules.specs.Collide.{radius_tree, leaf_radius, node_radius, collide_step, collide_once, run_collide}
 use Rattle.rules.specs.Link.{Ends, run_link}
-use Rattle.rules.specs.Force.{Kind, Empty, ManyBody, Collide, Link, Center, Unknown, kind_of, kind_counts, Push, many_body, collide, link, run}
+use Rattle.rules.specs.declared.Kind.{Kind}
+use Rattle.rules.specs.declared.Kind.TheVariants.{Empty, ManyBody, Collide, Link, Center, Unknown}
+use Rattle.rules.specs.Force.{kind_of, kind_counts, Push, many_body, collide, link, run}
 use Rattle.rules.specs.Particle.{centered, closing}
 use Rattle.rules.specs.Tick.{Force, empty, push, center, unknown, entry_counts, numbers_needed, links_needed, kind_force, forces_from, State, state, next_alpha, alpha_stage, if_in_range, with_speeds, push_stage, force_stage, tick_home, tick}
 use Rattle.rules.specs.Terms.{distinct, most_nodes, Walked, repeated, most_visited, ForceWalked, uncounted, Forced, tick_counts}

@@ -12,7 +12,9 @@ use Rattle.rules.specs.declared.Refusal.{Refusal}
 use Rattle.rules.specs.Plain.{sum}
 use Rattle.rules.specs.Outcome.{Check, refusal, require_all, ◌then◌, refusal_of, check_from}
 use Rattle.rules.specs.Link.{Ends}
-use Rattle.rules.specs.Force.{Kind, Empty, ManyBody, Collide, Link, Center, Unknown, kind_of, ends_from, ends_of, ends_range}
+use Rattle.rules.specs.declared.Kind.{Kind}
+use Rattle.rules.specs.declared.Kind.TheVariants.{Empty, ManyBody, Collide, Link, Center, Unknown}
+use Rattle.rules.specs.Force.{kind_of, ends_from, ends_of, ends_range}
 use Rattle.rules.specs.Tick.{entry_words, force_slots, entry_at, entries_of, kind_numbers, kind_links, kind_force, numbers_needed, links_needed, force_of, forces_from, force_ends, force_ranges}
 use Rattle.sheet.proofs.Checked.{then_stays}
 use Rattle.rules.proofs.RefusalLaws.{Refuses}

@@ -3,7 +3,9 @@ use Rattle.std.specs.Prelude.{false, List, [], ◌∷◌, ℕ, ◌*◌, take, dr
 use Rattle.rules.specs.declared.ForceEntry.{ForceEntry}
 use Rattle.rules.specs.Outcome.{Check, fine, require, require_all, ◌then◌}
 use Rattle.rules.specs.Refusal.{strengths_check, distances_check, settings_check}
-use Rattle.rules.specs.Force.{Kind, Empty, ManyBody, Collide, Link, Center, Unknown, kind_of, ends_of, ends_range}
+use Rattle.rules.specs.declared.Kind.{Kind}
+use Rattle.rules.specs.declared.Kind.TheVariants.{Empty, ManyBody, Collide, Link, Center, Unknown}
+use Rattle.rules.specs.Force.{kind_of, ends_of, ends_range}
 use Rattle.rules.specs.Tick.{links_needed, numbers_needed}
 
 -- slots that share a list one after another, each with a check of its own part: the first that refuses
