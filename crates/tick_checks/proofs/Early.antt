@@ -10,7 +10,9 @@ use Rattle.rules.specs.declared.Refusal.{Refusal}
 use Rattle.rules.specs.Number.{within, distance_range}
 use Rattle.rules.specs.Outcome.{Check, done, refused, require, ◌then◌, ◌>>=◌, refusal_of, check_from}
 use Rattle.rules.specs.Refusal.{settings_check}
-use Rattle.rules.specs.Force.{Kind, Empty, ManyBody, Collide, Link, Center, Unknown, kind_of}
+use Rattle.rules.specs.declared.Kind.{Kind}
+use Rattle.rules.specs.declared.Kind.TheVariants.{Empty, ManyBody, Collide, Link, Center, Unknown}
+use Rattle.rules.specs.Force.{kind_of}
 use Rattle.rules.proofs.RefusalLaws.{Refuses, of_done, ◌then·◌, of_require, of_all}
 use Rattle.rules.proofs.RefusalNumbers.{Early, five, settings-early}
 use Rattle.rules.proofs.OutcomeLaws.{check-any}

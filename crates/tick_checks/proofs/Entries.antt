@@ -1,18 +1,20 @@
 -- The entries of the force slots from one on: how much they need, and what 1 and 2 let pass of them.
 use mathlib.Core.Path.{◌≡◌, refl, sym, ap, ◌∙◌}
-use mathlib.Core.Bool.{Bool, true, false, not, ◌&&◌, ◌||◌, false≢true, and-eq-true_iff}
+use mathlib.Core.Bool.{Bool, true, false, not, ◌||◌, false≢true, and-eq-true_iff}
 use mathlib.Core.List.{List, [], ◌∷◌, map}
 use Prim.Native.Nat.{ℕ, suc, ◌+◌, ◌-◌, ◌*◌, ◌≤◌, ◌<◌}
 use native.Mathlib.Nat.{zero-add, le_trans}
 use native.Mathlib.Omega.{arith}
-use borrow.Author.Tests.{not-true, not-false, eq-eqb, ne_eqb, eqb-true, leb-true}
+use borrow.Author.Tests.{not-true, not-false, eqb-true, leb-true}
 use lib.Dec.{eqb, leb}
 use lib.ListN.{length}
 use Rattle.rules.specs.declared.ForceEntry.{ForceEntry}
 use Rattle.rules.specs.Plain.{all, sum}
 use Rattle.rules.specs.Outcome.{Check, done, refused, fine, ◌then◌, ◌>>=◌, check_from, check_each}
 use Rattle.rules.specs.Refusal.{most_particles, most_links, most_iterations, count_check}
-use Rattle.rules.specs.Force.{Kind, Empty, ManyBody, Collide, Link, Center, Unknown, kind_of, kind_counts, strengths_agree}
+use Rattle.rules.specs.declared.Kind.{Kind}
+use Rattle.rules.specs.declared.Kind.TheVariants.{Empty, ManyBody, Collide, Link, Center, Unknown}
+use Rattle.rules.specs.Force.{kind_of, kind_counts, strengths_agree}
 use Rattle.rules.specs.Tick.{kind_numbers, kind_links, kind_strengths_agree, entry_words, force_slots, entry_at, entries_from, entries_of, entry_counts, strengths_right, numbers_needed, links_needed}
 use Rattle.list_checks.proofs.Checks.{then_both, require_true}
 
@@ -123,19 +125,6 @@ entries-small n i (e ∷ es) few c r =
     omega (arith, kind-small (kind_of e.kind) n e few b.0 d.0, entries-small n (i + 1) es few b.1 d.1)
 
 -- the same of all slots, in numbers
-pub all_small : (n : ℕ) (w : List ℕ) → n ≤ most_particles → check_each (λ _ e. entry_counts e) (entries_of w) ≡ fine → all strengths_right (entries_of w) ≡ true
-    → (sum (map (numbers_needed n) (entries_of w)) ≤ 131072) × (sum (map links_needed (entries_of w)) ≤ 65536)
-all_small n w few c r = entries-small n 0 (entries_of w) few c r
-
--- ---- 2: b and a say whether the strengths are right, s and t are how many numbers and links are needed
-
-module _ (a b : Bool) (is : b ≡ a) (k s m t : ℕ) where
-  pub wrong_strengths : not b ≡ true → false ≡ a && eqb k s && eqb m (t * 2)
-  wrong_strengths h = rw (← is, not-true b h)
-
-  module _ (h : not b ≡ false) (s' : ℕ) (es : s' ≡ s) where
-    pub wrong-numbers : (k ≡ s' → ⊥) → false ≡ a && eqb k s && eqb m (t * 2)
-    wrong-numbers d = rw (← is, not-false b h, ← es, ne_eqb k s' d)
-
-    pub right-numbers : k ≡ s' → (t' : ℕ) → t' ≡ t → eqb m (t' * 2) ≡ a && eqb k s && eqb m (t * 2)
-    right-numbers d t' et = rw (← is, not-false b h, ← es, eq-eqb k s' d, et)
+pub all_small : (n : ℕ) (w : List ℕ) (es : List ForceEntry) → es ≡ entries_of w → n ≤ most_particles → check_each (λ _ e. entry_counts e) (entries_of w) ≡ fine → all strengths_right es ≡ true
+    → (sum (map (numbers_needed n) es) ≤ 131072) × (sum (map links_needed es) ≤ 65536)
+all_small n w es is few c r = rw is (entries-small n 0 (entries_of w) few c (rw is at r))

@@ -5,18 +5,17 @@ ghost use Rattle.rules.specs.Tick.{entry_counts, entries_of};
 
 use crate::entry::entry_at;
 use list_checks::{count_check, first};
-use rules::{FORCE_SLOTS, FORCE_WORDS, ForceEntry, MOST_ITERATIONS, MOST_LINKS, Refusal};
+use rules::{FORCE_SLOTS, FORCE_WORDS, ForceEntry, Kind, MOST_ITERATIONS, MOST_LINKS, Refusal};
 
 // Words that the kind doesn't use may be anything.
 fn entry_counts(e: ForceEntry) -> Refusal
     ensures { result ≡ refusal_of (entry_counts e) }
 {
-    let kind = e.kind;
     let links = count_check(MOST_LINKS, e.links as usize);
     let iterations = count_check(MOST_ITERATIONS, e.iterations as usize);
-    match kind {
-        2 => iterations,
-        3 => first(links, iterations),
+    match Kind::from(e.kind) {
+        Kind::Collide => iterations,
+        Kind::Link => first(links, iterations),
         _ => Refusal::none(),
     }
 }

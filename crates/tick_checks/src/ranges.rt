@@ -8,7 +8,7 @@ ghost use Rattle.tick_checks.specs.Parts.{own_ranges, ranges_each};
 
 use crate::entry::{entry_at, numbers_needed};
 use list_checks::{distances_check, first, setting_check, strengths_check};
-use rules::{FORCE_SLOTS, FORCE_WORDS, ForceEntry, Refusal};
+use rules::{FORCE_SLOTS, FORCE_WORDS, ForceEntry, Kind, Refusal};
 
 // Three settings in a row.
 pub fn settings_check(a: f64, b: f64, c: f64) -> Refusal
@@ -28,18 +28,18 @@ fn link_ranges(part: &[f64], strengths: usize) -> Refusal
 }
 
 // Of one slot, from its own part of the numbers.
+#[tactic(auto, unfolding(crate::specs::Parts::kind_ranges))]
 fn entry_ranges(e: ForceEntry, part: &[f64]) -> Refusal
     requires { e.kind ≡ 3 → e.strengths ≤ length part.now }
     ensures { result ≡ refusal_of (own_ranges e part.now) }
 {
-    let kind = e.kind;
-    match kind {
-        0 => Refusal::none(),
-        1 => strengths_check(part),
-        2 => first(distances_check(part), setting_check(e.a)),
-        3 => link_ranges(part, e.strengths as usize),
-        4 => settings_check(e.a, e.b, e.c),
-        _ => Refusal::at(5, 0),
+    match Kind::from(e.kind) {
+        Kind::Empty => Refusal::none(),
+        Kind::ManyBody => strengths_check(part),
+        Kind::Collide => first(distances_check(part), setting_check(e.a)),
+        Kind::Link => link_ranges(part, e.strengths as usize),
+        Kind::Center => settings_check(e.a, e.b, e.c),
+        Kind::Unknown => Refusal::at(5, 0),
     }
 }
 

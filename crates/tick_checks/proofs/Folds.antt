@@ -1,0 +1,17 @@
+-- The rules' test of a whole list and their sum, in std's words.
+use Rattle.std.proofs.Common.{◌≡◌, ℕ, zero, suc, ◌≤◌, ◌<◌, Bool, ◌&&◌, List, [], ◌∷◌, map, length, get_or, sum, refl, arith}
+use Rattle.std.proofs.lemmas.List.Recursion.{same_from_clauses, is_sum_by}
+use Rattle.std.specs.List.{list_all}
+use Rattle.rules.specs.Plain as Plain
+
+pub all-is : {A : Type 0} (test : A → Bool) (l : List A) → list_all test l ≡ Plain.all test l
+all-is test = same_from_clauses (list_all test) (Plain.all test) (λ a b. test a && b) refl (λ _ _. refl) (λ _ _. refl)
+
+pub sum-is : (l : List ℕ) → Plain.sum l ≡ sum l
+sum-is = is_sum_by Plain.sum (λ n. n) refl (λ _ _. refl)
+
+-- no part is more than the sum
+pub part-small : {A : Type 0} (f : A → ℕ) (l : List A) (i : ℕ) (a : A) → i < length l → a ≡ get_or l i a → f a ≤ Plain.sum (map f l)
+part-small f [] i a h is = absurd (omega arith)
+part-small f (b ∷ l) zero a h is = rw is (omega arith)
+part-small f (b ∷ l) (suc i) a h is = omega (arith, part-small f l i a (omega arith) is)
