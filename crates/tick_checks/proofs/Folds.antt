@@ -1,11 +1,7 @@
--- The rules' test of a whole list and their sum, in std's words.
-use Rattle.std.proofs.Common.{◌≡◌, ℕ, zero, suc, ◌≤◌, ◌<◌, Bool, ◌&&◌, List, [], ◌∷◌, map, length, get_or, sum, refl, arith}
-use Rattle.std.proofs.lemmas.List.Recursion.{same_from_clauses, is_sum_by}
-use Rattle.std.specs.List.{list_all}
+-- The rules' sum of a list in std's words.
+use Rattle.std.proofs.Common.{◌≡◌, ℕ, zero, suc, ◌≤◌, ◌<◌, List, [], ◌∷◌, map, length, get_or, sum, refl, arith}
+use Rattle.std.proofs.lemmas.List.Recursion.{is_sum_by}
 use Rattle.rules.specs.Plain as Plain
-
-pub all-is : {A : Type 0} (test : A → Bool) (l : List A) → list_all test l ≡ Plain.all test l
-all-is test = same_from_clauses (list_all test) (Plain.all test) (λ a b. test a && b) refl (λ _ _. refl) (λ _ _. refl)
 
 pub sum-is : (l : List ℕ) → Plain.sum l ≡ sum l
 sum-is = is_sum_by Plain.sum (λ n. n) refl (λ _ _. refl)

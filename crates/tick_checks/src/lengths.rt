@@ -3,10 +3,10 @@ ghost use Rattle.std.specs.Prelude.{◌≡◌, ◌&&◌, map, ◌*◌, ◌≤◌
 ghost use Rattle.rules.specs.Plain.{all, sum};
 ghost use Rattle.rules.specs.Outcome.{fine, check_each};
 ghost use Rattle.rules.specs.Refusal.{most_particles};
-ghost use Rattle.rules.specs.Tick.{entry_counts, strengths_right, numbers_needed, links_needed, entries_of, entry_lengths};
+ghost use Rattle.rules.specs.Tick.{entry_counts, strengths_right, numbers_needed, links_needed, entry_lengths};
 
-use crate::entry::{entries, links_needed, numbers_needed};
-use rules::{FORCE_WORDS, ForceEntry, Kind};
+use crate::entry::{links_needed, numbers_needed};
+use rules::{FORCE_SLOTS, ForceEntry, Kind};
 
 // A link's strengths are none or one for each link.
 fn strengths_right(e: ForceEntry) -> bool
@@ -40,10 +40,14 @@ fn all_links(entries: &[ForceEntry]) -> usize
 }
 
 // Of lists with so many numbers and so many link ends. No sum is made before the counts and the strengths are known to be small.
-pub fn lengths_agree(words: &[u64; FORCE_WORDS], n: usize, numbers: usize, links: usize) -> bool
-    requires { (n ≤ most_particles) × (check_each (λ _ e. entry_counts e) (entries_of words.now) ≡ fine) }
-    ensures { result ≡ entry_lengths n (entries_of words.now) numbers links }
+pub fn lengths_agree(
+    entries: &[ForceEntry; FORCE_SLOTS],
+    n: usize,
+    numbers: usize,
+    links: usize,
+) -> bool
+    requires { (n ≤ most_particles) × (check_each (λ _ e. entry_counts e) entries.now ≡ fine) }
+    ensures { result ≡ entry_lengths n entries.now numbers links }
 {
-    let entries = entries(words);
-    all_right(&entries) && numbers == all_numbers(&entries, n) && links == all_links(&entries) * 2
+    all_right(entries) && numbers == all_numbers(entries, n) && links == all_links(entries) * 2
 }
