@@ -47,6 +47,7 @@ impl Kind {
 }
 
 // How many cases of each kind there are, and how many of them are right.
+#[derive(Drop)]
 pub struct Tally {
     right: [u64; KINDS.len()],
     all: [u64; KINDS.len()],
