@@ -7,6 +7,7 @@ use native.Mathlib.Nat.{zero-mul}
 use native.Mathlib.Omega.{arith}
 use lib.ListN.{length, get_or, drop}
 use lib.Ieee.{Float}
+use Rattle.std.specs.Prelude.{Ok}
 use Rattle.rules.specs.declared.Extent.{Extent}
 use Rattle.rules.specs.declared.Refusal.{Refusal}
 use Rattle.rules.specs.Plain.{foldl}
@@ -15,7 +16,6 @@ use Rattle.rules.specs.Cell.{nowhere}
 use Rattle.rules.specs.Tree.{chains_of, tree_in}
 use Rattle.rules.specs.Edits.{Edit, edit_of, edits_of, insertions, Present, present, edited, present_after, extent_now, tree_now, edit_check, edits_from, edit_words}
 use Rattle.tree_slots.specs.declared.Quadtree.{Quadtree}
-use Rattle.tree_build.specs.declared.build.Built.TheVariants as Built
 use Rattle.tree_build.specs.Build.{particles}
 use Rattle.rules.proofs.CellRule.{tree-whole, chains_in_lem, chains-length}
 use Rattle.rules.specs.Calls.{slots_of}
@@ -94,7 +94,7 @@ module _ (words : List ℕ) (at : List Float) (slots : ℕ) where
     pub edit_refused : (r : Refusal) → edit_check at slots k (present made b.left) e ≡ refused r → edits_from at slots 0 (present 0 []) es ≡ refused r
     edit_refused r f = decided (refused r) f
 
-    module _ (there' m' next' tail' : List ℕ) (r : Quadtree) (d : Changed at slots k (present made b.left) e there' m' next' tail' (Built.Tree r)) where
+    module _ (there' m' next' tail' : List ℕ) (r : Quadtree) (d : Changed at slots k (present made b.left) e there' m' next' tail' (Ok r)) where
       end_is : present_after es ≡ foldl edited (edited (present made b.left) e) (rest (k + 1))
       end_is = b.end ∙ ap (foldl edited (present made b.left)) next-is
 
@@ -146,7 +146,7 @@ module _ (words : List ℕ) (at : List Float) (slots : ℕ) where
           few = omega (arith, chains-length at (tree_in at c is) c is rule, rises_length 0 made is (omega arith) h.earlier h.rises);
         }
 
-    pub edits_done : Ranged at (particles at) → made ≤ particles at → slots_of m ≡ slots → AllDone words at m next (Built.Tree q)
+    pub edits_done : Ranged at (particles at) → made ≤ particles at → slots_of m ≡ slots → AllDone words at m next (Ok q)
     edits_done r l s = (
       ap (λ (n : ℕ). edits_from at n 0 (present 0 []) es) s ∙ edits-fine,
       subst (λ (x : Present). Stood at (tree_now at x) (extent_now at x) m next q) (sym edits-present) (stood r l),
