@@ -25,8 +25,8 @@ pub fn insert_next(
     ensures { (is : List ℕ) (x y : Float) → Now at.now (present made is) there.old m.old next.old tail.old q
         → Changed at.now (slots_of m.old) k (present made is) (insertion x y) there.new m.new next.new tail.new result }
 {
-    let more = add_next(at, next, tail, m, q, made)
-        .map_err(|reason| Refusal::new(reason, k as u64))?;
+    let added = add_next(at, next, tail, m, q, made);
+    let more = added.map_err(|reason| Refusal::new(reason, k as u64))?;
     there[made] = 1;
     Ok(more)
 }
