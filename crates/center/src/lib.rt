@@ -8,11 +8,19 @@ ghost use Rattle.rules.specs.Refusal.{most_particles};
 ghost use Rattle.rules.specs.Sheet.{places_of};
 ghost use Rattle.rules.specs.Particle as Rule;
 ghost use Rattle.rules.specs.declared.Particle as P;
-ghost use Rattle.center.specs.Pairs.{column, shifted_pairs};
+ghost use Rattle.center.specs.Pairs.{column, shifted_pairs, pair, added_to, offsets_of};
 
 use rules::Particle;
 
+// A number for each axis: sums of places, and how far to move back.
+#[derive(Clone, Copy)]
+pub struct Pair {
+    pub x: f64,
+    pub y: f64,
+}
+
 // One particle, moved back by a shift; its velocity stays.
+#[tactic(auto, unfolding(rules::specs::Particle::shifted))]
 pub fn shifted(sx: f64, sy: f64, p: Particle) -> Particle
     ensures { result ≡ Rule.shifted sx sy p }
 {
@@ -25,44 +33,48 @@ pub fn shifted(sx: f64, sy: f64, p: Particle) -> Particle
     }
 }
 
-// The sum of one axis, from the left: axis 0 is x, axis 1 is y.
-fn sum_axis(places: &[f64], axis: usize) -> f64
-    requires { axis ≤ 1 }
-    ensures { result ≡ foldl ◌⊕◌ 0· (column axis places.now) }
+// The sums with one place more.
+pub fn added(sums: Pair, x: f64, y: f64) -> Pair
+    ensures { result ≡ added_to sums x y }
 {
-    let n = places.len() / 2;
-    let mut sum = 0.0;
-    let mut i: usize = 0;
-    while i < n {
-        sum = sum + places[i * 2 + axis];
-        i = i + 1;
+    Pair {
+        x: sums.x + x,
+        y: sums.y + y,
     }
-    sum
 }
 
-// How far the mean of one axis lies from c, times the strength.
-fn offset(places: &[f64], axis: usize, c: f64, strength: f64) -> f64
-    requires { (axis ≤ 1) × (length places.now ≤ 2 * most_particles) }
-    ensures { result ≡ Rule.offset c strength (column axis places.now) }
+// How far the mean of n places lies from x, y, times the strength.
+pub fn offsets(sums: Pair, n: usize, x: f64, y: f64, strength: f64) -> Pair
+    requires { n ≤ most_particles }
+    ensures { result ≡ offsets_of sums n x y strength }
 {
-    let n = places.len() / 2;
-    (sum_axis(places, axis) / n as f64 - c) * strength
+    let count = n as f64;
+    Pair {
+        x: (sums.x / count - x) * strength,
+        y: (sums.y / count - y) * strength,
+    }
+}
+
+// The sums of all places, from the left.
+fn summed(places: &[f64]) -> Pair
+    ensures { result ≡ pair (foldl ◌⊕◌ 0· (column 0 places.now)) (foldl ◌⊕◌ 0· (column 1 places.now)) }
+{
+    let mut sums = Pair { x: 0.0, y: 0.0 };
+    for place in places.chunks_exact(2) {
+        sums = added(sums, place[0], place[1]);
+    }
+    sums
 }
 
 // Every place, moved back by a shift.
-fn shift_all(sx: f64, sy: f64, places: &mut [f64])
+fn shift_all(shift: Pair, places: &mut [f64])
     requires { length places.old % 2 ≡ 0 }
-    ensures { places.new ≡ shifted_pairs sx sy places.old }
+    ensures { places.new ≡ shifted_pairs shift.x shift.y places.old }
 {
-    let n = places.len() / 2;
-    let mut i: usize = 0;
-    while i < n {
-        let j = i * 2;
-        let x = places[j] - sx;
-        let y = places[j + 1] - sy;
-        places[j] = x;
-        places[j + 1] = y;
-        i = i + 1;
+    // By number: a proof knows nothing of what is written through `chunks_exact_mut`.
+    for i in 0..places.len() / 2 {
+        places[i * 2] -= shift.x;
+        places[i * 2 + 1] -= shift.y;
     }
 }
 
@@ -71,7 +83,6 @@ pub fn center_all(x: f64, y: f64, strength: f64, places: &mut [f64])
     requires { (length places.old % 2 ≡ 0) × (length places.old ≤ 2 * most_particles) }
     ensures { (ps : List P.Particle) → places_of ps ≡ places.old → places.new ≡ places_of (Rule.centered x y strength ps) }
 {
-    let sx = offset(places, 0, x, strength);
-    let sy = offset(places, 1, y, strength);
-    shift_all(sx, sy, places);
+    let shift = offsets(summed(places), places.len() / 2, x, y, strength);
+    shift_all(shift, places);
 }

@@ -1,6 +1,6 @@
 -- The closing move: one particle, and particles by columns.
-use mathlib.Core.Path.{◌≡◌, refl, sym, ap, ap₂, ◌∙◌}
-use mathlib.Core.Bool.{Bool, true}
+use mathlib.Core.Path.{◌≡◌, refl, sym, ap}
+use mathlib.Core.Bool.{true}
 use mathlib.Core.List.{List, [], ◌∷◌, ◌++◌, map, append-nil}
 use Prim.Native.Nat.{ℕ, zero, suc, ◌+◌, ◌-◌, ◌*◌, ◌≤◌, ◌<◌}
 use native.Mathlib.Numerals.{add-one}
@@ -12,25 +12,10 @@ use Rattle.rules.specs.declared.Particle.{Particle}
 use Rattle.rules.specs.Plain.{count_from, up_to}
 use Rattle.rules.specs.Number.{0·, x_at, y_at}
 use Rattle.rules.specs.Sheet.{particle, places_of, speeds_of}
-use Rattle.rules.specs.Particle.{Axis, axis, holds_x, holds_y, moved_axis, moved, closing}
+use Rattle.rules.specs.Particle.{holds_x, moved_axis, moved, closing}
 use Rattle.sheet.specs.Columns.{flags_of}
-use Rattle.closing.specs.declared.Axis as Code
 use Rattle.closing.specs.Columns.{particle_at, particles_from}
 use Rattle.sheet.proofs.PairLists.{pair-off, pair_put, same_first, same_second}
-
--- ---- one particle
-
--- x and y are the code's axes, held as a and b say
-pub moved-is : (decay hx hy : Float) (p : Particle) (a b : Bool) (x y : Code.Axis)
-    → a ≡ holds_x p.flags → b ≡ holds_y p.flags
-    → axis x.place x.speed ≡ moved_axis a hx decay p.x p.vx
-    → axis y.place y.speed ≡ moved_axis b hy decay p.y p.vy
-    → particle x.place y.place x.speed y.speed p.flags ≡ moved decay hx hy p
-unfolding moved
-moved-is decay hx hy p a b x y ea eb ex ey =
-    ap₂ (λ (u v : Axis). particle u.place v.place u.speed v.speed p.flags)
-    (ex ∙ ap (λ (h : Bool). moved_axis h hx decay p.x p.vx) ea)
-    (ey ∙ ap (λ (h : Bool). moved_axis h hy decay p.y p.vy) eb)
 
 -- ---- particles from columns
 

@@ -31,6 +31,7 @@ fn holds_y(flags: u64) -> bool
 }
 
 // A held axis returns home, velocity 0. The velocity itself isn't clamped.
+#[tactic(auto, unfolding(rules::specs::Particle::moved_axis))]
 fn moved_axis(held: bool, home: f64, decay: f64, p: f64, v: f64) -> Axis
     ensures { Rule.axis result.place result.speed ≡ Rule.moved_axis held home decay p v }
 {
@@ -48,18 +49,18 @@ fn moved_axis(held: bool, home: f64, decay: f64, p: f64, v: f64) -> Axis
 }
 
 // One particle whose home is hx, hy.
+#[tactic(auto, unfolding(rules::specs::Particle::moved))]
 pub fn moved(decay: f64, hx: f64, hy: f64, p: Particle) -> Particle
     ensures { result ≡ Rule.moved decay hx hy p }
 {
-    let flags = p.flags;
-    let x = moved_axis(holds_x(flags), hx, decay, p.x, p.vx);
-    let y = moved_axis(holds_y(flags), hy, decay, p.y, p.vy);
+    let x = moved_axis(holds_x(p.flags), hx, decay, p.x, p.vx);
+    let y = moved_axis(holds_y(p.flags), hy, decay, p.y, p.vy);
     Particle {
         x: x.place,
         y: y.place,
         vx: x.speed,
         vy: y.speed,
-        flags,
+        flags: p.flags,
     }
 }
 
@@ -84,9 +85,7 @@ pub fn close_all(home: &[f64], places: &mut [f64], speeds: &mut [f64], flags: &[
     ensures { let closed = Rule.closing decay home.now (particles_from places.old speeds.old flags.now) in
         (places.new ≡ places_of closed) × (speeds.new ≡ speeds_of closed) }
 {
-    let n = flags.len();
-    let mut i: usize = 0;
-    while i < n {
+    for i in 0..flags.len() {
         let p = particle_at(places, speeds, flags, i);
         let j = i * 2;
         let q = moved(decay, home[j], home[j + 1], p);
@@ -94,6 +93,5 @@ pub fn close_all(home: &[f64], places: &mut [f64], speeds: &mut [f64], flags: &[
         places[j + 1] = q.y;
         speeds[j] = q.vx;
         speeds[j + 1] = q.vy;
-        i = i + 1;
     }
 }

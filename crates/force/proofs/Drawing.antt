@@ -29,6 +29,12 @@ module _ (x : Float) (ds : List Float) (used : ℕ) where
   unfolding nonzero
   kept e = rw e
 
+module _ (ds : List Float) (used : ℕ) where
+  -- the draw that is next
+  pub next_is : used < length ds → done (drawn (get_or ds used nan) (drop (used + 1) ds)) ≡ next (drop used ds)
+  unfolding next
+  next_is h = rw (drop-cons ds used nan h, add-one used)
+
 -- d is the answer for x, from the draws l on
 module _ (ds l : List Float) (x y : Float) (d : Drawn) (is : drawn_of ds d ≡ nonzero x l) where
   pub shaken_dry : d.dry ≡ true → refused (refusal 8 0) ≡ shaken (gap x y) l

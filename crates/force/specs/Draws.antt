@@ -1,11 +1,14 @@
 -- What the answers of the code say about the lent draws `ds`: a number of used draws stands for what is left behind them. Definitions only.
-use Rattle.std.specs.Prelude.{cond, List, ℕ, ◌≤◌, length, drop, Float}
-use Rattle.rules.specs.Outcome.{Outcome, done, refused, refusal}
+use Rattle.std.specs.Prelude.{◌≡◌, cond, List, ℕ, ◌≤◌, length, drop, Float, Result, IfErr}
+use Rattle.rules.specs.Outcome.{Outcome, done, refused, refusal, outcome_of, ◌>>=◌}
+use Rattle.rules.specs.declared.Refusal.{Refusal}
 use Rattle.rules.specs.Flow as Flow
-use Rattle.rules.specs.Flow.{Flow, flow, drawn, gap}
+use Rattle.rules.specs.Flow.{Flow, flow, drawn, gap, Shaken}
 use Rattle.force.specs.declared.draws.Drawn.{Drawn}
 use Rattle.force.specs.declared.draws.Jiggled.{Jiggled}
 use Rattle.force.specs.declared.draws.Spent.{Spent}
+use Rattle.force.specs.declared.lent.Draws.{Draws}
+use Rattle.force.specs.declared.gap.Gap.{Gap}
 
 -- dry is refusal 8, otherwise the number and what is left
 unfoldable pub drawn_of : List Float → Drawn → Outcome Flow.Drawn
@@ -23,3 +26,24 @@ spent_of vs ds r = cond r.dry (refused (refusal 8 0)) (done (flow vs (drop r.use
 pub record From (ds : List Float) (used now : ℕ) : Type 0 where
   pub begun : used ≤ now
   pub reach : now ≤ length ds
+
+-- the draws that aren't used yet
+abbrev pub left : Draws → List Float
+left d = drop d.used d.lent.now
+
+-- what a stage came to, made of what it answered; or the refusal
+abbrev pub came_to : {A S : Type 0} → Result A Refusal → (A → S) → Outcome S
+came_to r f = outcome_of r >>= λ a. done (f a)
+
+-- the gap g, and the draws l that are left
+abbrev pub shaken_to : Gap → List Float → Shaken
+shaken_to g l = record { gap = gap g.x g.y; left = l }
+
+-- nothing is refused but that a draw was needed, and none was left
+abbrev pub OnlyDry : {A : Type 0} → Result A Refusal → Type 0
+OnlyDry r = IfErr r (λ e. e ≡ refusal 8 0)
+
+-- the same draws are lent, and none is used twice
+pub record Further (old new : Draws) : Type 0 where
+  pub same : new.lent.now ≡ old.lent.now
+  pub begun : old.used ≤ new.used

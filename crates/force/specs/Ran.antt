@@ -1,11 +1,12 @@
 -- How a force, a stage or a tick ended, as the code answers it. Definitions only.
-use Rattle.std.specs.Prelude.{◌≡◌, true, cond, List, ℕ, ◌*◌, ◌^◌, eqb, drop, Float}
+use Rattle.std.specs.Prelude.{◌≡◌, true, cond, List, ℕ, ◌*◌, ◌^◌, eqb, drop, Float, Result}
 use Rattle.rules.specs.declared.Progress.{Progress}
 use Rattle.rules.specs.declared.Refusal.{Refusal}
-use Rattle.rules.specs.Outcome.{Outcome, done, refused, Check, fine, ◌>>=◌, zeroes_work}
+use Rattle.rules.specs.Outcome.{Outcome, done, refused, Check, fine, ◌>>=◌, refusal_in, zeroes_work}
 use Rattle.rules.specs.Walk.{Counted, counted}
 use Rattle.rules.specs.Flow.{Flow, flow}
 use Rattle.force.specs.declared.Ran.{Ran}
+use Rattle.force.specs.declared.lent.Draws.{Draws}
 use Rattle.force.specs.Draws.{From}
 
 -- the velocities vs, what is left of the draws ds, and the nodes handed out so far
@@ -22,6 +23,10 @@ most_tick_visits = 8 * most_force_visits
 
 abbrev pub ended : Refusal → Progress → Ran
 ended r p = record { refusal = r; progress = p }
+
+-- a force that began at p answered r, and came to these draws and visits
+abbrev pub ended_by : Result (Unit {0}) Refusal → Progress → Draws → ℕ → Ran
+ended_by r p draws visits = ended (refusal_in r) (record { alpha = p.alpha; used = draws.used; visits = visits })
 
 -- number 0 stands for nothing refused
 unfoldable pub ran_check : Ran → Check

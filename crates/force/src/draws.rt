@@ -77,19 +77,3 @@ pub fn shaken(draws: &[f64], used: usize, x: f64, y: f64) -> Jiggled
         dry: second.dry,
     }
 }
-
-// The square of each draw is added: of the differences x and y as they were, and a and b as they are now.
-pub fn lengthen(l: f64, x: f64, y: f64, a: f64, b: f64) -> f64
-    ensures { result ≡ Flow.lengthened l (Flow.gap x y) (Flow.gap a b) }
-{
-    if x == 0.0 {
-        if y == 0.0 {
-            return l + a * a + b * b;
-        }
-        return l + a * a;
-    }
-    if y == 0.0 {
-        return l + b * b;
-    }
-    l
-}

@@ -2,13 +2,17 @@
 #![tactic(auto)]
 
 mod draws;
+mod gap;
+mod lent;
 mod push;
 
 ghost use Rattle.std.specs.Prelude.{◌≡◌};
 ghost use Rattle.rules.specs.Outcome.{refusal, no_refusal};
-ghost use Rattle.force.specs.Ran.{ended};
+ghost use Rattle.force.specs.Ran.{ended, ended_by};
 
-pub use draws::{Drawn, Jiggled, Spent, lengthen, nonzero, shaken};
+pub use draws::{Drawn, Jiggled, Spent, nonzero, shaken};
+pub use gap::{Gap, lengthen};
+pub use lent::Draws;
 pub use push::{push_back, push_on};
 use rules::{Progress, Refusal};
 
@@ -24,6 +28,18 @@ impl Ran {
         ensures { result ≡ ended refusal progress }
     {
         Ran { refusal, progress }
+    }
+
+    // The end of a force that began at p: what it answered, and the draws and the visits that it came to.
+    pub fn ended(end: Result<(), Refusal>, p: Progress, draws: &Draws, visits: u64) -> Self
+        ensures { result ≡ ended_by end p draws.now visits }
+    {
+        let progress = Progress {
+            used: draws.used(),
+            visits,
+            ..p
+        };
+        Ran::refused(Refusal::from(end), progress)
     }
 
     // 8: a draw was needed, and none was left.

@@ -3,6 +3,7 @@ ghost use Rattle.std.specs.Prelude.{◌≡◌, ◌+◌, ◌*◌, ◌<◌, length
 ghost use Rattle.rules.specs.Number.{◌⊕◌, ◌⊖◌};
 ghost use Rattle.rules.specs.Flow.{pushed};
 
+#[tactic(auto, unfolding(rules::specs::Flow::pushed, rules::specs::Number::set_pair))]
 pub fn push_on(vs: &mut [f64], i: usize, dx: f64, dy: f64)
     requires { i * 2 + 1 < length vs.old }
     ensures { vs.new ≡ pushed ◌⊕◌ vs.old i dx dy }
@@ -14,6 +15,7 @@ pub fn push_on(vs: &mut [f64], i: usize, dx: f64, dy: f64)
     vs[at + 1] = y;
 }
 
+#[tactic(auto, unfolding(rules::specs::Flow::pushed, rules::specs::Number::set_pair))]
 pub fn push_back(vs: &mut [f64], i: usize, dx: f64, dy: f64)
     requires { i * 2 + 1 < length vs.old }
     ensures { vs.new ≡ pushed ◌⊖◌ vs.old i dx dy }

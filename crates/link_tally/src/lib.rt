@@ -10,8 +10,8 @@ pub fn count_link(counts: &mut [u32], source: usize, target: usize)
     requires { (source < length counts.old) × (target < length counts.old) × (get_or counts.old source 0 < 2 ^ 31) × (get_or (one_more counts.old source) target 0 < 2 ^ 31) }
     ensures { counts.new ≡ one_more (one_more counts.old source) target }
 {
-    counts[source] = counts[source] + 1;
-    counts[target] = counts[target] + 1;
+    counts[source] += 1;
+    counts[target] += 1;
 }
 
 // count[source] / (count[source] + count[target])
@@ -26,10 +26,7 @@ pub fn bias(source: u32, target: u32) -> f64
 fn default_strength(source: u32, target: u32) -> f64
     ensures { result ≡ 1· ⊘ float (min source target) }
 {
-    if source < target {
-        return 1.0 / source as f64;
-    }
-    1.0 / target as f64
+    1.0 / source.min(target) as f64
 }
 
 // Of link number k; the default where the list lent is empty.
@@ -37,8 +34,9 @@ pub fn strength_at(strengths: &[f64], k: usize, source: u32, target: u32) -> f64
     requires { 0 < length strengths.now → k < length strengths.now }
     ensures { result ≡ strength_or strengths.now k source target }
 {
-    if strengths.len() == 0 {
-        return default_strength(source, target);
+    if strengths.is_empty() {
+        default_strength(source, target)
+    } else {
+        strengths[k]
     }
-    strengths[k]
 }

@@ -7,7 +7,7 @@ use native.Mathlib.Omega.{arith}
 use lib.IntN.{ℤ, pos}
 use lib.Dec.{T, leb, ltb, eqb, ltb→lt, lit<}
 use lib.Pow.{pow-add, pow_pos}
-use lib.Ieee.{Float, nan, inf, fin, binary64, up, down, size, fits, of_bits, to_bits, lt, eq, div}
+use lib.Ieee.{Float, nan, inf, fin, binary64, up, down, size, fits, of_bits, to_bits, lt, eq}
 use lib.Ieee.Fits.{and_r, down_pos, kept-lt}
 use lib.Ieee.Digits.{size-le}
 use lib.Ieee.Bits.{of_bits-to_bits}
@@ -85,8 +85,8 @@ some x (positive m e) t = go (bits_of (fin false (suc m) e)) (no_zero m e t)
 
 -- ---- what each return owes
 
-pub root-negative : (x : Float) → lt x 0· ≡ true → div binary64 0· 0· ≡ root x
-unfolding lt of_bits div root
+pub root-negative : (x : Float) → lt x 0· ≡ true → of_bits binary64 0x7ff8_0000_0000_0000 ≡ root x
+unfolding lt of_bits root
 root-negative nan h = refl
 root-negative (inf true) h = refl
 root-negative (inf false) h = absurd (false≢true h)

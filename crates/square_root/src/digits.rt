@@ -4,8 +4,11 @@ ghost use Rattle.std.specs.Prelude.{◌^◌, ◌<◌, ◌≤◌};
 ghost use Rattle.rules.specs.Root.{infinity, Nearest};
 ghost use Rattle.square_root.specs.Steps.{Unpacked, Radicand, BetweenSteps, Stepped, Rooted};
 
-// 2^52: the leading one of 53 digits
-const LEAD: u64 = 4503599627370496;
+// the digits of a root
+const DIGITS: u32 = 53;
+
+// 2^52, the leading one of them
+const LEAD: u64 = 1 << 52;
 
 // m * 2^k
 #[derive(Clone, Copy)]
@@ -23,15 +26,16 @@ struct Digits {
 }
 
 // the square of the root of b's value, in square units
+#[tactic(auto, using(crate::proofs::Powers::small, crate::proofs::Powers::normal))]
 fn unpack(b: u64) -> Parts
     requires { (0 < b) × (b < infinity) }
     ensures { Unpacked b result.m result.k }
 {
     if b < LEAD {
-        let shift = u64::leading_zeros(b) as u64 - 11;
+        let shift = b.leading_zeros() - 11;
         return Parts {
             m: b << shift,
-            k: 1074 - shift,
+            k: u64::from(1074 - shift),
         };
     }
     Parts {
@@ -41,6 +45,7 @@ fn unpack(b: u64) -> Parts
 }
 
 // An even power of two is left: its root is a power of two.
+#[tactic(auto, using(crate::proofs::Powers::radicand_even, crate::proofs::Powers::radicand_odd))]
 fn radicand(m: u64, k: u64) -> u64
     requires { (m < 2 ^ 53) × (52 ≤ k) }
     ensures { Radicand m k result }
@@ -63,17 +68,18 @@ fn step(s: Digits) -> Digits
         return Digits {
             q: s.q * 2 + 1,
             rem: rem - trial,
-            rest: rest,
+            rest,
         };
     }
     Digits {
         q: s.q * 2,
-        rem: rem,
-        rest: rest,
+        rem,
+        rest,
     }
 }
 
 // the root of a * 2^52, and the remainder
+#[tactic(auto, using(crate::proofs::Powers::inv_start, crate::proofs::Powers::inv_end))]
 fn integer_root(a: u64) -> Digits
     requires { (2 ^ 52 ≤ a) × (a < 2 ^ 54) }
     ensures { Rooted a result.q result.rem }
@@ -83,10 +89,8 @@ fn integer_root(a: u64) -> Digits
         rem: 0,
         rest: a,
     };
-    let mut i: u64 = 0;
-    while i < 53 {
+    for _ in 0..DIGITS {
         s = step(s);
-        i += 1;
     }
     s
 }

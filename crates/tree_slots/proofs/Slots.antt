@@ -144,15 +144,3 @@ copied-own m x h room =
     let e1 : word (put m2 h 2 (word m x 2)) h 1 ≡ word m x 1 = put_word m2 h 2 _ 1 (omega arith) ∙ put_same m1 h 1 _ (simp put-length (omega arith)) in
     let e2 : word (put m2 h 2 (word m x 2)) h 2 ≡ word m x 2 = put_same m2 h 2 _ (simp put-length (omega arith)) in
     shows_words m x _ h e0 e1 e2
-
--- ---- several writes as one
-
-module _ (m : List ℕ) (s : ℕ) where
-  -- four children, out of two words
-  pub kids-read : {l r a b c d : ℕ} → l ≡ word m s 1 → r ≡ word m s 2 → a ≡ l % 2 ^ 32 → b ≡ l / 2 ^ 32 → c ≡ r % 2 ^ 32 → d ≡ r / 2 ^ 32 → a ∷ b ∷ c ∷ d ∷ [] ≡ kids m s
-  kids-read el er ea eb ec ed = rw (ea, eb, ec, ed, el, er)
-
-  -- an internal node, by three words
-  pub internal_put : (ks : List ℕ) {l r : ℕ} {u v w : List ℕ} → l ≡ get_or ks 0 0 + get_or ks 1 0 * 2 ^ 32 → r ≡ get_or ks 2 0 + get_or ks 3 0 * 2 ^ 32 → u ≡ put m s 0 0 → v ≡ put u s 1 l → w ≡ put v s 2 r → w ≡ put_internal m s ks
-  unfolding put_internal
-  internal_put ks el er eu ev ew = ew ∙ rw (ev, eu, el, er)

@@ -7,8 +7,6 @@ ghost use Rattle.tree_slots.specs.Slots.{word, put, childless, kids, value, put_
 
 use rules::SLOT_WORDS;
 
-const HALF: u64 = 4294967296;
-
 // How many slots are lent.
 pub fn slots(m: &[u64]) -> usize
     ensures { result ≡ slots_of m.now }
@@ -16,6 +14,7 @@ pub fn slots(m: &[u64]) -> usize
     m.len() / SLOT_WORDS
 }
 
+#[tactic(auto, unfolding(crate::specs::Slots::word))]
 fn word_at(m: &[u64], s: usize, j: usize) -> u64
     requires { InSlots s m.now × (j < slot_words) }
     ensures { result ≡ word m.now s j }
@@ -23,6 +22,7 @@ fn word_at(m: &[u64], s: usize, j: usize) -> u64
     m[s * SLOT_WORDS + j]
 }
 
+#[tactic(auto, unfolding(crate::specs::Slots::put))]
 fn put_word(m: &mut [u64], s: usize, j: usize, w: u64)
     requires { InSlots s m.old × (j < slot_words) }
     ensures { m.new ≡ put m.old s j w }
@@ -34,21 +34,19 @@ fn put_word(m: &mut [u64], s: usize, j: usize, w: u64)
 fn pair(a: u32, b: u32) -> u64
     ensures { result ≡ a + b * 2 ^ 32 }
 {
-    let low = a as u64;
-    let high = b as u64;
-    low + high * HALF
+    u64::from(a) + (u64::from(b) << 32)
 }
 
 fn low_half(w: u64) -> u32
     ensures { result ≡ w % 2 ^ 32 }
 {
-    (w % HALF) as u32
+    (w & 0xffff_ffff) as u32
 }
 
 fn high_half(w: u64) -> u32
     ensures { result ≡ w / 2 ^ 32 }
 {
-    (w / HALF) as u32
+    (w >> 32) as u32
 }
 
 pub fn tag(m: &[u64], s: usize) -> u64
@@ -64,11 +62,12 @@ pub fn children(m: &[u64], s: usize) -> [u32; 4]
 {
     let left = word_at(m, s, 1);
     let right = word_at(m, s, 2);
-    let c0 = low_half(left);
-    let c1 = high_half(left);
-    let c2 = low_half(right);
-    let c3 = high_half(right);
-    [c0, c1, c2, c3]
+    [
+        low_half(left),
+        high_half(left),
+        low_half(right),
+        high_half(right),
+    ]
 }
 
 // One child and no other.
@@ -82,6 +81,7 @@ pub fn only(k: usize, child: usize) -> [u32; 4]
 }
 
 // An internal node with these children.
+#[tactic(auto, unfolding(crate::specs::Slots::put_internal))]
 pub fn put_internal(m: &mut [u64], s: usize, children: [u32; 4])
     requires { InSlots s m.old }
     ensures { m.new ≡ put_internal m.old s children }
@@ -94,6 +94,7 @@ pub fn put_internal(m: &mut [u64], s: usize, children: [u32; 4])
 }
 
 // A leaf whose first particle is `first`.
+#[tactic(auto, unfolding(crate::specs::Slots::put_leaf))]
 pub fn put_leaf(m: &mut [u64], s: usize, first: usize)
     requires { InSlots s m.old × (first < most_particles) }
     ensures { m.new ≡ put_leaf m.old s first }
@@ -102,6 +103,7 @@ pub fn put_leaf(m: &mut [u64], s: usize, first: usize)
 }
 
 // What a tree sees of slot x, in slot h too.
+#[tactic(auto, unfolding(crate::specs::Slots::copied))]
 pub fn copy(m: &mut [u64], x: usize, h: usize)
     requires { InSlots x m.old × InSlots h m.old }
     ensures { m.new ≡ copied m.old x h }
@@ -122,6 +124,7 @@ pub fn node_value(m: &[u64], s: usize, j: usize) -> f64
     number::float_of(word_at(m, s, 3 + j))
 }
 
+#[tactic(auto, unfolding(crate::specs::Slots::put_value))]
 pub fn put_value(m: &mut [u64], s: usize, j: usize, x: f64)
     requires { InSlots s m.old × (j < 3) }
     ensures { m.new ≡ put_value m.old s j x }
@@ -133,9 +136,5 @@ pub fn put_value(m: &mut [u64], s: usize, j: usize, x: f64)
 pub fn clear(m: &mut [u64])
     ensures { m.new ≡ replicate (length m.old) 0 }
 {
-    let mut i: usize = 0;
-    while i < m.len() {
-        m[i] = 0;
-        i += 1;
-    }
+    m.fill(0);
 }

@@ -1,13 +1,12 @@
 -- Words in lists of bytes.
-use mathlib.Core.Path.{◌≡◌, refl, ◌∙◌}
+use mathlib.Core.Path.{◌≡◌, refl, sym, ap, ◌∙◌}
 use mathlib.Core.List.{List, [], ◌∷◌}
-use Prim.Native.Nat.{ℕ, zero, suc, ◌+◌, ◌*◌, ◌/◌, ◌%◌, ◌^◌, ◌≤◌, ◌<◌}
-use native.Mathlib.Numerals.{add-one, add-two, add-three, add-four, add_five, add_six, add_seven}
-use native.Mathlib.Nat.{add-zero, add-suc, mul-zero, pow-zero, pow-suc, div-lt_iff_lt-mul}
+use Prim.Native.Nat.{ℕ, zero, suc, ◌+◌, ◌-◌, ◌*◌, ◌/◌, ◌%◌, ◌^◌, ◌≤◌, ◌<◌}
+use native.Mathlib.Nat.{pow-zero, pow-suc, div-lt_iff_lt-mul}
 use native.Mathlib.Omega.{arith}
-use lib.ListN.{length, get_or, take, drop, set, length-drop}
-use lib.Seq.{sets-eq, drop-cons, get_or-drop, length-take-le}
-use Rattle.rules.specs.Plain.{overwritten}
+use lib.ListN.{length, take, drop, length-drop}
+use lib.Seq.{get_or-drop, length-take-le}
+use Rattle.std.specs.Int.{w64, from_le_bytes}
 use Rattle.rules.specs.Sheet.{word_of, bytes_of, word_at}
 use Rattle.rules.specs.Terms.{Bytes}
 
@@ -43,39 +42,29 @@ pub word_bound : (l : List ℕ) → Bytes l → word_of l < 256 ^ length l
 word_bound [] h = omega (arith, pow-zero 256)
 word_bound (b ∷ l) h = rw pow-suc (omega (arith, h 0, word_bound l (λ i. h (suc i))))
 
+-- what eight bytes are read as is what they spell
+spelled : (bs : List ℕ) → length bs ≡ 8 → from_le_bytes w64 bs ≡ word_of bs
+spelled [] h = absurd (omega arith)
+spelled (b0 ∷ []) h = absurd (omega arith)
+spelled (b0 ∷ b1 ∷ []) h = absurd (omega arith)
+spelled (b0 ∷ b1 ∷ b2 ∷ []) h = absurd (omega arith)
+spelled (b0 ∷ b1 ∷ b2 ∷ b3 ∷ []) h = absurd (omega arith)
+spelled (b0 ∷ b1 ∷ b2 ∷ b3 ∷ b4 ∷ []) h = absurd (omega arith)
+spelled (b0 ∷ b1 ∷ b2 ∷ b3 ∷ b4 ∷ b5 ∷ []) h = absurd (omega arith)
+spelled (b0 ∷ b1 ∷ b2 ∷ b3 ∷ b4 ∷ b5 ∷ b6 ∷ []) h = absurd (omega arith)
+spelled (b0 ∷ b1 ∷ b2 ∷ b3 ∷ b4 ∷ b5 ∷ b6 ∷ b7 ∷ []) h = omega arith
+spelled (b0 ∷ b1 ∷ b2 ∷ b3 ∷ b4 ∷ b5 ∷ b6 ∷ b7 ∷ b ∷ bs) h = absurd (omega arith)
+
 -- ---- words at places
 
--- one byte more of what stands from a place on
-next : (l : List ℕ) (at k : ℕ) → at + k < length l → drop (at + k) l ≡ get_or l (at + k) 0 ∷ drop (at + suc k) l
-next l at k h = drop-cons l (at + k) 0 h ∙ rw add-suc
-
--- the word at a place as a sum of its eight bytes
-pub word_sum : (l : List ℕ) (at : ℕ) → at + 8 ≤ length l
-    → word_at l at
-    ≡ get_or l at 0 + 256 * (get_or l (at + 1) 0 + 256 * (get_or l (at + 2) 0 + 256 * (get_or l (at + 3) 0 + 256 * (get_or l (at + 4) 0
-    + 256 * (get_or l (at + 5) 0 + 256 * (get_or l (at + 6) 0 + 256 * get_or l (at + 7) 0))))))
+-- the word at a place is what its eight bytes, copied from there, are read as
+pub word_read : (l bs : List ℕ) (at : ℕ) → at + 8 ≤ length l → bs ≡ take (at + 8 - at) (drop at l) → word_at l at ≡ from_le_bytes w64 bs
 unfolding word_at
-word_sum l at h =
-    let e0 : drop at l ≡ get_or l at 0 ∷ drop (at + 1) l = rw add-zero at (next l at 0 (omega arith)) in
-    rw (
-      e0,
-      next l at 1 (omega arith),
-      next l at 2 (omega arith),
-      next l at 3 (omega arith),
-      next l at 4 (omega arith),
-      next l at 5 (omega arith),
-      next l at 6 (omega arith),
-      next l at 7 (omega arith),
-    )
-    (simp (mul-zero, add-zero))
-
--- eight stores in a row write one part over
-pub stores : (l : List ℕ) (at b0 b1 b2 b3 b4 b5 b6 b7 : ℕ) → at + 8 ≤ length l
-    → set (set (set (set (set (set (set (set l at b0) (at + 1) b1) (at + 2) b2) (at + 3) b3) (at + 4) b4) (at + 5) b5) (at + 6) b6) (at + 7) b7
-    ≡ overwritten l at (b0 ∷ b1 ∷ b2 ∷ b3 ∷ b4 ∷ b5 ∷ b6 ∷ b7 ∷ [])
-stores l at b0 b1 b2 b3 b4 b5 b6 b7 h =
-    rw (add-one at, add-two at, add-three at, add-four at, add_five at, add_six at, add_seven at)
-    (sets-eq (b0 ∷ b1 ∷ b2 ∷ b3 ∷ b4 ∷ b5 ∷ b6 ∷ b7 ∷ []) l at h)
+word_read l bs at h e =
+    let n : at + 8 - at ≡ 8 = omega arith in
+    let f : bs ≡ take 8 (drop at l) = rw n at e in
+    let k : length bs ≡ 8 = rw f (length-take-le 8 (drop at l) (simp length-drop (omega arith))) in
+    ap word_of (sym f) ∙ sym (spelled bs k)
 
 module _ (l : List ℕ) (at : ℕ) (b : Bytes l) (h : at + 8 ≤ length l) where
   word-length : length (take 8 (drop at l)) ≡ 8
