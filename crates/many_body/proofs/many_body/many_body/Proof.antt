@@ -15,21 +15,21 @@ many-body-on-requires : tie.Need-many_body_on-requires
 many-body-on-requires c κs =
     let a = c.args in
     let p = c.requires in (
-      told_stands a.at.now (length a.strengths.now) c.build.new.m c.build.new.next (slots_of a.m.now) _ p.1.0 (ap (λ (n : ℕ). n / slot_words) c.build.auto.m) c.in-Tree.ensures refl,
+      told_stands a.at.now (length a.strengths.now) c.build.new.m c.build.new.next (slots_of a.m.now) _ p.1.0 (ap (λ (n : ℕ). n / slot_words) c.build.auto.m) c.in-Ok.ensures refl,
       (record { few = omega (arith, p.0.few, p.1.0); places = p.1.0; speeds = p.1.1; links = omega (arith, c.build.auto.next, p.0.links, p.1.0) }, p.1.2, p.1.3),
     )
 
-returns : tie.Need-returns-in-Refused
+returns : tie.Need-returns-in-Err
 returns c =
     let a = c.args in
     let p = c.requires in
     rw c.refused.ensures (
       refused_runs a.t a.at.now a.strengths.now a.p.alpha (slots_of a.m.now) (flow_at a.vs.now a.draws.now a.p) a.vs.now a.draws.now a.p _ p.1.2
-          (told_refused a.at.now (length a.strengths.now) c.build.new.m c.build.new.next (slots_of a.m.now) _ p.1.0 (ap (λ (n : ℕ). n / slot_words) c.build.auto.m) c.in-Refused.ensures refl),
+          (told_refused a.at.now (length a.strengths.now) c.build.new.m c.build.new.next (slots_of a.m.now) _ p.1.0 (ap (λ (n : ℕ). n / slot_words) c.build.auto.m) c.in-Err.ensures refl),
       omega arith,
     )
 
-returns-2 : tie.Need-returns-in-Tree
+returns-2 : tie.Need-returns-in-Ok
 returns-2 c =
     let a = c.args in
     let p = c.requires in
@@ -37,7 +37,7 @@ returns-2 c =
       record {
         is = r.is
             ∙ stands_runs a.t a.at.now a.strengths.now a.p.alpha (slots_of a.m.now) (flow_at a.vs.now a.draws.now a.p)
-            (told-fine a.at.now (length a.strengths.now) c.build.new.m c.build.new.next (slots_of a.m.now) _ p.1.0 (ap (λ (n : ℕ). n / slot_words) c.build.auto.m) c.in-Tree.ensures refl);
+            (told-fine a.at.now (length a.strengths.now) c.build.new.m c.build.new.next (slots_of a.m.now) _ p.1.0 (ap (λ (n : ℕ). n / slot_words) c.build.auto.m) c.in-Ok.ensures refl);
         alpha = r.alpha;
         draws = r.draws;
         late = r.late;

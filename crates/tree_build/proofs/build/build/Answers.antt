@@ -1,6 +1,8 @@
 -- `build` puts in all particles one after the other, and refuses at the earliest that the rules refuse.
 use Rattle.std.proofs.Common.{ℕ, ◌/◌, ap, ◌∙◌, arith, rules}
 use Rattle.std.proofs.lemmas.Result.{err_from_is_err_and}
+use Rattle.rules.specs.Reason.{number_of}
+use Rattle.rules.specs.Outcome.{refusal}
 use Rattle.rules.specs.Calls.{slot_words}
 use Rattle.tree_placing.proofs.AddPlaced.{was_ok, was_err}
 use Rattle.tree_build.proofs.AddBuild.{build_start, build-follows, build-puts, build-done, build-refused, build_end}
@@ -25,7 +27,7 @@ returns-in_err-q c =
     let puts = build-puts _ _ _ _ _ _ _ b c.requires.ranged c.loop-p-test.true c.requires.few (omega (arith, c.requires.links)) (omega (arith, c.requires.tails)) in
     let slots = ap (λ (k : ℕ). k / slot_words) (c.add_next.auto.m ∙ c.loop-p.auto.m) in
     let w = was_err _ c.add_next.result _ _ c.loop-p.p-counter c.map_err.ensures.cases c.in_err-q.was (λ e h. search rules) in
-    rw (p.1, p.2, w.2) (build-refused _ _ _ _ _ _ _ b c.requires.ranged c.loop-p-test.true c.add_next.new.m c.add_next.new.next c.add_next.new.tail slots _ (rw w.1 at (c.add_next.ensures _ puts)))
+    rw (p.1, p.2, w.2) (build-refused _ _ _ _ _ _ _ b c.requires.ranged c.loop-p-test.true c.add_next.new.m c.add_next.new.next c.add_next.new.tail slots (refusal (number_of w.0) c.loop-p.p-counter) (rw w.1 at (c.add_next.ensures _ puts)))
 
 pub loop-p-preserved : goal.loop-p-preserved
 loop-p-preserved c =
