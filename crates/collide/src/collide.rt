@@ -14,7 +14,7 @@ use crate::radius::prepare;
 use collide_contact::{meet_first, skips};
 use force::Ran;
 use rules::{Progress, Visit};
-use tree_build::build::{Built, build};
+use tree_build::build::build;
 use tree_slots::{Quadtree, store};
 use tree_walk::visit;
 use tree_walk::visit::Walk;
@@ -148,7 +148,7 @@ pub fn collide(
         return Ran::done(p);
     }
     match build(at, next, tail, m) {
-        Built::Refused(refusal) => Ran::refused(refusal, p),
-        Built::Tree(q) => collide_on(q, m, at, vs, radii, strength, iterations, draws, p),
+        Err(refusal) => Ran::refused(refusal, p),
+        Ok(q) => collide_on(q, m, at, vs, radii, strength, iterations, draws, p),
     }
 }

@@ -29,16 +29,16 @@ collide-on-requires c κs =
       p.1,
       record {
         next = c.build.new.next;
-        stands = told_stands a.at.now (length a.radii.now) c.build.new.m c.build.new.next (slots_of a.m.now) _ p.1.places (ap (λ (n : ℕ). n / slot_words) c.build.auto.m) c.in-Tree.ensures refl;
+        stands = told_stands a.at.now (length a.radii.now) c.build.new.m c.build.new.next (slots_of a.m.now) _ p.1.places (ap (λ (n : ℕ). n / slot_words) c.build.auto.m) c.in-Ok.ensures refl;
       },
       record { few = omega (arith, p.0.few, p.1.places); times = p.2; room = p.3 },
     )
 
-returns-2 : tie.Need-returns-in-Refused
+returns-2 : tie.Need-returns-in-Err
 returns-2 c =
     let a = c.args in
     let p = c.requires in
-    let t = told_refused a.at.now (length a.radii.now) c.build.new.m c.build.new.next (slots_of a.m.now) _ p.1.places (ap (λ (n : ℕ). n / slot_words) c.build.auto.m) c.in-Refused.ensures refl in
+    let t = told_refused a.at.now (length a.radii.now) c.build.new.m c.build.new.next (slots_of a.m.now) _ p.1.places (ap (λ (n : ℕ). n / slot_words) c.build.auto.m) c.in-Err.ensures refl in
     let l = tree_clears a.at.now (length a.radii.now) (slots_of a.m.now) _ t in
     rw c.refused.ensures (
       refused_at_once a.vs.now a.draws.now a.p _ p.1.drawn l.0 l.1
@@ -46,7 +46,7 @@ returns-2 c =
       omega arith,
     )
 
-returns-3 : tie.Need-returns-in-Tree
+returns-3 : tie.Need-returns-in-Ok
 returns-3 c =
     let a = c.args in
     let p = c.requires in
@@ -54,7 +54,7 @@ returns-3 c =
       record {
         is = r.is
             ∙ run-walked a.at.now a.radii.now a.strength a.iterations (slots_of a.m.now) (flow_at a.vs.now a.draws.now a.p)
-            (told-fine a.at.now (length a.radii.now) c.build.new.m c.build.new.next (slots_of a.m.now) _ p.1.places (ap (λ (n : ℕ). n / slot_words) c.build.auto.m) c.in-Tree.ensures refl);
+            (told-fine a.at.now (length a.radii.now) c.build.new.m c.build.new.next (slots_of a.m.now) _ p.1.places (ap (λ (n : ℕ). n / slot_words) c.build.auto.m) c.in-Ok.ensures refl);
         alpha = r.alpha;
         draws = r.draws;
         late = r.late;
