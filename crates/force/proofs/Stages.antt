@@ -41,14 +41,14 @@ module _ (vs draws : List Float) (p now : Progress) (same : now.alpha ≡ p.alph
   unfolding ran_of ran_check zeroes_work
   ran_done e = record { is = e; alpha = same; draws = from; late = refl }
 
--- a force that began at p, with the draws `old`, and answered r with the draws `new`
-module _ (vs : List Float) (p : Progress) (old new : Draws) (begun : old.used ≡ p.used) (further : Further old new) where
-  reach : From old.lent.now p.used new.used
-  reach = let h = new.in_range in record { begun = omega (arith, further.begun); reach = rw further.same at h }
+-- a force that began at p, with the draws `old` of those lent, and answered r with the draws `new`
+module _ (vs draws : List Float) (p : Progress) (old new : Draws) (lent : old.lent.now ≡ draws) (begun : old.used ≡ p.used) (further : Further old new) where
+  reach : From draws p.used new.used
+  reach = let h = new.in_range in record { begun = omega (arith, further.begun); reach = rw (further.same, lent) at h }
 
-  pub ran_ended : (visits : ℕ) (r : Result (Unit {0}) Refusal) {o : Outcome (Counted Flow)} → OnlyDry r → came_to r (λ _. counted (flow vs (Draws.left new)) visits) ≡ o → RanAs vs old.lent.now p (ended_by r p new visits) o
+  pub ran_ended : (visits : ℕ) (r : Result (Unit {0}) Refusal) {o : Outcome (Counted Flow)} → OnlyDry r → came_to r (λ _. counted (flow vs (Draws.left new)) visits) ≡ o → RanAs vs draws p (ended_by r p new visits) o
   unfolding ran_of ran_check zeroes_work
-  ran_ended visits (Ok a) d e = record { is = rw further.same at e; alpha = refl; draws = reach; late = refl }
+  ran_ended visits (Ok a) d e = record { is = rw (further.same, lent) at e; alpha = refl; draws = reach; late = refl }
   ran_ended visits (Err q) d e = record { is = let e = rw d at e in rw d e; alpha = refl; draws = reach; late = rw d }
 
 -- it is refused before it begins, by a number that is met on the way
