@@ -12,10 +12,9 @@ use Rattle.rules.specs.Number.{within, finite}
 use Rattle.rules.specs.Outcome.{done, refused, Check, fine, require, ◌then◌, ◌>>=◌, refusal_of}
 use Rattle.rules.specs.Refusal.{result_check}
 use Rattle.rules.specs.Force.{strengths_agree}
-use Rattle.rules.proofs.RefusalLaws.{Refuses, ◌then·◌}
+use Rattle.rules.proofs.RefusalLaws.{Refuses}
 use Rattle.rules.proofs.RefusalNumbers.{Early}
-use Rattle.list_checks.specs.Checks.{first_of}
-use Rattle.list_checks.proofs.Scans.{passes, stops, first_then}
+use Rattle.list_checks.proofs.Scans.{passes, stops}
 
 pub then_both : (c d : Check) → c then d ≡ fine → (c ≡ fine) × (d ≡ fine)
 then_both (done t) d h = (refl, h)
@@ -56,15 +55,6 @@ stopped c q early e h =
 -- and one that number 0 stands for
 pub passed : (c : Check) (q : Refusal) → Refuses Early c → q ≡ refusal_of c → q.number ≡ 0 → c ≡ fine
 passed c q early e h = passes c early (sym (ap (λ (r : Refusal). r.number) e) ∙ h)
-
--- three checks in a row
-pub first_three : (c d e : Check) → Refuses Early c → Refuses Early d → first_of (first_of (refusal_of c) (refusal_of d)) (refusal_of e) ≡ refusal_of (c then d then e)
-first_three c d e hc hd = rw (first_then c d hc) (first_then (c then d) e (hc then· hd))
-
--- four of them
-pub first-four : (c d e g : Check) → Refuses Early c → Refuses Early d → Refuses Early e
-    → first_of (first_of (first_of (refusal_of c) (refusal_of d)) (refusal_of e)) (refusal_of g) ≡ refusal_of (c then d then e then g)
-first-four c d e g hc hd he = rw (first_three c d e hc hd) (first_then (c then d then e) g (hc then· hd then· he))
 
 -- one for each, or none
 pub as_many : (k m : ℕ) → 0 < k → strengths_agree m k ≡ true → k ≡ m

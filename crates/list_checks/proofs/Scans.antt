@@ -1,4 +1,4 @@
--- Checks: what an answered refusal says of a check, and scans for the first that refuses.
+-- Scans for the first that refuses: what is left to look at from a number on.
 use mathlib.Core.Path.{◌≡◌, refl, sym, ap, ◌∙◌}
 use mathlib.Core.Bool.{Bool, true, false, ◌&&◌, not}
 use mathlib.Core.List.{List, [], ◌∷◌}
@@ -6,25 +6,33 @@ use Prim.Native.Nat.{ℕ, suc, ◌+◌, ◌-◌, ◌*◌, ◌/◌, ◌≤◌, �
 use native.Mathlib.Nat.{sub-zero}
 use native.Mathlib.Numerals.{add-one}
 use native.Mathlib.Omega.{arith}
-use borrow.Author.Tests.{not-true, not-false, ne_eqb}
-use lib.Dec.{eqb}
 use lib.ListN.{length, get_or, drop}
 use lib.Seq.{drop-cons}
-use lib.Ieee.{Float}
-use Rattle.rules.specs.Refusal.{pairs_check}
+use Rattle.std.proofs.Common.{Result, Ok, Err}
 use Rattle.rules.specs.declared.Refusal.{Refusal}
-use Rattle.rules.specs.Plain.{all, count_from, up_to}
-use Rattle.rules.specs.Outcome.{done, refused, refusal, Check, fine, require, ◌then◌, ◌>>=◌, refusal_of, check_from}
+use Rattle.std.specs.List.{list_all}
+use Rattle.rules.specs.Plain.{all, count_from}
+use Rattle.rules.specs.Outcome.{done, refused, refusal, Check, fine, require, refusal_of, result_of, check_from}
+use Rattle.rules.proofs.RefusalLaws.{Refuses}
+use Rattle.rules.proofs.RefusalNumbers.{Early}
+use Rattle.rules.proofs.Places.{early_numbered}
+use borrow.Author.Tests.{not-true, not-false}
 use Rattle.rules.specs.Link.{Ends}
 use Rattle.rules.specs.Force.{ends_from, ends_of}
-use Rattle.rules.specs.Number.{x_at, y_at}
-use Rattle.rules.proofs.RefusalLaws.{Refuses, of_each}
-use Rattle.rules.proofs.RefusalNumbers.{Early, place_early, velocity_early}
-use Rattle.rules.proofs.Places.{early_numbered}
-use Rattle.list_checks.specs.declared.Pair.{Pair}
-use Rattle.list_checks.specs.declared.Pair.TheVariants.{Place, Velocity}
-use Rattle.list_checks.specs.Checks.{pair_check, ends_at, first_of}
+use Rattle.rules.proofs.OutcomeLaws.{err_stays, ok_goes_on}
+use Rattle.list_checks.specs.Checks.{ends_at}
 use Rattle.sheet.proofs.PairLists.{pair-off}
+
+-- ---- a scan, `left i` being what is left from number i on, and `answer` what was answered for number i
+
+module _ {A : Type 0} (f : ℕ → A → Check) (left : ℕ → List A) (i : ℕ) (a : A) (e : left i ≡ a ∷ left (i + 1)) {answer : Result (Unit {0}) Refusal} (is : answer ≡ result_of (f i a)) where
+  -- an Err ends it
+  pub scan_ends : {r : Refusal} → answer ≡ Err r → Err r ≡ result_of (check_from f i (left i))
+  scan_ends {r} h = sym (rw e (err_stays (f i a) (λ _. check_from f (i + 1) (left (i + 1))) r (sym is ∙ h)))
+
+  -- after an Ok it goes on with the next
+  pub scan_goes_on : {t : Unit {0}} → answer ≡ Ok t → check_from f (i + 1) (left (i + 1)) ≡ check_from f i (left i)
+  scan_goes_on {t} h = sym (rw e (ok_goes_on (f i a) (λ _. check_from f (i + 1) (left (i + 1))) t (sym is ∙ h)))
 
 -- ---- one check and the refusal that was answered for it
 
@@ -38,13 +46,7 @@ pub stops : (c : Check) → ((refusal_of c).number ≡ 0 → ⊥) → c ≡ refu
 stops (done t) h = absurd (h refl)
 stops (refused r) h = refl
 
--- two checks one after the other
-pub first_then : (c d : Check) → Refuses Early c → first_of (refusal_of c) (refusal_of d) ≡ refusal_of (c then d)
-unfolding first_of
-first_then (done t) d h = refl
-first_then (refused r) d h = rw (ne_eqb r.number 0 (early_numbered r (h.by r refl)))
-
--- ---- a scan, `left i` being what is left from number i on
+-- ---- a scan whose answers are refusals, with number 0 for none
 
 module _ {A : Type 0} (f : ℕ → A → Check) (left : ℕ → List A) (i : ℕ) (a : A) (e : left i ≡ a ∷ left (i + 1)) where
   scan_stop : (r : Refusal) → f i a ≡ refused r → r ≡ refusal_of (check_from f i (left i))
@@ -105,23 +107,8 @@ ends-none links k h = rw e
     e : length links / 2 - k ≡ 0
     e = omega arith
 
--- ---- a test of every element
+-- ---- a test of every element, as the library says it and as the rules do
 
--- it holds where nothing is refused
-pub all_unrefused : {A : Type 0} (ok : A → Bool) (i : ℕ) (l : List A) → eqb (refusal_of (check_from (λ i a. require (ok a) 5 i) i l)).number 0 ≡ all ok l
-all_unrefused ok i [] = refl
-all_unrefused ok i (a ∷ l) = go (ok a) (all_unrefused ok (i + 1) l)
-  where
-    go : (b : Bool) → eqb (refusal_of (check_from (λ i a. require (ok a) 5 i) (i + 1) l)).number 0 ≡ all ok l
-        → eqb (refusal_of (require b 5 i >>= λ _. check_from (λ i a. require (ok a) 5 i) (i + 1) l)).number 0 ≡ b && all ok l
-    go true h = h
-    go false h = refl
-
--- ---- the checks of pairs refuse by 4 and 5
-
-pub pair-early : (pair : Pair) (i : ℕ) (x y : Float) → Refuses Early (pair_check pair i x y)
-pair-early Place i x y = place_early i x y
-pair-early Velocity i x y = velocity_early i x y
-
-pub pairs-early : (pair : Pair) (n : ℕ) (l : List Float) → Refuses Early (pairs_check (pair_check pair) n l)
-pairs-early pair n l = of_each (λ i _. pair-early pair i (x_at l i) (y_at l i)) (up_to n)
+pub all_listed : {A : Type 0} (ok : A → Bool) (l : List A) → list_all ok l ≡ all ok l
+all_listed ok [] = refl
+all_listed ok (a ∷ l) = ap (λ (b : Bool). ok a && b) (all_listed ok l)

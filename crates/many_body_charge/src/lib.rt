@@ -2,17 +2,16 @@
 #![tactic(auto)]
 
 ghost use Rattle.std.specs.Prelude.{◌≡◌, ◌+◌, ◌*◌, ◌≤◌, ◌<◌, length};
-ghost use Rattle.rules.specs.Plain.{foldl};
 ghost use Rattle.rules.specs.Number.{◌⊗◌};
 ghost use Rattle.rules.specs.Calls.{slot_words};
 ghost use Rattle.rules.specs.ManyBody.{with_child, node_charge, leaf_charge};
 ghost use Rattle.tree_slots.specs.Trees.{Stands};
-ghost use Rattle.tree_walk.specs.WalkAfter.{KidIn, KidsIn, values_at, kid_values};
+ghost use Rattle.tree_walk.specs.WalkAfter.{KidsIn, kid_values};
 ghost use Rattle.many_body_chains.specs.Chain.{Chain};
 ghost use Rattle.many_body_charge.specs.Charge.{charge_of, sums_of, read_charge, put_charge, Charged};
 
 use many_body_chains::chain_strength;
-use number::{abs, index, wide};
+use number::{abs, index};
 use tree_slots::{Quadtree, store};
 use tree_walk::visit_after;
 use tree_walk::visit_after::Path;
@@ -39,12 +38,10 @@ fn leaf_charge(at: &[f64], strengths: &[f64], next: &[u32], f: usize) -> Charge
     requires { Chain next.now (length strengths.now) f × (length next.now ≡ length strengths.now) × (length at.now ≡ length strengths.now * 2) }
     ensures { (h : Chain next.now (length strengths.now) f) → charge_of result ≡ leaf_charge at.now strengths.now h.members }
 {
-    let strength = chain_strength(strengths, next, f);
-    let i = f * 2;
     Charge {
-        x: at[i],
-        y: at[i + 1],
-        strength,
+        x: at[f * 2],
+        y: at[f * 2 + 1],
+        strength: chain_strength(strengths, next, f),
     }
 }
 
@@ -52,10 +49,11 @@ pub fn charge_at(m: &[u64], s: usize) -> Charge
     requires { s * slot_words + slot_words ≤ length m.now }
     ensures { charge_of result ≡ read_charge m.now s }
 {
-    let x = store::node_value(m, s, 0);
-    let y = store::node_value(m, s, 1);
-    let strength = store::node_value(m, s, 2);
-    Charge { x, y, strength }
+    Charge {
+        x: store::node_value(m, s, 0),
+        y: store::node_value(m, s, 1),
+        strength: store::node_value(m, s, 2),
+    }
 }
 
 fn put_charge(m: &mut [u64], s: usize, q: Charge)
@@ -75,6 +73,7 @@ fn weighed(c: f64, x: f64) -> f64
 }
 
 // A child is added, of weight |strength|.
+#[tactic(auto, unfolding(rules::specs::ManyBody::with_child))]
 fn with_child(s: Sums, q: Charge) -> Sums
     ensures { sums_of result ≡ with_child (sums_of s) (charge_of q) }
 {
@@ -87,37 +86,27 @@ fn with_child(s: Sums, q: Charge) -> Sums
     }
 }
 
-// The same where there is a child.
-fn with_link(m: &[u64], child: u32, s: Sums) -> Sums
-    requires { KidIn m.now child }
-    ensures { sums_of result ≡ foldl with_child (sums_of s) (values_at read_charge m.now child) }
-{
-    if child == 0 {
-        return s;
-    }
-    with_child(s, charge_at(m, wide(child - 1)))
-}
-
 // The centre of the children, by weight.
+#[tactic(auto, using(crate::proofs::ChargeLaws::charges_of_kids), unfolding(rules::specs::ManyBody::node_charge))]
 fn node_charge(m: &[u64], s: usize) -> Charge
     requires { (s * slot_words + slot_words ≤ length m.now) × KidsIn m.now s }
     ensures { charge_of result ≡ node_charge (kid_values read_charge m.now s) }
 {
-    let children = store::children(m, s);
-    let none = Sums {
+    let mut sums = Sums {
         x: 0.0,
         y: 0.0,
         strength: 0.0,
         weight: 0.0,
     };
-    let s0 = with_link(m, children[0], none);
-    let s1 = with_link(m, children[1], s0);
-    let s2 = with_link(m, children[2], s1);
-    let s3 = with_link(m, children[3], s2);
+    for child in store::children(m, s) {
+        if child != 0 {
+            sums = with_child(sums, charge_at(m, (child - 1) as usize));
+        }
+    }
     Charge {
-        x: s3.x / s3.weight,
-        y: s3.y / s3.weight,
-        strength: s3.strength,
+        x: sums.x / sums.weight,
+        y: sums.y / sums.weight,
+        strength: sums.strength,
     }
 }
 

@@ -2,6 +2,7 @@
 ghost use Rattle.std.specs.Prelude.{◌≡◌};
 ghost use Rattle.rules.specs.Number as Number;
 
+#[tactic(auto, unfolding(rules::specs::Number::abs))]
 pub fn abs(x: f64) -> f64
     ensures { result ≡ Number.abs x }
 {
@@ -11,6 +12,7 @@ pub fn abs(x: f64) -> f64
     plain_zero(x)
 }
 
+#[tactic(auto, unfolding(rules::specs::Number::clamp))]
 pub fn clamp(x: f64, lo: f64, hi: f64) -> f64
     ensures { result ≡ Number.clamp x lo hi }
 {
@@ -24,6 +26,7 @@ pub fn clamp(x: f64, lo: f64, hi: f64) -> f64
 }
 
 // -0.0 equals 0.0, which is returned for both
+#[tactic(auto, unfolding(rules::specs::Number::plain_zero))]
 pub fn plain_zero(x: f64) -> f64
     ensures { result ≡ Number.plain_zero x }
 {

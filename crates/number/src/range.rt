@@ -5,18 +5,21 @@ ghost use Rattle.rules.specs.Number as Number;
 // 2^40
 const LIMIT: f64 = 1099511627776.0;
 
+#[tactic(auto, unfolding(rules::specs::Number::between))]
 pub fn within(x: f64) -> bool
     ensures { result ≡ Number.within x }
 {
     x >= -LIMIT && x <= LIMIT
 }
 
+#[tactic(auto, unfolding(rules::specs::Number::between))]
 pub fn distance_range(x: f64) -> bool
     ensures { result ≡ Number.distance_range x }
 {
     x >= 0.0 && x <= LIMIT
 }
 
+#[tactic(auto, unfolding(rules::specs::Number::between))]
 pub fn draw_range(x: f64) -> bool
     ensures { result ≡ Number.draw_range x }
 {

@@ -11,11 +11,13 @@ use lib.Ieee.{Float, nan}
 use Rattle.rules.specs.declared.Particle.{Particle}
 use Rattle.rules.specs.Plain.{overwritten}
 use Rattle.rules.specs.Number.{bits_of}
-use Rattle.rules.specs.Outcome.{fine, ◌>>=◌, refusal_of, check_from}
+use Rattle.rules.specs.declared.Refusal.{Refusal}
+use Rattle.rules.specs.Outcome.{fine, ◌>>=◌, result_of, check_from}
+use Rattle.rules.proofs.OutcomeLaws.{err_stays, ok_goes_on}
+use Rattle.std.proofs.Common.{Result, Ok, Err}
 use Rattle.rules.specs.Sheet.{record_size, bytes_of, word_at, float_at, float_bytes, record_at, record_bytes, records_from, record_check, pairs_from}
 use Rattle.sheet.specs.Columns.{PairsFit, put_pairs, flags_of}
 use Rattle.sheet.proofs.Lists.{overwritten-next}
-use Rattle.sheet.proofs.Checked.{stays, record_fine}
 
 -- ---- filling a list from the front
 
@@ -153,16 +155,16 @@ check-at s i n h = rw (e, f)
     f : (i + 1) * record_size ≡ i * record_size + record_size
     f = omega arith
 
-pub check_bad : (s : List ℕ) (i n : ℕ) → i < n → ((refusal_of (record_check i (record_at s (i * record_size)))).number ≡ 0 → ⊥)
-    → refusal_of (record_check i (record_at s (i * record_size))) ≡ refusal_of (check_from record_check i (records_from s (i * record_size) (n - i)))
-check_bad s i n h k = stays (record_check i (record_at s (i * record_size))) _ k ∙ ap refusal_of (sym (check-at s i n h))
+pub check_bad : (s : List ℕ) (i n : ℕ) {p : Particle} {a : Result (Unit {0}) Refusal} {r : Refusal} → i < n → p ≡ record_at s (i * record_size) → a ≡ result_of (record_check i p) → a ≡ Err r
+    → Err r ≡ result_of (check_from record_check i (records_from s (i * record_size) (n - i)))
+check_bad s i n h same answered e = sym (rw (check-at s i n h) (err_stays (record_check i (record_at s (i * record_size))) _ _ (ap (λ (q : Particle). result_of (record_check i q)) (sym same) ∙ sym answered ∙ e)))
 
-pub check-on : (s : List ℕ) (i n : ℕ) → i < n → (refusal_of (record_check i (record_at s (i * record_size)))).number ≡ 0
-    → check_from record_check i (records_from s (i * record_size) (n - i)) ≡ check_from record_check (i + 1) (records_from s ((i + 1) * record_size) (n - (i + 1)))
-check-on s i n h e = check-at s i n h ∙ rw (record_fine i (record_at s (i * record_size)) e)
+pub check_on : (s : List ℕ) (i n : ℕ) {p : Particle} {a : Result (Unit {0}) Refusal} {t : Unit {0}} → i < n → p ≡ record_at s (i * record_size) → a ≡ result_of (record_check i p) → a ≡ Ok t
+    → check_from record_check (i + 1) (records_from s ((i + 1) * record_size) (n - (i + 1))) ≡ check_from record_check i (records_from s (i * record_size) (n - i))
+check_on s i n h same answered e = sym (check-at s i n h ∙ ok_goes_on (record_check i (record_at s (i * record_size))) _ _ (ap (λ (q : Particle). result_of (record_check i q)) (sym same) ∙ sym answered ∙ e))
 
-pub check-none : (s : List ℕ) (i n : ℕ) → n ≤ i → check_from record_check i (records_from s (i * record_size) (n - i)) ≡ fine
-check-none s i n h = rw e
+pub check_none : (s : List ℕ) (i n : ℕ) → n ≤ i → check_from record_check i (records_from s (i * record_size) (n - i)) ≡ fine
+check_none s i n h = rw e
   where
     e : n - i ≡ 0
     e = omega arith

@@ -11,14 +11,10 @@ pub fn read_pairs(s: &[u8], stride: usize, offset: usize, out: &mut [f64])
     requires { PairsFit s.now stride offset (length out.old) }
     ensures { out.new ≡ pairs_from stride s.now offset (length out.old / 2) }
 {
-    let n = out.len() / 2;
-    let mut j: usize = 0;
-    while j < n {
+    for j in 0..out.len() / 2 {
         let at = offset + j * stride;
-        let i = j * 2;
-        out[i] = float_of(word_at(s, at));
-        out[i + 1] = float_of(word_at(s, at + 8));
-        j = j + 1;
+        out[j * 2] = float_of(word_at(s, at));
+        out[j * 2 + 1] = float_of(word_at(s, at + 8));
     }
 }
 
@@ -36,11 +32,7 @@ pub fn write_pairs(s: &mut [u8], stride: usize, offset: usize, xs: &[f64])
     requires { PairsFit s.old stride offset (length xs.now) }
     ensures { s.new ≡ put_pairs stride s.old offset xs.now }
 {
-    let n = xs.len() / 2;
-    let mut j: usize = 0;
-    while j < n {
-        let i = j * 2;
-        put_pair(s, offset + j * stride, xs[i], xs[i + 1]);
-        j = j + 1;
+    for j in 0..xs.len() / 2 {
+        put_pair(s, offset + j * stride, xs[j * 2], xs[j * 2 + 1]);
     }
 }

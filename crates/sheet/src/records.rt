@@ -12,6 +12,7 @@ use words::{put_word, word_at};
 // Where a velocity's y begins.
 const VELOCITY_Y: usize = VELOCITY_START + 8;
 
+#[tactic(auto, unfolding(rules::specs::Sheet::record_at))]
 pub fn record_at(s: &[u8], at: usize) -> Particle
     requires { at + record_size ≤ length s.now }
     ensures { result ≡ record_at s.now at }
@@ -45,9 +46,7 @@ pub fn read_flags(s: &[u8], out: &mut [u64])
     requires { length out.old ≡ count_of s.now }
     ensures { out.new ≡ flags_of (particles_of s.now) }
 {
-    let mut i: usize = 0;
-    while i < out.len() {
-        out[i] = word_at(s, i * RECORD_SIZE + FLAGS_START);
-        i = i + 1;
+    for (i, flags) in out.iter_mut().enumerate() {
+        *flags = word_at(s, i * RECORD_SIZE + FLAGS_START);
     }
 }

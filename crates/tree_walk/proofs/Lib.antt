@@ -8,3 +8,7 @@ pub mod WalkValues
 pub mod WalkFill
 pub mod WalkAfter
 pub mod WalkTheorems
+pub mod Waits
+pub mod Visits
+pub mod PathTurns
+pub mod Laying

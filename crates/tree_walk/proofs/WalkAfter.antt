@@ -44,7 +44,7 @@ tips_append P [] es h k = k
 tips_append P (internal s ∷ ds) es h k = tips_append P ds es h k
 tips_append P (tip s is ∷ ds) es h k = (h.0, tips_append P ds es h.1 k)
 
-tips_last : (P : List ℕ → Type 0) (t : Tree ℕ) → EachChain P t → EachTip P (parent_last t)
+pub tips_last : (P : List ℕ → Type 0) (t : Tree ℕ) → EachChain P t → EachTip P (parent_last t)
 tips_last P none h = tt
 tips_last P (leaf s is) h = (h, tt)
 tips_last P (node s t0 t1 t2 t3) h =
@@ -86,9 +86,9 @@ steps_alike : (m w next : List ℕ) → Alike m w → length w ≡ length m → 
 steps_alike m w next a e [] [] s = tt
 steps_alike m w next a e [] (t ∷ ts) s = s
 steps_alike m w next a e (x ∷ es) [] s = s
-steps_alike m w next a e (x ∷ es) (t ∷ ts) s = (leads-alike m w next a (x.0 + 1) t s.0, rw e s.1, s.2, s.3, steps_alike m w next a e es ts s.4)
+steps_alike m w next a e (x ∷ es) (t ∷ ts) s = (leads-alike m w next a (x.slot + 1) t s.0, rw e s.1, s.2, s.3, steps_alike m w next a e es ts s.4)
 
-climbs_alike : (m w next : List ℕ) → Alike m w → length w ≡ length m → (es : List Step) (rest : List (Entry ℕ)) → Climbs m next es rest → Climbs w next es rest
+pub climbs_alike : (m w next : List ℕ) → Alike m w → length w ≡ length m → (es : List Step) (rest : List (Entry ℕ)) → Climbs m next es rest → Climbs w next es rest
 climbs_alike m w next a e es rest c = record { trees = c.trees; steps = steps_alike m w next a e es c.trees c.steps; same = c.same }
 
 -- ---- the loop

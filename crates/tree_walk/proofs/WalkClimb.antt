@@ -8,7 +8,7 @@ use lib.ListN.{length}
 use Rattle.rules.specs.Tree.{Tree, none, leaf, node, depth}
 use Rattle.rules.specs.Walk.{Entry, internal, tip, parent_last}
 use Rattle.tree_slots.specs.Trees.{kid, LeafIn, InternalIn, Follows, Leads, EachSlot, InSlots, SlotsLent}
-use Rattle.tree_walk.specs.WalkAfter.{Step, rooted, remaining, remaining_all, Steps, Climbs, KidIn, KidsIn}
+use Rattle.tree_walk.specs.WalkAfter.{Step, standing, rooted, remaining, remaining_all, Steps, Climbs, KidIn, KidsIn}
 
 -- ---- what remains of a tree
 
@@ -82,11 +82,11 @@ module _ (m next : List ℕ) where
 
   -- ---- a turn, at the end of the path
 
-  module _ (s q : ℕ) (es : List Step) (rest : List (Entry ℕ)) (c : Climbs m next ((s, q) ∷ es) rest) where
+  module _ (s q : ℕ) (es : List Step) (rest : List (Entry ℕ)) (c : Climbs m next (standing s q ∷ es) rest) where
     pub climb-lent : InSlots s m × (length es ≤ 64) × (q ≤ 4)
     climb-lent = go c.trees c.steps
       where
-        go : (ts : List (Tree ℕ)) → Steps m next ((s, q) ∷ es) ts → InSlots s m × (length es ≤ 64) × (q ≤ 4)
+        go : (ts : List (Tree ℕ)) → Steps m next (standing s q ∷ es) ts → InSlots s m × (length es ≤ 64) × (q ≤ 4)
         go [] w = absurd w
         go (none ∷ ts) w = absurd (omega (arith, w.0))
         go (leaf i is ∷ ts) w = (omega (arith, w.0.0, w.1), omega (arith, w.2), w.3)
@@ -106,7 +106,7 @@ module _ (m next : List ℕ) where
         below : Steps m next es trees
         same : remaining q (node s t0 t1 t2 t3) ++ remaining_all es trees ≡ rest
 
-      open-node : (i : ℕ) (t0 t1 t2 t3 : Tree ℕ) (ts : List (Tree ℕ)) → i ≡ s → Steps m next ((s, q) ∷ es) (node i t0 t1 t2 t3 ∷ ts)
+      open-node : (i : ℕ) (t0 t1 t2 t3 : Tree ℕ) (ts : List (Tree ℕ)) → i ≡ s → Steps m next (standing s q ∷ es) (node i t0 t1 t2 t3 ∷ ts)
           → remaining q (node i t0 t1 t2 t3) ++ remaining_all es ts ≡ rest → Open
       open-node i t0 t1 t2 t3 ts e w r =
           record {
@@ -125,7 +125,7 @@ module _ (m next : List ℕ) where
       open' : Open
       open' = go c.trees c.steps c.same
         where
-          go : (ts : List (Tree ℕ)) → Steps m next ((s, q) ∷ es) ts → remaining_all ((s, q) ∷ es) ts ≡ rest → Open
+          go : (ts : List (Tree ℕ)) → Steps m next (standing s q ∷ es) ts → remaining_all (standing s q ∷ es) ts ≡ rest → Open
           go [] w r = absurd w
           go (none ∷ ts) w r = absurd (omega (arith, w.0))
           go (leaf i is ∷ ts) w r =
@@ -142,7 +142,7 @@ module _ (m next : List ℕ) where
           ∙ o.same
 
       -- there is no child q
-      pub climb-past : q < 4 → kid m s q ≡ 0 → Climbs m next ((s, q + 1) ∷ es) rest
+      pub climb-past : q < 4 → kid m s q ≡ 0 → Climbs m next (standing s (q + 1) ∷ es) rest
       climb-past h k =
           let o = open' in
           record {
@@ -159,7 +159,7 @@ module _ (m next : List ℕ) where
           bare (node i u0 u1 u2 u3) l = absurd (omega (arith, k, l.0))
 
       -- child q is walked next
-      pub climb-down : q < 4 → (kid m s q ≡ 0 → ⊥) → Climbs m next ((kid m s q - 1, 0) ∷ (s, q + 1) ∷ es) rest
+      pub climb-down : q < 4 → (kid m s q ≡ 0 → ⊥) → Climbs m next (standing (kid m s q - 1) 0 ∷ standing s (q + 1) ∷ es) rest
       climb-down h k =
           let o = open' in
           let t = pick q o.t0 o.t1 o.t2 o.t3 in
@@ -196,7 +196,7 @@ module _ (m next : List ℕ) where
         → (is : List ℕ) × (others : List (Entry ℕ)) × (rest ≡ tip s is ∷ others) × LeafIn m s is × Follows next is × Climbs m next es others
     climb-leaf z = go c.trees c.steps c.same
       where
-        go : (ts : List (Tree ℕ)) → Steps m next ((s, q) ∷ es) ts → remaining_all ((s, q) ∷ es) ts ≡ rest
+        go : (ts : List (Tree ℕ)) → Steps m next (standing s q ∷ es) ts → remaining_all (standing s q ∷ es) ts ≡ rest
             → (is : List ℕ) × (others : List (Entry ℕ)) × (rest ≡ tip s is ∷ others) × LeafIn m s is × Follows next is × Climbs m next es others
         go [] w r = absurd w
         go (none ∷ ts) w r = absurd (omega (arith, w.0))

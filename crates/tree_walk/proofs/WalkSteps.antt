@@ -8,7 +8,7 @@ use lib.ListN.{length, get_or, set, length-set}
 use lib.Seq.{get_or-set_same, get_or-set_other}
 use Rattle.rules.specs.Walk.{Entry, internal, tip}
 use Rattle.tree_slots.specs.Trees.{kid, kids, InSlots, InternalIn}
-use Rattle.tree_walk.specs.WalkAfter.{steps_at, rooted, Climbs, First, path_numbers}
+use Rattle.tree_walk.specs.WalkAfter.{standing, steps_at, rooted, Climbs, First, path_numbers}
 use Rattle.tree_walk.proofs.WalkClimb.{climb-lent, climb-leaf, climb-node, climb-past, climb-down}
 
 pub length_steps : (l : List ℕ) (h : ℕ) → length (steps_at l h) ≡ h
@@ -16,7 +16,7 @@ length_steps l zero = refl
 length_steps l (suc h) = ap suc (length_steps l h)
 
 -- a number is that of a slot, or none
-pub rooted-some : (p : ℕ) → (p ≡ 0 → ⊥) → (p - 1, 0) ∷ [] ≡ rooted p
+pub rooted-some : (p : ℕ) → (p ≡ 0 → ⊥) → standing (p - 1) 0 ∷ [] ≡ rooted p
 rooted-some p n = let e : p ≡ suc (p - 1) = omega arith in sym (ap rooted e)
 
 -- child q among the four
@@ -37,7 +37,7 @@ below l i v zero h = refl
 below l i v (suc j) h = rw (get_or-set_other l i (j * 2) v 0 (omega arith), get_or-set_other l i (j * 2 + 1) v 0 (omega arith), below l i v j (omega arith))
 
 -- the next quadrant at the path's end is another
-pub steps_past : (l : List ℕ) (h v : ℕ) → h * 2 + 1 < length l → steps_at (set l (h * 2 + 1) v) (suc h) ≡ (get_or l (h * 2) 0, v) ∷ steps_at l h
+pub steps_past : (l : List ℕ) (h v : ℕ) → h * 2 + 1 < length l → steps_at (set l (h * 2 + 1) v) (suc h) ≡ standing (get_or l (h * 2) 0) v ∷ steps_at l h
 steps_past l h v b = rw (get_or-set_other l (h * 2 + 1) (h * 2) v 0 (omega arith), get_or-set_same l (h * 2 + 1) v 0 b, below l (h * 2 + 1) v h (omega arith))
 
 -- one step more
@@ -55,7 +55,7 @@ module _ (l : List ℕ) (h s : ℕ) (b : h * 2 + 3 < length l) where
   lower : steps_at (set (set l (h * 2 + 2) s) (h * 2 + 3) 0) (h + 1) ≡ steps_at l (suc h)
   lower = below (set l (h * 2 + 2) s) (h * 2 + 3) 0 (h + 1) (omega arith) ∙ below l (h * 2 + 2) s (h + 1) (omega arith) ∙ ap (steps_at l) (add-one h)
 
-  pub steps_down : steps_at (set (set l (h * 2 + 2) s) (h * 2 + 3) 0) (suc (h + 1)) ≡ (s, 0) ∷ steps_at l (suc h)
+  pub steps_down : steps_at (set (set l (h * 2 + 2) s) (h * 2 + 3) 0) (suc (h + 1)) ≡ standing s 0 ∷ steps_at l (suc h)
   steps_down = rw (slot_down, top_down, lower)
 
 -- ---- a turn on the array
@@ -98,7 +98,7 @@ module _ (m next l : List ℕ) (h : ℕ) (rest : List (Entry ℕ)) (c : Climbs m
       deep k =
           omega (
             arith,
-            (climb-lent m next (kid m (get_or l (h * 2) 0) (get_or l (h * 2 + 1) 0) - 1) 0 ((get_or l (h * 2) 0, get_or l (h * 2 + 1) 0 + 1) ∷ steps_at l h) rest
+            (climb-lent m next (kid m (get_or l (h * 2) 0) (get_or l (h * 2 + 1) 0) - 1) 0 (standing (get_or l (h * 2) 0) (get_or l (h * 2 + 1) 0 + 1) ∷ steps_at l h) rest
                 (climb-down m next (get_or l (h * 2) 0) (get_or l (h * 2 + 1) 0) (steps_at l h) rest c z q k)).1,
             length_steps l h,
           )

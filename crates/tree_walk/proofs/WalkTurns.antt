@@ -87,7 +87,7 @@ module _ (m next : List ℕ) where
   unfolding under
   under_node k s z = rw (add-one s, z)
 
-  under-nodes : (k p : ℕ) (t : Tree ℕ) → Leads m next p t → depth t ≤ k → under m k p ≡ nodes t
+  pub under-nodes : (k p : ℕ) (t : Tree ℕ) → Leads m next p t → depth t ≤ k → under m k p ≡ nodes t
   under-nodes k p none l d = ap (under m k) l ∙ under-zero k
   under-nodes zero p (leaf s is) l d = absurd (omega arith)
   under-nodes (suc k) p (leaf s is) l d = ap (under m (suc k)) l.0 ∙ under_leaf k s is l.1

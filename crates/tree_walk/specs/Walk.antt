@@ -5,7 +5,7 @@ use Rattle.rules.specs.declared.Extent.{Extent}
 use Rattle.rules.specs.Cell.{cell, quarter}
 use Rattle.rules.specs.Tree.{Tree, none, leaf, node}
 use Rattle.tree_walk.specs.declared.visit.Walk.{Walk}
-use Rattle.tree_walk.specs.declared.visit.Waiting.{Waiting}
+pub use Rattle.tree_walk.specs.declared.visit.Waiting.{Waiting}
 use Rattle.tree_slots.specs.Trees.{kid}
 
 -- ---- what waits

@@ -3,6 +3,7 @@ use Rattle.std.specs.Prelude.{◌≡◌, List, [], ◌∷◌, ◌++◌, ℕ, zer
 use Rattle.rules.specs.Tree.{Tree, none, leaf, node, depth, tree_of, greatest_level}
 use Rattle.rules.specs.Walk.{Entry, internal, tip, valued, parent_last}
 use Rattle.tree_slots.specs.declared.Quadtree.{Quadtree}
+pub use Rattle.tree_walk.specs.declared.parent_last.Step.{Step}
 use Rattle.tree_walk.specs.declared.visit_after.Path.{Path}
 use Rattle.tree_walk.specs.declared.visit_after.Handed.{Handed}
 use Rattle.tree_slots.specs.Trees.{kid, LeafIn, InternalIn, Follows, Leads, Stands, InSlots, SlotsLent}
@@ -14,14 +15,18 @@ use Rattle.tree_walk.specs.Walk.{seen}
 abbrev pub path_numbers : ℕ
 path_numbers = 2 * (greatest_level + 1)
 
--- a slot of the path, and the quadrant that is next there
-abbrev pub Step : Type 0
-Step = ℕ × ℕ
+-- a path has no more steps than a tree has levels
+abbrev pub most_steps : ℕ
+most_steps = greatest_level + 1
+
+-- the slot s of the path, where the quadrant q is next
+abbrev pub standing : ℕ → ℕ → Step
+standing s q = record { slot = s; quadrant = q }
 
 -- the highest of h steps first
 abbrev pub steps_at : List ℕ → ℕ → List Step
 steps_at l zero = []
-steps_at l (suc h) = (get_or l (h * 2) 0, get_or l (h * 2 + 1) 0) ∷ steps_at l h
+steps_at l (suc h) = standing (get_or l (h * 2) 0) (get_or l (h * 2 + 1) 0) ∷ steps_at l h
 
 abbrev pub steps_of : Path → List Step
 steps_of p = steps_at p.steps p.height
@@ -29,7 +34,7 @@ steps_of p = steps_at p.steps p.height
 -- the slot that a number leads to, with all its quadrants to come: none for 0
 abbrev pub rooted : ℕ → List Step
 rooted zero = []
-rooted (suc s) = (s, 0) ∷ []
+rooted (suc s) = standing s 0 ∷ []
 
 -- ---- what is still to be handed out
 
@@ -47,7 +52,7 @@ remaining (suc (suc (suc (suc q)))) (node s t0 t1 t2 t3) = internal s ∷ []
 abbrev pub remaining_all : List Step → List (Tree ℕ) → List (Entry ℕ)
 remaining_all [] ts = []
 remaining_all (e ∷ es) [] = []
-remaining_all (e ∷ es) (t ∷ ts) = remaining e.1 t ++ remaining_all es ts
+remaining_all (e ∷ es) (t ∷ ts) = remaining e.quadrant t ++ remaining_all es ts
 
 -- A path stands for trees, each so low that what lies below it finds room.
 abbrev pub Steps : List ℕ → List ℕ → List Step → List (Tree ℕ) → Type 0
@@ -55,7 +60,7 @@ Steps m next [] [] = Unit {0}
 Steps m next [] (t ∷ ts) = ⊥
 Steps m next (e ∷ es) [] = ⊥
 Steps m next (e ∷ es) (t ∷ ts) =
-    Leads m next (e.0 + 1) t × SlotsLent m t × (length es + depth t ≤ greatest_level + 1) × (e.1 ≤ 4) × Steps m next es ts
+    Leads m next (e.slot + 1) t × SlotsLent m t × (length es + depth t ≤ greatest_level + 1) × (e.quadrant ≤ 4) × Steps m next es ts
 
 -- along the path es, these entries are still to be handed out, in this order
 pub record Climbs (m next : List ℕ) (es : List Step) (rest : List (Entry ℕ)) : Type 0 where

@@ -1,5 +1,11 @@
 // The two walks over a tree in lent slots, after src/quadtree/{visit,visit_after}.rs of fjadra.
 #![tactic(auto)]
 
+mod parent_first;
+mod parent_last;
 pub mod visit;
 pub mod visit_after;
+
+pub use parent_first::Walk;
+pub use parent_last::{Path, Step};
+pub use visit::Waiting;
