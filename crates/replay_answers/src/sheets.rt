@@ -1,10 +1,12 @@
-// Cases of a tick, and what a case says of a step: the settings, the words of the force slots, and how it ends. The program says what the parts are, and runs the steps.
+// Cases of a tick and of a step. Parts: 1 the answer; 2 alpha, target, alpha_decay, velocity_decay, alpha_min, budget, alpha after; 3 the sheet and 4 the sheet after; 5 the words of
+// the force slots; 6 their numbers; 7 their link ends; 8 the draws; 9 and 10 the work slots. A tick has 0 where only a step has a number.
+use crate::{DRAWS, SLOTS};
 use number::float_of;
-use replay_sample::{argument, read_words, same_bytes, same_words};
-use rules::{Counts, FORCE_WORDS, Settings, StepAnswer};
+use replay_sample::{argument, read, same};
+use rules::{FORCE_WORDS, MOST_PARTICLES, RECORD_SIZE, SLOT_WORDS, Settings, StepAnswer};
 use tick_call::settings_of;
 
-pub fn settings(case: &[u8]) -> Settings {
+fn settings(case: &[u8]) -> Settings {
     settings_of(
         float_of(argument(case, 1)),
         float_of(argument(case, 2)),
@@ -12,54 +14,68 @@ pub fn settings(case: &[u8]) -> Settings {
     )
 }
 
-pub fn force_words(case: &[u8]) -> [u64; FORCE_WORDS] {
-    let mut words = [0u64; FORCE_WORDS];
-    read_words(case, 5, &mut words);
-    words
-}
-
-pub fn step_ended_right(
-    case: &[u8],
-    a: StepAnswer,
-    alpha: u64,
-    sheet: &[u8],
-    work: &[u64],
-) -> bool {
+fn ended_right(case: &[u8], a: StepAnswer, alpha: u64, sheet: &[u8], work: &[u64]) -> bool {
     let r = a.refusal;
     let answer = [r.number, r.place, a.ticks, a.finished, a.visits, a.draws];
     alpha == argument(case, 6)
-        && same_words(case, 1, &answer)
-        && same_bytes(case, 4, sheet)
-        && same_words(case, 10, work)
+        && same(case, 1, &answer)
+        && same(case, 4, sheet)
+        && same(case, 10, work)
 }
 
-// What a tick counted, as a step's answer.
-fn of_tick(a: Counts) -> StepAnswer {
-    let refusal = a.refusal;
-    StepAnswer {
-        refusal,
-        ticks: 0,
-        finished: 0,
-        visits: a.visits,
-        draws: a.draws,
-    }
-}
-
-fn tick_ended_right(case: &[u8], a: Counts, alpha: u64, sheet: &[u8], work: &[u64]) -> bool {
-    step_ended_right(case, of_tick(a), alpha, sheet, work)
-}
-
-pub fn tick_is_right(
-    case: &[u8],
-    sheet: &mut [u8],
-    numbers: &[f64],
-    links: &[u32],
-    draws: &[f64],
-    work: &mut [u64],
-) -> bool {
-    let s = settings(case);
-    let words = force_words(case);
+// Room for one particle too many.
+pub fn sheet_is_right<
+    F: FnOnce(
+        &mut [u8],
+        &mut u64,
+        &[u64; FORCE_WORDS],
+        &[f64],
+        &[u32],
+        &[f64],
+        Settings,
+        &mut [u64],
+    ) -> StepAnswer,
+>(case: &[u8], call: F) -> bool
+    requires { F.IsAlwaysCallable call }
+{
+    let mut sheet_room = [0; RECORD_SIZE * (MOST_PARTICLES + 1)];
+    let mut words = [0; FORCE_WORDS];
+    let mut numbers_room = [0.0; 256];
+    let mut links_room = [0; 256];
+    let mut draws_room = [0.0; DRAWS];
+    let mut work_room = [0; SLOT_WORDS * SLOTS];
+    let sheet = read(case, 3, &mut sheet_room);
+    read(case, 5, &mut words);
+    let numbers = read(case, 6, &mut numbers_room);
+    let links = read(case, 7, &mut links_room);
+    let draws = read(case, 8, &mut draws_room);
+    let work = read(case, 9, &mut work_room);
     let mut alpha = argument(case, 0);
-    let a = tick_call::tick(sheet, &mut alpha, &words, numbers, links, draws, s, work);
-    tick_ended_right(case, a, alpha, sheet, work)
+    let a = call(
+        sheet,
+        &mut alpha,
+        &words,
+        numbers,
+        links,
+        draws,
+        settings(case),
+        work,
+    );
+    ended_right(case, a, alpha, sheet, work)
+}
+
+pub fn tick_is_right(case: &[u8]) -> bool {
+    sheet_is_right(
+        case,
+        |sheet, alpha, words, numbers, links, draws, s, work| {
+            let a = tick_call::tick(sheet, alpha, words, numbers, links, draws, s, work);
+            StepAnswer {
+                refusal: a.refusal,
+                ticks: 0,
+                finished: 0,
+                visits: a.visits,
+                draws: a.draws,
+            }
+        },
+    )
 }

@@ -1,21 +1,19 @@
 // The sample comes in on the standard input, case after case, each behind a word with its length.
-ghost use Rattle.std.specs.Prelude.{◌≤◌, length};
+ghost use Rattle.std.specs.Prelude.{◌≤◌, length, IfSome};
 
-use crate::parts::word_of;
-
-// Reads a case, and answers how long it is: 0 at the end, and for a case that is cut off or too long.
-pub fn read_case(space: &mut [u8]) -> usize
-    ensures { result ≤ length space.old }
+// Reads the next case: none at the end, nor where it is empty, cut off or too long.
+pub fn read_case(space: &mut [u8]) -> Option<&[u8]>
+    ensures { IfSome result (λ case. length case.now ≤ length space.old) }
 {
-    let mut head = [0u8; 8];
+    let mut head = [0; 8];
     io::read_full(0, &mut head);
-    let n = word_of(&head, 0);
-    if space.len() as u64 <= n {
-        return 0;
+    let size = u64::from_le_bytes(head);
+    if size == 0 || space.len() as u64 <= size {
+        return None;
     }
-    let size = n as usize;
-    if io::read_full(0, &mut space[..size]) < size {
-        return 0;
+    let case = &mut space[..size as usize];
+    if io::read_full(0, case) < case.len() {
+        return None;
     }
-    size
+    Some(case)
 }

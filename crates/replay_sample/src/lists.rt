@@ -1,90 +1,72 @@
 // Lists lent to a call: list k of the case is read into a list with room for it, which hands back the part that is lent, and a list is held to part k after the call.
-use crate::parts::{byte_of, items, lent, part, word_of};
-use number::float_of;
+use crate::parts::{byte_of, part, split_word, word_of};
+use number::{bits_of, float_of};
 
-pub fn read_bytes<'a>(case: &[u8], k: usize, out: &'a mut [u8]) -> &'a mut [u8] {
-    let n = lent(case, k, out.len());
-    let list = items(case, k);
-    let mut i: usize = 0;
-    while i < n {
-        out[i] = byte_of(list, i);
-        i += 1;
-    }
-    &mut out[..n]
+// What a list in the sample holds.
+pub trait Item: Copy {
+    // Item i of those that repeat in a part.
+    fn item(items: &[u8], i: usize) -> Self;
+
+    // Whether it is item i.
+    fn is_item(self, items: &[u8], i: usize) -> bool;
 }
 
-pub fn read_words<'a>(case: &[u8], k: usize, out: &'a mut [u64]) -> &'a mut [u64] {
-    let n = lent(case, k, out.len());
-    let list = items(case, k);
-    let mut i: usize = 0;
-    while i < n {
-        out[i] = word_of(list, i);
-        i += 1;
+impl Item for u8 {
+    fn item(items: &[u8], i: usize) -> u8 {
+        byte_of(items, i)
     }
-    &mut out[..n]
+
+    fn is_item(self, items: &[u8], i: usize) -> bool {
+        self == byte_of(items, i)
+    }
+}
+
+impl Item for u64 {
+    fn item(items: &[u8], i: usize) -> u64 {
+        word_of(items, i)
+    }
+
+    fn is_item(self, items: &[u8], i: usize) -> bool {
+        self == word_of(items, i)
+    }
 }
 
 // Numbers of 32 bits are words in the sample.
-pub fn read_halves<'a>(case: &[u8], k: usize, out: &'a mut [u32]) -> &'a mut [u32] {
-    let n = lent(case, k, out.len());
-    let list = items(case, k);
-    let mut i: usize = 0;
-    while i < n {
-        out[i] = (word_of(list, i) % 0x1_0000_0000) as u32;
-        i += 1;
+impl Item for u32 {
+    fn item(items: &[u8], i: usize) -> u32 {
+        (word_of(items, i) % (1 << 32)) as u32
     }
-    &mut out[..n]
+
+    fn is_item(self, items: &[u8], i: usize) -> bool {
+        u64::from(self) == word_of(items, i)
+    }
 }
 
 // Any bits are a number.
-pub fn read_numbers<'a>(case: &[u8], k: usize, out: &'a mut [f64]) -> &'a mut [f64] {
-    let n = lent(case, k, out.len());
-    let list = items(case, k);
-    let mut i: usize = 0;
-    while i < n {
-        out[i] = float_of(word_of(list, i));
-        i += 1;
+impl Item for f64 {
+    fn item(items: &[u8], i: usize) -> f64 {
+        float_of(word_of(items, i))
     }
-    &mut out[..n]
+
+    fn is_item(self, items: &[u8], i: usize) -> bool {
+        bits_of(self) == word_of(items, i)
+    }
 }
 
-pub fn same_bytes(case: &[u8], k: usize, list: &[u8]) -> bool {
-    let right = part(case, k);
-    let mut i: usize = 0;
-    while i < list.len() {
-        if list[i] != byte_of(right, i) {
-            return false;
-        }
-        i += 1;
+// A list in the sample is a part that begins with how many are lent. Then come the items, which repeat: so a long list of one item is short here.
+pub fn read<'a, T: Item>(case: &[u8], k: usize, room: &'a mut [T]) -> &'a mut [T] {
+    let (lent, items) = split_word(part(case, k));
+    let n = lent.min(room.len() as u64) as usize;
+    let list = &mut room[..n];
+    for (i, item) in list.iter_mut().enumerate() {
+        *item = T::item(items, i);
     }
-    true
+    list
 }
 
-pub fn same_words(case: &[u8], k: usize, list: &[u64]) -> bool {
-    let right = part(case, k);
-    let mut i: usize = 0;
-    while i < list.len() {
-        if list[i] != word_of(right, i) {
-            return false;
-        }
-        i += 1;
-    }
-    true
-}
-
-// A number of 32 bits as a word: a call asks no proof that it fits.
-fn wide(x: u32) -> u64 {
-    x as u64
-}
-
-pub fn same_halves(case: &[u8], k: usize, list: &[u32]) -> bool {
-    let right = part(case, k);
-    let mut i: usize = 0;
-    while i < list.len() {
-        if wide(list[i]) != word_of(right, i) {
-            return false;
-        }
-        i += 1;
-    }
-    true
+pub fn same<T: Item>(case: &[u8], k: usize, list: &[T]) -> bool {
+    let items = part(case, k);
+    list.iter()
+        .enumerate()
+        .all(|(i, item)| item.is_item(items, i))
 }

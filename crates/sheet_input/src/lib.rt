@@ -3,6 +3,9 @@
 
 ghost use Rattle.std.specs.Prelude.{◌≡◌, ◌^◌, ◌≤◌, min};
 
+// How many chunks are read on after the bytes that are kept.
+const MOST_CHUNKS: usize = 1 << 24;
+
 // Reads on, and answers how many bytes came: 0 at the end.
 fn read_on() -> usize
     ensures { result ≤ 65536 }
@@ -15,15 +18,13 @@ fn read_on() -> usize
 fn count_rest() -> usize
     ensures { result ≤ 2 ^ 40 }
 {
-    let mut rest: usize = 0;
-    let mut turns: usize = 16777216;
-    while 0 < turns {
+    let mut rest = 0;
+    for _ in 0..MOST_CHUNKS {
         let n = read_on();
         if n == 0 {
             return rest;
         }
         rest += n;
-        turns -= 1;
     }
     rest
 }

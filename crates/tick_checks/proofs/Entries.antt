@@ -1,80 +1,24 @@
--- The entries of the force slots from one on: how much they need, and what 1 and 2 let pass of them.
+-- What the entries of the force slots need, and what 1 and 2 let pass of them.
 use mathlib.Core.Path.{◌≡◌, refl, sym, ap, ◌∙◌}
-use mathlib.Core.Bool.{Bool, true, false, not, ◌&&◌, ◌||◌, false≢true, and-eq-true_iff}
+use mathlib.Core.Bool.{Bool, true, false, ◌||◌, false≢true, and-eq-true_iff}
 use mathlib.Core.List.{List, [], ◌∷◌, map}
-use Prim.Native.Nat.{ℕ, suc, ◌+◌, ◌-◌, ◌*◌, ◌≤◌, ◌<◌}
-use native.Mathlib.Nat.{zero-add, le_trans}
+use Prim.Native.Nat.{ℕ, ◌+◌, ◌*◌, ◌≤◌}
 use native.Mathlib.Omega.{arith}
-use borrow.Author.Tests.{not-true, not-false, eq-eqb, ne_eqb, eqb-true, leb-true}
+use borrow.Author.Tests.{eqb-true, leb-true}
 use lib.Dec.{eqb, leb}
 use lib.ListN.{length}
 use Rattle.rules.specs.declared.ForceEntry.{ForceEntry}
 use Rattle.rules.specs.Plain.{all, sum}
-use Rattle.rules.specs.Outcome.{Check, done, refused, fine, ◌then◌, ◌>>=◌, check_from, check_each}
+use Rattle.rules.specs.Outcome.{Check, done, refused, fine, ◌then◌, ◌>>=◌, check_from, check_each, result_of}
 use Rattle.rules.specs.Refusal.{most_particles, most_links, most_iterations, count_check}
-use Rattle.rules.specs.Force.{Kind, Empty, ManyBody, Collide, Link, Center, Unknown, kind_of, kind_counts, strengths_agree}
-use Rattle.rules.specs.Tick.{kind_numbers, kind_links, kind_strengths_agree, entry_words, force_slots, entry_at, entries_from, entries_of, entry_counts, strengths_right, numbers_needed, links_needed}
+use Rattle.rules.specs.declared.Kind.{Kind}
+use Rattle.rules.specs.declared.Kind.TheVariants.{Empty, ManyBody, Collide, Link, Center, Unknown}
+use Rattle.rules.specs.Force.{kind_of, kind_counts, strengths_agree}
+use Rattle.rules.specs.Tick.{kind_numbers, kind_links, kind_strengths_agree, force_slots, entry_counts, strengths_right, numbers_needed, links_needed}
+use Rattle.rules.specs.declared.Refusal.{Refusal}
+use Rattle.rules.proofs.OutcomeLaws.{err_stays, ok_goes_on}
 use Rattle.list_checks.proofs.Checks.{then_both, require_true}
-
--- the entries from slot i on
-abbrev pub entries_left : List ℕ → ℕ → List ForceEntry
-entries_left w i = entries_from w (i * entry_words) (force_slots - i)
-
-pub entries_left_lem : (w : List ℕ) (i : ℕ) → i < force_slots → entries_left w i ≡ entry_at w (i * entry_words) ∷ entries_left w (i + 1)
-entries_left_lem w i h = rw (e, f)
-  where
-    e : force_slots - i ≡ suc (force_slots - (i + 1))
-    e = omega arith
-
-    f : i * entry_words + entry_words ≡ (i + 1) * entry_words
-    f = omega arith
-
-pub entries_none : (w : List ℕ) (i : ℕ) → 8 ≤ i → entries_left w i ≡ []
-entries_none w i h = rw e
-  where
-    e : force_slots - i ≡ 0
-    e = omega arith
-
--- ---- a test of every entry
-
-module _ (ok : ForceEntry → Bool) (w : List ℕ) (i : ℕ) (h : i < force_slots) (b : Bool) (is : b ≡ ok (entry_at w (i * entry_words))) where
-  pub right_stop : not b ≡ true → false ≡ all ok (entries_left w i)
-  right_stop n = rw (entries_left_lem w i h, ← is, not-true b n)
-
-  pub right-on : not b ≡ false → all ok (entries_left w i) ≡ all ok (entries_left w (i + 1))
-  right-on n = rw (entries_left_lem w i h, ← is, not-false b n)
-
--- ---- how much the slots from i on need
-
-module _ (need : ForceEntry → ℕ) (w : List ℕ) where
-  abbrev pub need_left : ℕ → ℕ
-  need_left i = sum (map need (entries_left w i))
-
-  need_left_lem : (i : ℕ) → i < force_slots → need_left i ≡ need (entry_at w (i * entry_words)) + need_left (i + 1)
-  need_left_lem i h = ap (λ (es : List ForceEntry). sum (map need es)) (entries_left_lem w i h)
-
-  need_none : (i : ℕ) → 8 ≤ i → need_left i ≡ 0
-  need_none i h = ap (λ (es : List ForceEntry). sum (map need es)) (entries_none w i h)
-
-  -- `total` is what the slots before i need
-  abbrev pub Summed : ℕ → ℕ → Type 0
-  Summed total i = (i ≤ force_slots) × (sum (map need (entries_of w)) ≡ total + need_left i)
-
-  pub summed_start : Summed 0 0
-  summed_start = (omega arith, sym (zero-add (sum (map need (entries_of w)))))
-
-  module _ (total i : ℕ) (s : Summed total i) where
-    pub summed-fits : i < force_slots → total + need (entry_at w (i * entry_words)) ≤ sum (map need (entries_of w))
-    summed-fits h = rw s.1 (omega (arith, need_left_lem i h))
-
-    pub summed-need : i < force_slots → need (entry_at w (i * entry_words)) ≤ sum (map need (entries_of w))
-    summed-need h = le_trans (omega arith) (summed-fits h)
-
-    pub summed-on : i < force_slots → Summed (total + need (entry_at w (i * entry_words))) (i + 1)
-    summed-on h = (omega arith, s.1 ∙ omega (arith, need_left_lem i h))
-
-    pub summed-end : force_slots ≤ i → total ≡ sum (map need (entries_of w))
-    summed-end h = sym (s.1 ∙ omega (arith, need_none i h))
+use Rattle.std.proofs.Common.{Ok, Err}
 
 -- two ends for each link
 pub sum_twice : (es : List ForceEntry) → sum (map links_needed es) * 2 ≡ sum (map (λ e. links_needed e * 2) es)
@@ -86,6 +30,12 @@ sum_twice (e ∷ es) = omega (arith, sum_twice es)
 pub bind_then : (c d : Check) → (c >>= λ _. d) ≡ c then d
 bind_then (done t) d = refl
 bind_then (refused r) d = refl
+
+pub then_err : (c d : Check) (r : Refusal) → result_of c ≡ Err r → result_of (c then d) ≡ Err r
+then_err c d r h = ap result_of (sym (bind_then c d)) ∙ err_stays c (λ _. d) r h
+
+pub then_ok : (c d : Check) (t : Unit {0}) → result_of c ≡ Ok t → c then d ≡ d
+then_ok c d t h = sym (bind_then c d) ∙ ok_goes_on c (λ _. d) t h
 
 none-small : (n k : ℕ) → strengths_agree n k ≡ true → k ≤ n
 none-small n k h = go (eqb k 0) (eqb k n) (eqb-true k 0) (eqb-true k n) h
@@ -123,19 +73,6 @@ entries-small n i (e ∷ es) few c r =
     omega (arith, kind-small (kind_of e.kind) n e few b.0 d.0, entries-small n (i + 1) es few b.1 d.1)
 
 -- the same of all slots, in numbers
-pub all_small : (n : ℕ) (w : List ℕ) → n ≤ most_particles → check_each (λ _ e. entry_counts e) (entries_of w) ≡ fine → all strengths_right (entries_of w) ≡ true
-    → (sum (map (numbers_needed n) (entries_of w)) ≤ 131072) × (sum (map links_needed (entries_of w)) ≤ 65536)
-all_small n w few c r = entries-small n 0 (entries_of w) few c r
-
--- ---- 2: b and a say whether the strengths are right, s and t are how many numbers and links are needed
-
-module _ (a b : Bool) (is : b ≡ a) (k s m t : ℕ) where
-  pub wrong_strengths : not b ≡ true → false ≡ a && eqb k s && eqb m (t * 2)
-  wrong_strengths h = rw (← is, not-true b h)
-
-  module _ (h : not b ≡ false) (s' : ℕ) (es : s' ≡ s) where
-    pub wrong-numbers : (k ≡ s' → ⊥) → false ≡ a && eqb k s && eqb m (t * 2)
-    wrong-numbers d = rw (← is, not-false b h, ← es, ne_eqb k s' d)
-
-    pub right-numbers : k ≡ s' → (t' : ℕ) → t' ≡ t → eqb m (t' * 2) ≡ a && eqb k s && eqb m (t * 2)
-    right-numbers d t' et = rw (← is, not-false b h, ← es, eq-eqb k s' d, et)
+pub all_small : (n : ℕ) (es : List ForceEntry) → length es ≡ force_slots → n ≤ most_particles → check_each (λ _ e. entry_counts e) es ≡ fine → all strengths_right es ≡ true
+    → (sum (map (numbers_needed n) es) ≤ 131072) × (sum (map links_needed es) ≤ 65536)
+all_small n es eight few c r = let s = entries-small n 0 es few c r in rw eight at s

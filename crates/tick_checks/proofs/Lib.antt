@@ -1,5 +1,5 @@
 pub mod ByKind
-pub mod Early
 pub mod Entries
+pub mod Folds
 pub mod Parts
 pub mod Whole

@@ -1,74 +1,57 @@
--- ColumnsLent that the force slots share one after another: the walk over the slots, and how the rules' checks of the forces go part by part.
+-- Lists that the force slots share one after another: the walk over the slots, and how the rules' checks of the forces go part by part.
 use mathlib.Core.Path.{◌≡◌, refl, sym, ap, ap₂, ◌∙◌}
 use mathlib.Core.List.{List, [], ◌∷◌, map}
-use Prim.Native.Nat.{ℕ, zero, suc, ◌+◌, ◌-◌, ◌*◌, ◌/◌, ◌≤◌, ◌<◌}
+use Prim.Native.Nat.{ℕ, zero, suc, ◌+◌, ◌*◌, ◌/◌, ◌≤◌}
 use native.Mathlib.Nat.{zero-add, suc-add}
 use native.Mathlib.Omega.{arith}
-use lib.ListN.{length, take, drop, length-drop}
-use lib.Seq.{length-take-le, take-nil, drop-drop, take-take}
+use lib.ListN.{length, take, drop, length-drop, drop_of_length-le}
+use lib.Seq.{length-take-le, take-nil, take-take}
 use lib.Ieee.{Float}
 use Rattle.rules.specs.declared.ForceEntry.{ForceEntry}
 use Rattle.rules.specs.declared.Refusal.{Refusal}
 use Rattle.rules.specs.Plain.{sum}
-use Rattle.rules.specs.Outcome.{Check, refusal, require_all, ◌then◌, refusal_of, check_from}
+use Rattle.rules.specs.Outcome.{Check, require_all, ◌then◌, result_of, check_from}
 use Rattle.rules.specs.Link.{Ends}
 use Rattle.rules.specs.declared.Kind.{Kind}
 use Rattle.rules.specs.declared.Kind.TheVariants.{Empty, ManyBody, Collide, Link, Center, Unknown}
 use Rattle.rules.specs.Force.{kind_of, ends_from, ends_of, ends_range}
-use Rattle.rules.specs.Tick.{entry_words, force_slots, entry_at, entries_of, kind_numbers, kind_links, kind_force, numbers_needed, links_needed, force_of, forces_from, force_ends, force_ranges}
-use Rattle.sheet.proofs.Checked.{then_stays}
-use Rattle.rules.proofs.RefusalLaws.{Refuses}
-use Rattle.rules.proofs.RefusalNumbers.{Early}
-use Rattle.list_checks.proofs.Scans.{passes}
+use Rattle.rules.specs.Tick.{kind_numbers, kind_links, kind_force, numbers_needed, links_needed, force_of, forces_from, force_ends, force_ranges}
 use Rattle.tick_checks.specs.Parts.{each_part, own_ends, kind_ranges, ends_each, ranges_each}
-use Rattle.tick_checks.proofs.Entries.{entries_left, entries_left_lem, entries_none, Summed, summed_start, summed-fits, summed-on, bind_then}
+use Rattle.std.proofs.Common.{Result, Ok, Err}
+use Rattle.tick_checks.proofs.Entries.{bind_then, then_err, then_ok}
 
--- a part from `at` on, as the code says its end
-pub part-size : (at m : ℕ) → at + m - at ≡ m
-part-size at m = omega arith
+-- ---- the walk over the entries es and the list l: what is left of both decides what all does
 
-pub part-long : {A : Type 0} (l : List A) (at m : ℕ) → at + m ≤ length l → length (take (at + m - at) (drop at l)) ≡ m
-part-long l at m h = rw (part-size at m) (length-take-le m (drop at l) (simp length-drop (omega arith)))
+module _ {A : Type 0} (need : ForceEntry → ℕ) (check : ForceEntry → List A → Check) (es : List ForceEntry) (l : List A) where
+  pub record Walked (i : ℕ) (left : List A) : Type 0 where
+    pub fits : sum (map need (drop i es)) ≤ length left
+    pub short : length left ≤ length l
+    pub same : each_part need check (drop i es) left ≡ each_part need check es l
 
--- ---- the walk: the slots before i are past, and with them the list up to `at`
+module _ {A : Type 0} {need : ForceEntry → ℕ} {check : ForceEntry → List A → Check} {es : List ForceEntry} {l : List A} {i : ℕ} {left : List A} (g : Walked need check es l i left) where
+  pub walk_end : length es ≤ i → Ok tt ≡ result_of (each_part need check es l)
+  walk_end h = ap result_of (ap (λ (es : List ForceEntry). each_part need check es left) (sym (drop_of_length-le es {i = i} h)) ∙ g.same)
 
-module _ {A : Type 0} (need : ForceEntry → ℕ) (check : ForceEntry → List A → Check) (w : List ℕ) (l : List A) where
-  pub record Walked (at i : ℕ) : Type 0 where
-    pub summed : Summed need w at i
-    pub same : each_part need check (entries_of w) l ≡ each_part need check (entries_left w i) (drop at l)
+  -- e is the entry of slot i
+  module _ {e : ForceEntry} (is : drop i es ≡ e ∷ drop (i + 1) es) where
+    -- m is what it needs, `part` its own part and `rest` what is left then
+    pub walk_room : {m : ℕ} → m ≡ need e → (m ≤ length left) × (m ≤ length l)
+    walk_room im = (omega (arith, im, rw is at g.fits), omega (arith, im, g.short, rw is at g.fits))
 
-  pub walk_start : Walked 0 0
-  walk_start = record { summed = summed_start need w; same = refl }
+    module _ {m : ℕ} (im : m ≡ need e) {part rest : List A} (ip : part ≡ take m left) (ir : rest ≡ drop m left) where
+      turn : check e part then each_part need check (drop (i + 1) es) rest ≡ each_part need check es l
+      turn = rw (ip, ir, im) (ap (λ (es : List ForceEntry). each_part need check es left) (sym is) ∙ g.same)
 
-  module _ (at i : ℕ) (g : Walked at i) where
-    pub walk_end : force_slots ≤ i → refusal 0 0 ≡ refusal_of (each_part need check (entries_of w) l)
-    walk_end h = sym (ap (λ (c : Check). refusal_of c) (g.same ∙ ap (λ (es : List ForceEntry). each_part need check es (drop at l)) (entries_none w i h)))
+      module _ {answer : Result (Unit {0}) Refusal} (ia : answer ≡ result_of (check e part)) where
+        pub walk_stops : {r : Refusal} → answer ≡ Err r → Err r ≡ result_of (each_part need check es l)
+        walk_stops {r} h = sym (ap result_of (sym turn) ∙ then_err (check e part) (each_part need check (drop (i + 1) es) rest) r (sym ia ∙ h))
 
-    -- e is the entry of slot i, and m is what it needs
-    module _ (h : i < force_slots) (e : ForceEntry) (is : e ≡ entry_at w (i * entry_words)) (m : ℕ) (im : m ≡ need e) where
-      pub walk-room : length l ≡ sum (map need (entries_of w)) → at + m ≤ length l
-      walk-room long = rw (long, im, is) (summed-fits need w at i g.summed h)
-
-      turn : each_part need check (entries_left w i) (drop at l) ≡ check e (take m (drop at l)) then each_part need check (entries_left w (i + 1)) (drop (at + m) l)
-      turn =
-          ap (λ (es : List ForceEntry). each_part need check es (drop at l)) (entries_left_lem w i h)
-          ∙ rw (im, is, drop-drop (need (entry_at w (i * entry_words))) at l)
-
-      -- r was answered for the slot's own part
-      module _ (r : Refusal) (ir : r ≡ refusal_of (check e (take m (drop at l)))) where
-        pub walk-stop : (r.number ≡ 0 → ⊥) → r ≡ refusal_of (each_part need check (entries_of w) l)
-        walk-stop n =
-            then_stays r (check e (take m (drop at l))) (each_part need check (entries_left w (i + 1)) (drop (at + m) l)) ir n
-            ∙ ap (λ (c : Check). refusal_of c) (sym (g.same ∙ turn))
-
-        pub walk-on : Refuses Early (check e (take m (drop at l))) → r.number ≡ 0 → Walked (at + m) (i + 1)
-        walk-on early z =
+        pub walk_goes_on : {t : Unit {0}} → answer ≡ Ok t → Walked need check es l (i + 1) rest
+        walk_goes_on {t} h =
             record {
-              summed = rw (im, is) (summed-on need w at i g.summed h);
-              same =
-                  g.same
-                  ∙ turn
-                  ∙ ap (λ (c : Check). c then each_part need check (entries_left w (i + 1)) (drop (at + m) l)) (passes (check e (take m (drop at l))) early (sym (ap (λ (r : Refusal). r.number) ir) ∙ z));
+              fits = rw (ir, im) (simp length-drop (omega (arith, rw is at g.fits)));
+              short = rw (ir, im) (simp length-drop (omega (arith, g.short)));
+              same = sym (then_ok (check e part) (each_part need check (drop (i + 1) es) rest) t (sym ia ∙ h)) ∙ turn;
             }
 
 -- ---- a slot's force is checked on the slot's own part

@@ -1,30 +1,48 @@
 -- The check of a whole input: what it lets pass, what it refuses by, and how the code answers it half by half.
 use mathlib.Core.Path.{◌≡◌, refl, sym, ap, ap₂, ◌∙◌}
-use mathlib.Core.Bool.{Bool, true, false, ◌&&◌, not, and-eq-true_iff}
-use mathlib.Core.List.{List, [], map}
-use Prim.Native.Nat.{ℕ, ◌*◌, ◌≤◌}
+use mathlib.Core.Bool.{true, false, ◌&&◌, and-eq-true_iff}
+use mathlib.Core.List.{List, [], ◌∷◌, ◌++◌, map}
+use Prim.Native.Nat.{ℕ, ◌+◌, ◌*◌, ◌≤◌}
 use native.Mathlib.Nat.{le_of_eq}
-use borrow.Author.Tests.{not-true, not-false, eqb-true}
+use borrow.Author.Tests.{eqb-true}
 use lib.Dec.{eqb}
 use lib.ListN.{length}
 use lib.Ieee.{Float}
 use Rattle.rules.specs.declared.Refusal.{Refusal}
 use Rattle.rules.specs.Plain.{all, sum}
-use Rattle.rules.specs.Outcome.{Check, refused, refusal, fine, ◌then◌, refusal_of, check_each, on_the_way}
+use Rattle.rules.specs.Outcome.{Check, refused, fine, ◌then◌, ◌>>=◌, done, require, result_of, check_from, check_each, on_the_way}
 use Rattle.rules.specs.Refusal.{most_particles, most_ticks, count_check, lengths_check, draws_check, settings_check}
 use Rattle.rules.specs.Sheet.{count_of, particles_of, whole_records, records_check}
-use Rattle.rules.specs.Force.{kind_of}
+use Rattle.rules.specs.Number.{within}
+use Rattle.rules.proofs.OutcomeLaws.{check-any, ok_fine, err_refused}
+use Rattle.std.proofs.Common.{Ok, Err}
 use Rattle.rules.specs.Tick.{SheetInput, entry_counts, strengths_right, numbers_needed, links_needed, entries_of, force_ends, force_ranges, count, entries, forces, tick_lengths, sheet_check}
-use Rattle.rules.proofs.RefusalLaws.{Refuses, ◌then·◌, of_each}
-use Rattle.rules.proofs.RefusalNumbers.{Early, early-stays, count-early, length-early, kind-early, sheet-early}
-use Rattle.list_checks.specs.Checks.{first_of}
-use Rattle.list_checks.proofs.Scans.{passes, stops}
+use Rattle.rules.proofs.RefusalLaws.{Refuses}
+use Rattle.rules.proofs.RefusalNumbers.{Early, early-stays, sheet-early}
 use Rattle.list_checks.proofs.Checks.{then_both, then_fine, require_true}
 use Rattle.tick_checks.specs.Fits.{Fits}
 use Rattle.tick_checks.specs.Input.{lent_sheet, sizes_check, contents_check}
-use Rattle.tick_checks.proofs.Early.{answer_then}
 use Rattle.tick_checks.proofs.Entries.{sum_twice, count_small}
 use Rattle.tick_checks.proofs.Parts.{ends_each_lem, ranges_each_lem}
+
+-- ---- settings one after the other
+
+then_bind : (c d e : Check) → (c >>= λ _. d then e) ≡ (c >>= λ _. d) then e
+then_bind (done t) d e = refl
+then_bind (refused r) d e = refl
+
+then_assoc : (c d e : Check) → (c then (d then e)) ≡ c then d then e
+then_assoc (done t) d e = refl
+then_assoc (refused r) d e = refl
+
+from-append : {A : Type 0} (f : A → Check) (i j k : ℕ) (l m : List A) → check_from (λ _ a. f a) i (l ++ m) ≡ check_from (λ _ a. f a) j l then check_from (λ _ a. f a) k m
+from-append f i j k [] m = check-any f i k m
+from-append f i j k (a ∷ l) m =
+    ap (λ (c : Check). f a >>= λ _. c) (from-append f (i + 1) (j + 1) k l m)
+    ∙ then_bind (f a) (check_from (λ _ a. f a) (j + 1) l) (check_from (λ _ a. f a) k m)
+
+settings-append : (l m : List Float) → settings_check (l ++ m) ≡ settings_check l then settings_check m
+settings-append l m = from-append (λ x. require (within x) 5 0) 0 0 0 l m
 
 -- ---- the checks one after the other
 
@@ -56,8 +74,17 @@ module _ (l : SheetInput) (ticks : ℕ) where
   check_plain = check-is [] ∙ then_fine (rest l sizes)
 
   -- the settings come last
-  pub check-settings : (settings : List Float) → sheet_check l (count_check most_ticks ticks) settings ≡ sheet_check l (count_check most_ticks ticks) [] then settings_check settings
-  check-settings settings = check-is settings ∙ ap (λ (c : Check). c then settings_check settings) (sym check_plain)
+  pub settings_last : (settings : List Float) → sheet_check l (count_check most_ticks ticks) settings ≡ sheet_check l (count_check most_ticks ticks) [] then settings_check settings
+  settings_last settings = check-is settings ∙ ap (λ (c : Check). c then settings_check settings) (sym check_plain)
+
+  -- of a step one more
+  pub settings_end : (a b c d e : Float) → sheet_check l (count_check most_ticks ticks) (a ∷ b ∷ c ∷ d ∷ e ∷ [])
+      ≡ (sheet_check l (count_check most_ticks ticks) [] then settings_check (a ∷ b ∷ c ∷ d ∷ [])) then settings_check (e ∷ [])
+  settings_end a b c d e = settings_last (a ∷ b ∷ c ∷ d ∷ e ∷ []) ∙ ap (λ (k : Check). sheet_check l (count_check most_ticks ticks) [] then k) (settings-append (a ∷ b ∷ c ∷ d ∷ []) (e ∷ [])) ∙ then_assoc (sheet_check l (count_check most_ticks ticks) []) (settings_check (a ∷ b ∷ c ∷ d ∷ [])) (settings_check (e ∷ []))
+
+-- of a tick, which has no number of ticks
+pub settings_after : (l : SheetInput) (settings : List Float) → sheet_check l fine settings ≡ sheet_check l fine [] then settings_check settings
+settings_after l settings = settings_last l 0 settings
 
 -- alpha and the work slots are not looked at
 pub check-same : (sheet : List ℕ) (alpha : ℕ) (words : List ℕ) (numbers : List Float) (links : List ℕ) (draws : List Float) (work : List ℕ) (ticks : ℕ) (settings : List Float)
@@ -93,60 +120,40 @@ passed l ticks settings h =
     let g = sizes-passed l.sheet l.words ticks f.0 in
     (record { few = g.1; counts = g.2; lengths = require_true (tick_lengths l) 2 0 f.1; ends = e.1 }, g.0, d.1, g.3)
 
--- ---- how the code answers it: q was answered for what comes before 2, b for 2, and r for what comes after
+-- ---- how the code answers it half by half: r is answered
 
--- what is left from 2 on
-abbrev onward : SheetInput → Bool → Check
-onward l b = lengths_check b then ends l then records l then ranges l then draws_check l.draws
+module _ (l : SheetInput) (ticks : ℕ) where
+  pub sizes_refused : (r : Refusal) → result_of (sizes l ticks) ≡ Err r → Err r ≡ result_of (sheet_check l (count_check most_ticks ticks) [])
+  sizes_refused r h = sym (ap result_of (check_plain l ticks ∙ ap (rest l) (err_refused (sizes l ticks) r h)))
 
-module _ (l : SheetInput) (ticks : ℕ) (q : Refusal) (iq : q ≡ refusal_of (sizes_check l.sheet l.words ticks)) where
-  pub stopped-sizes : (q.number ≡ 0 → ⊥) → q ≡ refusal_of (sheet_check l (count_check most_ticks ticks) [])
-  stopped-sizes h =
-      iq
-      ∙ ap (λ (c : Check). refusal_of (rest l c)) (sym (stops (sizes l ticks) (λ z. h (ap (λ (r : Refusal). r.number) iq ∙ z))))
-      ∙ ap (λ (c : Check). refusal_of c) (sym (check_plain l ticks))
+  -- what comes before 2 is fine
+  module _ (t : Unit {0}) (h : result_of (sizes l ticks) ≡ Ok t) where
+    pub sizes-fine : sizes l ticks ≡ fine
+    sizes-fine = ok_fine (sizes l ticks) t h
 
-  module _ (z : q.number ≡ 0) where
-    pub sizes-fine : sizes_check l.sheet l.words ticks ≡ fine
-    sizes-fine = passes (sizes l ticks) early (sym (ap (λ (r : Refusal). r.number) iq) ∙ z)
-      where
-        early : Refuses Early (sizes l ticks)
-        early =
-            length-early l.sheet
-            then· count-early most_particles (count_of l.sheet)
-            then· count-early most_ticks ticks
-            then· of_each (λ _ e. kind-early (kind_of e.kind) e.links e.iterations) (entries_of l.words)
-
-    past-sizes : sheet_check l (count_check most_ticks ticks) [] ≡ onward l (tick_lengths l)
+    past-sizes : sheet_check l (count_check most_ticks ticks) [] ≡ rest l fine
     past-sizes = check_plain l ticks ∙ ap (rest l) sizes-fine
 
-    module _ (b : Bool) (ib : b ≡ tick_lengths l) where
-      pub stopped-lengths : not b ≡ true → refusal 2 0 ≡ refusal_of (sheet_check l (count_check most_ticks ticks) [])
-      stopped-lengths h = ap (λ (c : Check). refusal_of c) (sym (past-sizes ∙ ap (onward l) (sym ib ∙ not-true b h)))
+    pub lengths_refused : (r : Refusal) → result_of (lengths l) ≡ Err r → Err r ≡ result_of (sheet_check l (count_check most_ticks ticks) [])
+    lengths_refused r e = sym (ap result_of (past-sizes ∙ ap (λ (c : Check). c then ends l then records l then ranges l then draws_check l.draws) (err_refused (lengths l) r e)))
 
-      module _ (h : not b ≡ false) where
-        agree : tick_lengths l ≡ true
-        agree = sym ib ∙ not-false b h
+    -- and so are the lengths
+    module _ (u : Unit {0}) (e : result_of (lengths l) ≡ Ok u) where
+      agree : tick_lengths l ≡ true
+      agree = require_true (tick_lengths l) 2 0 (ok_fine (lengths l) u e)
 
-        -- the lists are as long as the slots need them
-        pub long-enough : (length l.numbers ≡ sum (map (numbers_needed (count l)) (entries l))) × (length l.links ≡ sum (map links_needed (entries l)) * 2)
-        long-enough =
-            let numbers = eqb (length l.numbers) (sum (map (numbers_needed (count l)) (entries l))) in
-            let links = eqb (length l.links) (sum (map links_needed (entries l)) * 2) in
-            let a = (and-eq-true_iff (all strengths_right (entries l) && numbers) links).0 agree in
-            (eqb-true (length l.numbers) _ ((and-eq-true_iff (all strengths_right (entries l)) numbers).0 a.0).1, eqb-true (length l.links) _ a.1)
+      -- the lists are as long as the slots need them
+      pub long-enough : (length l.numbers ≡ sum (map (numbers_needed (count l)) (entries l))) × (length l.links ≡ sum (map links_needed (entries l)) * 2)
+      long-enough =
+          let numbers = eqb (length l.numbers) (sum (map (numbers_needed (count l)) (entries l))) in
+          let links = eqb (length l.links) (sum (map links_needed (entries l)) * 2) in
+          let a = (and-eq-true_iff (all strengths_right (entries l) && numbers) links).0 agree in
+          (eqb-true (length l.numbers) _ ((and-eq-true_iff (all strengths_right (entries l)) numbers).0 a.0).1, eqb-true (length l.links) _ a.1)
 
-        same-contents : onward l true ≡ contents_check l.sheet l.words l.numbers l.links l.draws
-        same-contents =
-            ap₂ (λ (c d : Check). c then records l then d then draws_check l.draws)
-            (ends_each_lem (count l) 0 (entries l) l.numbers l.links (le_of_eq (sym (long-enough.1 ∙ sum_twice (entries l)))))
-            (ranges_each_lem (count l) 0 (entries l) l.numbers l.links)
-
-        pub answered-contents : (r : Refusal) → r ≡ refusal_of (contents_check l.sheet l.words l.numbers l.links l.draws) → r ≡ refusal_of (sheet_check l (count_check most_ticks ticks) [])
-        answered-contents r ir = ir ∙ ap (λ (c : Check). refusal_of c) (sym (past-sizes ∙ ap (onward l) agree ∙ same-contents))
-
--- the settings were answered s
-pub answered-settings : (l : SheetInput) (ticks : ℕ) (settings : List Float) (p s r : Refusal) → p ≡ refusal_of (sheet_check l (count_check most_ticks ticks) []) → s ≡ refusal_of (settings_check settings)
-    → r ≡ first_of p s → r ≡ refusal_of (sheet_check l (count_check most_ticks ticks) settings)
-answered-settings l ticks settings p s r ep es er =
-    answer_then (sheet_check l (count_check most_ticks ticks) []) (settings_check settings) p s r (sheet-early l (count-early most_ticks ticks) []) ep es er ∙ ap (λ (c : Check). refusal_of c) (sym (check-settings l ticks settings))
+      pub contents-decide : sheet_check l (count_check most_ticks ticks) [] ≡ contents_check l.sheet l.words l.numbers l.links l.draws
+      contents-decide =
+          past-sizes
+          ∙ ap (λ (c : Check). c then ends l then records l then ranges l then draws_check l.draws) (ok_fine (lengths l) u e)
+          ∙ ap₂ (λ (c d : Check). c then records l then d then draws_check l.draws)
+          (ends_each_lem (count l) 0 (entries l) l.numbers l.links (le_of_eq (sym (long-enough.1 ∙ sum_twice (entries l)))))
+          (ranges_each_lem (count l) 0 (entries l) l.numbers l.links)
