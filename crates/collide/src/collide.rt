@@ -17,7 +17,7 @@ use crate::radius::prepare;
 use collide_contact::{meet_first, skips};
 use force::{Draws, Ran};
 use rules::{Progress, Refusal};
-use tree_build::build::{Built, build};
+use tree_build::build::build;
 use tree_slots::{Quadtree, store};
 use tree_walk::Walk;
 
@@ -129,10 +129,7 @@ fn run(
     if iterations == 0 {
         return Ok(());
     }
-    let q = match build(at, next, tail, m) {
-        Built::Refused(refusal) => return Err(refusal),
-        Built::Tree(q) => q,
-    };
+    let q = build(at, next, tail, m)?;
     prepare(q, radii, m);
     iterate(q, m, at, vs, radii, strength, iterations, draws, visits)
 }
