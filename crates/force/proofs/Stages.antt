@@ -5,47 +5,30 @@ use mathlib.Core.List.{List}
 use Prim.Native.Nat.{ℕ, suc, ◌+◌, ◌-◌, ◌*◌, ◌≤◌, ◌<◌}
 use native.Mathlib.Nat.{sub-zero}
 use native.Mathlib.Omega.{arith}
-use borrow.Author.Tests.{eq-eqb, ne_eqb}
-use lib.ListN.{length}
+use borrow.Author.Tests.{ne_eqb}
 use lib.Ieee.{Float}
-use Rattle.std.specs.Prelude.{Result, Ok, Err, IfErr}
+use Rattle.std.specs.Prelude.{IfOk, Result, Ok, Err, IfErr}
 use Rattle.rules.specs.Plain.{count_from, up_to}
 use Rattle.rules.specs.declared.Progress.{Progress}
 use Rattle.rules.specs.declared.Refusal.{Refusal}
-use Rattle.rules.specs.Outcome.{Outcome, done, refused, refusal, no_refusal, ◌>>=◌, fold_stages, zeroes_work}
+use Rattle.rules.specs.Outcome.{Outcome, done, refused, ◌>>=◌, fold_stages, zeroes_work}
 use Rattle.rules.specs.Walk.{Counted, counted}
 use Rattle.rules.specs.Flow.{Flow, flow}
-use Rattle.force.specs.declared.Ran.{Ran}
 use Rattle.force.specs.Draws.{From}
 use Rattle.force.specs.declared.lent.Draws.{Draws}
 use Rattle.force.specs.Draws as Draws
 use Rattle.force.specs.Draws.{came_to, OnlyDry, Further}
-use Rattle.force.specs.Ran.{flow_at, ended, ended_by, ran_check, ran_of, IsLate, RanAs}
+use Rattle.force.specs.Ran.{ended_by, IsLate, RanAs}
 
-module _ (vs draws : List Float) (r : Ran) where
-  pub ran_refused : (r.refusal.number ≡ 0 → ⊥) → ran_of vs draws r ≡ refused r.refusal
-  unfolding ran_of ran_check
-  ran_refused h = rw (ne_eqb _ _ h)
-
-  ran_on : r.refusal.number ≡ 0 → ran_of vs draws r ≡ done (flow_at vs draws r.progress)
-  unfolding ran_of ran_check
-  ran_on h = rw (eq-eqb _ _ h)
-
--- a force that began at p has come to `now`
-module _ (vs draws : List Float) (p now : Progress) (same : now.alpha ≡ p.alpha) (from : From draws p.used now.used) {o : Outcome (Counted Flow)} where
-  pub ran_dry : refused (refusal 8 0) ≡ o → RanAs vs draws p (ended (refusal 8 0) now) o
-  unfolding ran_of ran_check zeroes_work
-  ran_dry e = record { is = e; alpha = same; draws = from; late = refl }
-
-  pub ran_done : done (flow_at vs draws now) ≡ o → RanAs vs draws p (ended no_refusal now) o
-  unfolding ran_of ran_check zeroes_work
-  ran_done e = record { is = e; alpha = same; draws = from; late = refl }
-
--- 8 is met on the way
-pub dry_late : {A : Type 0} (r : Result A Refusal) → OnlyDry r → IfErr r IsLate
+-- a refusal with a number that clears the slots is met on the way
+pub met : (r : Refusal) → (r.number ≡ 0 → ⊥) → zeroes_work r ≡ true → IsLate r
 unfolding zeroes_work
+met r n e = rw (ne_eqb r.number 0 n) at e
+
+-- the lack of a draw is
+pub dry_late : {A : Type 0} (r : Result A Refusal) → OnlyDry r → IfErr r IsLate
 dry_late (Ok a) d = tt
-dry_late (Err q) d = rw d ((λ z. absurd (omega (arith, z))), refl)
+dry_late (Err q) d = rw d
 
 -- a force that began at p, with the draws `old` of those lent, and answered r with the draws `new`
 module _ (vs draws : List Float) (p : Progress) (old new : Draws) (lent : old.lent.now ≡ draws) (begun : old.used ≡ p.used) (further : Further old new) where
@@ -53,17 +36,16 @@ module _ (vs draws : List Float) (p : Progress) (old new : Draws) (lent : old.le
   reach = let h = new.in_range in record { begun = omega (arith, further.begun); reach = rw (further.same, lent) at h }
 
   pub ran_ended_late : (visits : ℕ) (r : Result (Unit {0}) Refusal) {o : Outcome (Counted Flow)} → IfErr r IsLate → came_to r (λ _. counted (flow vs (Draws.left new)) visits) ≡ o → RanAs vs draws p (ended_by r p new visits) o
-  unfolding ran_of ran_check zeroes_work
-  ran_ended_late visits (Ok a) l e = record { is = rw (further.same, lent) at e; alpha = refl; draws = reach; late = refl }
-  ran_ended_late visits (Err q) l e = record { is = ran_refused vs draws (ended_by (Err q) p new visits) l.0 ∙ e; alpha = refl; draws = reach; late = l.1 }
+  ran_ended_late visits (Ok a) l e = record { is = rw (further.same, lent) at e; onward = record { alpha = refl; draws = reach }; late = tt }
+  ran_ended_late visits (Err q) l e = record { is = e; onward = tt; late = l }
 
   pub ran_ended : (visits : ℕ) (r : Result (Unit {0}) Refusal) {o : Outcome (Counted Flow)} → OnlyDry r → came_to r (λ _. counted (flow vs (Draws.left new)) visits) ≡ o → RanAs vs draws p (ended_by r p new visits) o
   ran_ended visits r d e = ran_ended_late visits r (dry_late r d) e
 
--- it is refused before it begins, by a number that is met on the way
-pub refused_at_once : (vs draws : List Float) (p : Progress) (r : Refusal) → p.used ≤ length draws → (r.number ≡ 0 → ⊥) → zeroes_work r ≡ true
-    → {o : Outcome (Counted Flow)} → refused r ≡ o → RanAs vs draws p (ended r p) o
-refused_at_once vs draws p r h n l e = record { is = ran_refused vs draws (ended r p) n ∙ e; alpha = refl; draws = record { begun = omega arith; reach = h }; late = l }
+-- its visits are those that it came to
+pub ended_few : (r : Result (Unit {0}) Refusal) (p : Progress) (draws : Draws) (visits : ℕ) {most : ℕ} → visits ≤ most → IfOk (ended_by r p draws visits) (λ q. q.visits ≤ most)
+ended_few (Ok a) p draws visits h = h
+ended_few (Err q) p draws visits h = tt
 
 -- ---- stages one after the other
 
@@ -94,14 +76,6 @@ module _ {S : Type 0} (f : S → ℕ → Outcome S) where
     where
       e : n - i ≡ 0
       e = omega arith
-
--- a stage that ended as r
-module _ (f : Counted Flow → ℕ → Outcome (Counted Flow)) (n i : ℕ) (h : i < n) (s : Counted Flow) (vs draws : List Float) (r : Ran) (is : ran_of vs draws r ≡ f s i) where
-  pub left_refused : (r.refusal.number ≡ 0 → ⊥) → ran_of vs draws r ≡ left f n i s
-  left_refused k = ran_refused vs draws r k ∙ left-stops f n i h s (sym is ∙ ran_refused vs draws r k)
-
-  pub left-on : r.refusal.number ≡ 0 → left f n i s ≡ left f n (i + 1) (flow_at vs draws r.progress)
-  left-on k = left-goes f n i h s (sym is ∙ ran_on vs draws r k)
 
 -- ---- what all stages count together
 
