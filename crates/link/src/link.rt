@@ -158,7 +158,7 @@ fn iterate(
     ensures dry { OnlyDry result }
 {
     count_ends(links, counts);
-    for i in 0..iterations {
+    for _ in 0..iterations {
         pull_all(at, vs, links, counts, strengths, distances, alpha, draws)?;
     }
     Ok(())
