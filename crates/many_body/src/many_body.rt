@@ -17,7 +17,7 @@ use many_body_charge::charges;
 use many_body_node::many_body_step;
 use number::float_of;
 use rules::{Progress, Refusal, Tuning, Visit};
-use tree_build::build::{Built, build};
+use tree_build::build::build;
 use tree_slots::{Quadtree, store};
 use tree_walk::Walk;
 
@@ -166,7 +166,7 @@ pub fn many_body(
     ensures count { result.progress.visits ≤ p.visits + 2 ^ 31 }
 {
     match build(at, next, tail, m) {
-        Built::Refused(refusal) => Ran::refused(refusal, p),
-        Built::Tree(q) => many_body_on(q, t, at, vs, strengths, draws, p, next, m),
+        Err(refusal) => Ran::refused(refusal, p),
+        Ok(q) => many_body_on(q, t, at, vs, strengths, draws, p, next, m),
     }
 }
