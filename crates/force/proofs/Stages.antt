@@ -1,8 +1,8 @@
 -- How a force that has run ended, and its stages one after the other. Assumes nothing.
-use mathlib.Core.Path.{◌≡◌, refl, sym, ◌∙◌, subst}
+use mathlib.Core.Path.{◌≡◌, refl, ◌∙◌}
 use mathlib.Core.Bool.{true}
 use mathlib.Core.List.{List}
-use Prim.Native.Nat.{ℕ, suc, ◌+◌, ◌-◌, ◌*◌, ◌≤◌, ◌<◌}
+use Prim.Native.Nat.{ℕ, suc, ◌+◌, ◌-◌, ◌≤◌, ◌<◌}
 use native.Mathlib.Nat.{sub-zero}
 use native.Mathlib.Omega.{arith}
 use borrow.Author.Tests.{ne_eqb}
@@ -11,7 +11,7 @@ use Rattle.std.specs.Prelude.{IfOk, Result, Ok, Err, IfErr}
 use Rattle.rules.specs.Plain.{count_from, up_to}
 use Rattle.rules.specs.declared.Progress.{Progress}
 use Rattle.rules.specs.declared.Refusal.{Refusal}
-use Rattle.rules.specs.Outcome.{Outcome, done, refused, ◌>>=◌, fold_stages, zeroes_work}
+use Rattle.rules.specs.Outcome.{Outcome, done, ◌>>=◌, fold_stages, zeroes_work}
 use Rattle.rules.specs.Walk.{Counted, counted}
 use Rattle.rules.specs.Flow.{Flow, flow}
 use Rattle.force.specs.Draws.{From}
@@ -65,26 +65,5 @@ module _ {S : Type 0} (f : S → ℕ → Outcome S) where
 
   -- a stage that is refused, and one that is done
   module _ (n i : ℕ) (h : i < n) (s : S) where
-    pub left-stops : {r : Refusal} → f s i ≡ refused r → refused r ≡ left n i s
-    left-stops e = sym (left-next n i s h ∙ rw e)
-
     pub left-goes : {t : S} → f s i ≡ done t → left n i s ≡ left n (i + 1) t
     left-goes e = left-next n i s h ∙ rw e
-
-  pub left_end : (n i : ℕ) (s : S) → n ≤ i → done s ≡ left n i s
-  left_end n i s h = rw e
-    where
-      e : n - i ≡ 0
-      e = omega arith
-
--- ---- what all stages count together
-
--- each of n stages counts at most k
-pub one_more : (i n k : ℕ) → i < n → i * k + k ≤ n * k
-one_more i n k h = subst (λ (x : ℕ). i * k + k ≤ x * k) e (spread (n - (i + 1)))
-  where
-    e : i + 1 + (n - (i + 1)) ≡ n
-    e = omega arith
-
-    spread : (j : ℕ) → i * k + k ≤ (i + 1 + j) * k
-    spread j = omega arith

@@ -1,7 +1,6 @@
 // What the forces share: the lent draws, a push on a velocity, and how a force ends.
 #![tactic(auto)]
 
-mod draws;
 mod gap;
 mod lent;
 mod push;
@@ -9,7 +8,6 @@ mod push;
 ghost use Rattle.std.specs.Prelude.{◌≡◌};
 ghost use Rattle.force.specs.Ran.{ended_by};
 
-pub use draws::{Drawn, Jiggled, Spent, nonzero, shaken};
 pub use gap::{Gap, lengthen};
 pub use lent::Draws;
 pub use push::{push_back, push_on};
