@@ -8,8 +8,9 @@ use native.Mathlib.Numerals.{add-one}
 use native.Mathlib.Omega.{arith}
 use borrow.Author.Tests.{eqb-true, eqb-false}
 use lib.Dec.{eqb}
-use lib.ListN.{length, get_or, take, replicate, length-set, length-map}
-use lib.Seq.{get_or-set_same, get_or-set_other, ext_get_or}
+use lib.ListN.{length, get_or, get_or-append, take, drop, replicate, length-set, length-map, length-append}
+use lib.Seq.{get_or-drop, get_or-set_same, get_or-set_other, ext_get_or, drop-append_seam, drop-drop}
+use Rattle.std.proofs.Common.{length-drop}
 use lib.Ieee.{Float}
 use Rattle.rules.specs.Plain.{count_from, up_to}
 use Rattle.rules.specs.Refusal.{most_links}
@@ -97,6 +98,22 @@ tally_turn n es s t hs ht =
         counted-at (one_more cs s) t j (simp length-set (omega (arith, tally_length n es)))
         ∙ omega (arith, counted-at cs s j (omega (arith, tally_length n es)), tally_at n es j h, tally_at n (es ++ (ends s t ∷ [])) j h, count_snoc es (ends s t) j)
 
+-- the pair x is taken off what is left of the links from number k on
+module _ (links x rest : List ℕ) (k : ℕ) (split : drop (k * 2) links ≡ x ++ rest) (two : length x ≡ 2) where
+  pub pair-more : k < length links / 2
+  pair-more = omega (arith, length-drop (k * 2) links, ap length split, length-append x rest)
+
+  pub pair-source : get_or x 0 0 ≡ get_or links (k * 2) 0
+  pair-source = sym (get_or-append x rest 0 0 (omega arith)) ∙ ap (λ (l : List ℕ). get_or l 0 0) (sym split) ∙ get_or-drop (k * 2) links 0 0 ∙ ap (λ (i : ℕ). get_or links i 0) (omega arith)
+
+  pub pair-target : get_or x 1 0 ≡ get_or links (k * 2 + 1) 0
+  pair-target = sym (get_or-append x rest 0 1 (omega arith)) ∙ ap (λ (l : List ℕ). get_or l 1 0) (sym split) ∙ get_or-drop (k * 2) links 1 0
+
+  pub pair-rest : rest ≡ drop ((k + 1) * 2) links
+  pair-rest =
+      sym (drop-append_seam x rest) ∙ ap (drop (length x)) (sym split) ∙ ap (λ (i : ℕ). drop i (drop (k * 2) links)) two ∙ drop-drop 2 (k * 2) links
+      ∙ ap (λ (i : ℕ). drop i links) (omega arith)
+
 -- ---- a turn of the loop over the links
 
 module _ {n : ℕ} {links : List ℕ} (lent : EndsLent n links) (k : ℕ) (h : k < length links / 2) (cs : List ℕ) (is : cs ≡ tallies n (ends_from links k)) where
@@ -113,6 +130,7 @@ module _ {n : ℕ} {links : List ℕ} (lent : EndsLent n links) (k : ℕ) (h : k
         lent.few,
       )
 
+  -- s and t are its ends
   module _ (s t : ℕ) (es' : s ≡ get_or links (k * 2) 0) (et : t ≡ get_or links (k * 2 + 1) 0) where
     hs : s < n
     hs = rw es' (lent.range (k * 2) (omega arith))
