@@ -8,6 +8,7 @@ use lib.ListN.{length}
 use lib.Ieee.{Float}
 use Rattle.rules.specs.declared.Refusal.{Refusal}
 use Rattle.rules.specs.Plain.{up_to}
+use Rattle.rules.specs.Refusal.{most_particles, most_iterations}
 use Rattle.rules.specs.Outcome.{Outcome, done, refused, ◌>>=◌, fold_stages, fine}
 use Rattle.rules.specs.Tree.{nodes, tree_check}
 use Rattle.rules.specs.Walk.{Counted}
@@ -20,7 +21,7 @@ use Rattle.tree_slots.specs.declared.Quadtree.{Quadtree}
 use Rattle.tree_slots.proofs.Trees.{lays_levels, lays_nodes}
 use Rattle.tree_walk.proofs.WalkStands.{nodes_stands}
 use Rattle.collide.specs.Radius.{Rounded}
-use Rattle.collide.specs.Collide.{Bounded, walk_all, walk_times}
+use Rattle.collide.specs.Collide.{walk_all, walk_times}
 use Rattle.collide.proofs.CollideSteps.{look, seen_radii}
 
 -- ---- the tree is the same each time
@@ -61,8 +62,8 @@ nodes_radii {at} {radii} {m} {q} s =
     let g : nodes (radius_tree at radii) ≡ q.nodes = ap nodes (sym (seen_radii s)) ∙ nodes_stands t (look m) in
     omega (arith, g, lays_nodes t, (tree-nodes at (length radii) (lays_levels t)).1)
 
-pub few_visits : {at radii : List Float} {m : List ℕ} {q : Quadtree} {iterations visits : ℕ} → Rounded at radii m q → Bounded (length radii) iterations visits
+pub few_visits : {at radii : List Float} {m : List ℕ} {q : Quadtree} (iterations : ℕ) → Rounded at radii m q → length radii ≤ most_particles → iterations ≤ most_iterations
     → iterations * (length radii * nodes (radius_tree at radii)) ≤ most_force_visits
-few_visits {at} {radii} {iterations = iterations} s b =
-    let h : nodes (radius_tree at radii) ≤ 262145 = omega (arith, nodes_radii s, b.few) in
-    omega (arith, mul-le-mul b.times (mul-le-mul b.few h))
+few_visits {at} {radii} iterations s few times =
+    let h : nodes (radius_tree at radii) ≤ 262145 = omega (arith, nodes_radii s, few) in
+    omega (arith, mul-le-mul times (mul-le-mul few h))

@@ -1,25 +1,60 @@
 // collide.rs: particles whose circles overlap are pushed apart.
-ghost use Rattle.std.specs.Prelude.{◌+◌, ◌*◌, ◌≤◌, ◌<◌, ◌^◌, length};
+ghost use Rattle.std.specs.Prelude.{◌≡◌, ◌+◌, ◌*◌, ◌≤◌, ◌<◌, ◌^◌, length, IfErr};
 ghost use Rattle.rules.specs.Refusal.{most_iterations};
 ghost use Rattle.rules.specs.Tree.{nodes};
+ghost use Rattle.rules.specs.Walk.{counted};
+ghost use Rattle.rules.specs.Flow.{flow};
 ghost use Rattle.rules.specs.Collide as Collide;
 ghost use Rattle.rules.specs.Calls.{slots_of};
 ghost use Rattle.tree_build.specs.Build.{Lent};
-ghost use Rattle.force.specs.Ran.{flow_at, most_force_visits, RanAs};
+ghost use Rattle.force.specs.Draws.{left, came_to, OnlyDry, Further};
+ghost use Rattle.force.specs.Ran.{flow_at, most_force_visits, IsLate, RanAs};
 ghost use Rattle.collide.specs.Radius.{Rounded};
-ghost use Rattle.collide_contact.specs.Contact.{Spread};
-ghost use Rattle.collide.specs.Collide.{Bounded, HoldsTree, walk_all, walk_times};
+ghost use Rattle.collide_contact.specs.Contact.{Placed, Spread};
+ghost use Rattle.collide.specs.Collide.{walk_for, walk_all, walk_times};
 
 use crate::radius::prepare;
 use collide_contact::{meet_first, skips};
-use force::Ran;
-use rules::{Progress, Visit};
-use tree_build::build::{Built, build};
+use force::{Draws, Ran};
+use rules::{Progress, Refusal};
+use tree_build::build::build;
 use tree_slots::{Quadtree, store};
-use tree_walk::visit;
-use tree_walk::visit::Walk;
+use tree_walk::Walk;
 
-// Every particle once, in index order, each by a walk over the tree, parent first. One Walk serves them all.
+// The walk of particle i over the tree, parent first.
+fn walk_for(
+    q: Quadtree,
+    m: &[u64],
+    at: &[f64],
+    vs: &mut [f64],
+    radii: &[f64],
+    strength: f64,
+    i: usize,
+    walk: &mut Walk,
+    draws: &mut Draws,
+    visits: &mut u64,
+) -> Result<(), Refusal>
+    requires { Placed at.now vs.old radii.now × Rounded at.now radii.now m.now q × (i < length radii.now)
+        × (visits.old + nodes (Collide.radius_tree at.now radii.now) < 2 ^ 64) }
+    ensures is { came_to result (λ _. counted (flow vs.new (left draws.new)) visits.new)
+        ≡ walk_for at.now radii.now strength (counted (flow vs.old (left draws.old)) visits.old) i }
+    ensures few { visits.new ≤ visits.old + nodes (Collide.radius_tree at.now radii.now) }
+    ensures further { Further draws.old draws.new }
+    ensures dry { OnlyDry result }
+{
+    walk.begin(q.root, q.extent);
+    while let Some(node) = walk.pop() {
+        *visits += 1;
+        if store::tag(m, node.slot) != 0 {
+            meet_first(at, vs, radii, strength, i, m, node.slot, draws)?;
+        } else if !skips(at, radii, i, m, node.slot, node.extent) {
+            walk.push_children(m, node);
+        }
+    }
+    Ok(())
+}
+
+// Every particle once, in index order. One Walk serves them all.
 fn walk_all(
     q: Quadtree,
     m: &[u64],
@@ -27,49 +62,22 @@ fn walk_all(
     vs: &mut [f64],
     radii: &[f64],
     strength: f64,
-    draws: &[f64],
-    p: Progress,
-) -> Ran
-    requires { Spread at.now vs.old radii.now draws.now p.used × Rounded at.now radii.now m.now q
-        × (p.visits + length radii.now * nodes (Collide.radius_tree at.now radii.now) < 2 ^ 64) }
-    ensures is { RanAs vs.new draws.now p result
-        (walk_all at.now radii.now strength (flow_at vs.old draws.now p)) }
-    ensures few { result.progress.visits ≤ p.visits + length radii.now * nodes (Collide.radius_tree at.now radii.now) }
+    draws: &mut Draws,
+    visits: &mut u64,
+) -> Result<(), Refusal>
+    requires { Placed at.now vs.old radii.now × Rounded at.now radii.now m.now q
+        × (visits.old + length radii.now * nodes (Collide.radius_tree at.now radii.now) < 2 ^ 64) }
+    ensures is { came_to result (λ _. counted (flow vs.new (left draws.new)) visits.new)
+        ≡ walk_all at.now radii.now strength (counted (flow vs.old (left draws.old)) visits.old) }
+    ensures few { visits.new ≤ visits.old + length radii.now * nodes (Collide.radius_tree at.now radii.now) }
+    ensures further { Further draws.old draws.new }
+    ensures dry { OnlyDry result }
 {
-    let n = radii.len();
-    let extent = q.extent;
-    let mut w = Walk::empty();
-    let mut reached = p;
-    let mut i: usize = 0;
-    while i < n {
-        visit::push_cell(&mut w.cells, 0, q.root, extent);
-        w.height = visit::push_slot(&mut w.slots, 0, q.root);
-        while 0 < w.height {
-            let h = w.height - 1;
-            w.height = h;
-            let e = visit::waiting_at(&w.slots, &w.cells, h);
-            let s = e.slot;
-            let c = e.extent;
-            reached.visits += 1;
-            if store::tag(m, s) == 0 {
-                let below = Visit::stop_if(skips(at, radii, i, m, s, c));
-                if let Visit::Continue = below {
-                    let children = store::children(m, s);
-                    visit::push_cells(&mut w.cells, h, children, c);
-                    w.height = visit::push_slots(&mut w.slots, h, children);
-                }
-            } else {
-                let met = meet_first(at, vs, radii, strength, i, m, s, draws, reached.used);
-                let dry = met.dry;
-                reached.used = met.used;
-                if dry {
-                    return Ran::dry(reached);
-                }
-            }
-        }
-        i += 1;
+    let mut walk = Walk::new();
+    for i in 0..radii.len() {
+        walk_for(q, m, at, vs, radii, strength, i, &mut walk, draws, visits)?;
     }
-    Ran::done(reached)
+    Ok(())
 }
 
 // That many times over. Places don't change, so the tree is the same each time.
@@ -81,52 +89,52 @@ fn iterate(
     radii: &[f64],
     strength: f64,
     iterations: usize,
-    draws: &[f64],
-    p: Progress,
-) -> Ran
-    requires { Spread at.now vs.old radii.now draws.now p.used × Rounded at.now radii.now m.now q
-        × (p.visits + iterations * (length radii.now * nodes (Collide.radius_tree at.now radii.now)) < 2 ^ 64) }
-    ensures is { RanAs vs.new draws.now p result
-        (walk_times at.now radii.now strength iterations (flow_at vs.old draws.now p)) }
-    ensures few { result.progress.visits ≤ p.visits + iterations * (length radii.now * nodes (Collide.radius_tree at.now radii.now)) }
+    draws: &mut Draws,
+    visits: &mut u64,
+) -> Result<(), Refusal>
+    requires { Placed at.now vs.old radii.now × Rounded at.now radii.now m.now q
+        × (visits.old + iterations * (length radii.now * nodes (Collide.radius_tree at.now radii.now)) < 2 ^ 64) }
+    ensures is { came_to result (λ _. counted (flow vs.new (left draws.new)) visits.new)
+        ≡ walk_times at.now radii.now strength iterations (counted (flow vs.old (left draws.old)) visits.old) }
+    ensures few { visits.new ≤ visits.old + iterations * (length radii.now * nodes (Collide.radius_tree at.now radii.now)) }
+    ensures further { Further draws.old draws.new }
+    ensures dry { OnlyDry result }
 {
-    let mut reached = p;
-    let mut k: usize = 0;
-    while k < iterations {
-        let r = walk_all(q, m, at, vs, radii, strength, draws, reached);
-        let refusal = r.refusal;
-        let number = refusal.number;
-        if number != 0 {
-            return r;
-        }
-        reached = r.progress;
-        k += 1;
+    for k in 0..iterations {
+        walk_all(q, m, at, vs, radii, strength, draws, visits)?;
     }
-    Ran::done(reached)
+    Ok(())
 }
 
-// On the tree in the slots.
-fn collide_on(
-    q: Quadtree,
-    m: &mut [u64],
+// With no iteration no tree is built.
+fn run(
     at: &[f64],
     vs: &mut [f64],
     radii: &[f64],
     strength: f64,
     iterations: usize,
-    draws: &[f64],
-    p: Progress,
-) -> Ran
-    requires { Spread at.now vs.old radii.now draws.now p.used × HoldsTree at.now (length radii.now) m.old q × Bounded (length radii.now) iterations p.visits }
-    ensures is { RanAs vs.new draws.now p result
-        (walk_times at.now radii.now strength iterations (flow_at vs.old draws.now p)) }
-    ensures few { result.progress.visits ≤ p.visits + most_force_visits }
+    draws: &mut Draws,
+    visits: &mut u64,
+    next: &mut [u32],
+    tail: &mut [u32],
+    m: &mut [u64],
+) -> Result<(), Refusal>
+    requires { Lent at.now next.old tail.old × Placed at.now vs.old radii.now × (iterations ≤ most_iterations) × (visits.old < 2 ^ 63) }
+    ensures is { came_to result (λ _. counted (flow vs.new (left draws.new)) visits.new)
+        ≡ Collide.run_collide at.now radii.now strength iterations (slots_of m.old) (counted (flow vs.old (left draws.old)) visits.old) }
+    ensures few { visits.new ≤ visits.old + most_force_visits }
+    ensures further { Further draws.old draws.new }
+    ensures late { IfErr result IsLate }
 {
+    if iterations == 0 {
+        return Ok(());
+    }
+    let q = build(at, next, tail, m)?;
     prepare(q, radii, m);
-    iterate(q, m, at, vs, radii, strength, iterations, draws, p)
+    iterate(q, m, at, vs, radii, strength, iterations, draws, visits)
 }
 
-// The force. With no iteration no tree is built. It doesn't look at alpha.
+// The force. It doesn't look at alpha.
 pub fn collide(
     at: &[f64],
     vs: &mut [f64],
@@ -144,11 +152,19 @@ pub fn collide(
         (Collide.run_collide at.now radii.now strength iterations (slots_of m.old) (flow_at vs.old draws.now p)) }
     ensures few { result.progress.visits ≤ p.visits + most_force_visits }
 {
-    if iterations == 0 {
-        return Ran::done(p);
-    }
-    match build(at, next, tail, m) {
-        Built::Refused(refusal) => Ran::refused(refusal, p),
-        Built::Tree(q) => collide_on(q, m, at, vs, radii, strength, iterations, draws, p),
-    }
+    let mut draws = Draws::new(draws, p.used);
+    let mut visits = p.visits;
+    let end = run(
+        at,
+        vs,
+        radii,
+        strength,
+        iterations,
+        &mut draws,
+        &mut visits,
+        next,
+        tail,
+        m,
+    );
+    Ran::ended(end, p, &draws, visits)
 }

@@ -5,7 +5,12 @@ use Rattle.rules.specs.Flow.{Flow}
 use Rattle.rules.specs.Collide.{meet_first}
 use Rattle.tree_slots.specs.Trees.{word, value}
 
--- a place and a velocity for each radius, and no draw used past the last
+-- a place and a velocity for each radius
+pub record Placed (at vs radii : List Float) : Type 0 where
+  pub places : length at ≡ length radii * 2
+  pub speeds : length vs ≡ length radii * 2
+
+-- these, and no draw used past the last
 pub record Spread (at vs radii draws : List Float) (used : ℕ) : Type 0 where
   pub places : length at ≡ length radii * 2
   pub speeds : length vs ≡ length radii * 2

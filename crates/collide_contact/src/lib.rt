@@ -1,19 +1,19 @@
 // Collide for one particle at one node: whether it lies out of reach, and what a leaf's first particle and this one do to each other.
 #![tactic(auto)]
 
-ghost use Rattle.std.specs.Prelude.{◌≡◌, ◌+◌, ◌*◌, ◌≤◌, ◌<◌, length, get_or, drop};
+ghost use Rattle.std.specs.Prelude.{◌≡◌, ◌+◌, ◌*◌, ◌≤◌, ◌<◌, length, get_or};
 ghost use Rattle.std.specs.Float.{nan};
 ghost use Rattle.rules.specs.Number.{◌⊕◌, ◌⊖◌};
 ghost use Rattle.rules.specs.Flow.{flow, gap};
 ghost use Rattle.rules.specs.Collide as Collide;
 ghost use Rattle.rules.specs.Calls.{slot_words};
 ghost use Rattle.tree_slots.specs.Trees.{word, value};
-ghost use Rattle.force.specs.Draws.{spent_of, From};
-ghost use Rattle.collide_contact.specs.Contact.{Spread, meet_at};
+ghost use Rattle.force.specs.Draws.{left, came_to, OnlyDry, Further};
+ghost use Rattle.collide_contact.specs.Contact.{Placed, meet_at};
 
-use force::{Spent, lengthen, push_back, push_on, shaken};
-use number::{index, plain_zero};
-use rules::Extent;
+use force::{Draws, lengthen, push_back, push_on};
+use number::plain_zero;
+use rules::{Extent, Refusal};
 use square_root::root;
 use tree_slots::store;
 
@@ -33,15 +33,13 @@ fn beyond(lo: f64, hi: f64, p: f64, reach: f64) -> bool
 }
 
 // The cell is further away than the combined radii.
+#[tactic(auto, unfolding(rules::specs::Collide::away))]
 fn away(at: &[f64], i: usize, c: Extent, reach: f64) -> bool
     requires { i * 2 + 1 < length at.now }
     ensures { result ≡ Collide.away at.now i c reach }
 {
     let k = i * 2;
-    if beyond(c.x0, c.x1, at[k], reach) {
-        return true;
-    }
-    beyond(c.y0, c.y1, at[k + 1], reach)
+    beyond(c.x0, c.x1, at[k], reach) || beyond(c.y0, c.y1, at[k + 1], reach)
 }
 
 // The own side uses x, the other x + vx.
@@ -53,6 +51,7 @@ fn between(at: &[f64], vs: &[f64], i: usize, j: usize) -> f64
 }
 
 // Both are pushed apart over the gap x, y, each by the other's share.
+#[tactic(auto, unfolding(rules::specs::Collide::parted))]
 fn part(vs: &mut [f64], i: usize, j: usize, ri: f64, rj: f64, x: f64, y: f64, l: f64, strength: f64)
     requires { (i * 2 + 1 < length vs.old) × (j * 2 + 1 < length vs.old) }
     ensures { vs.new ≡ Collide.parted strength i j ri rj (gap x y) l vs.old }
@@ -70,6 +69,7 @@ fn part(vs: &mut [f64], i: usize, j: usize, ri: f64, rj: f64, x: f64, y: f64, l:
 }
 
 // Particle i against particle j, the first of a leaf of radius rj.
+#[tactic(auto, unfolding(rules::specs::Collide::meet))]
 fn meet(
     at: &[f64],
     vs: &mut [f64],
@@ -78,13 +78,13 @@ fn meet(
     i: usize,
     j: usize,
     rj: f64,
-    draws: &[f64],
-    used: usize,
-) -> Spent
-    requires { Spread at.now vs.old radii.now draws.now used × (i < length radii.now) × (j < length radii.now) }
-    ensures is { spent_of vs.new draws.now result
-        ≡ Collide.meet at.now radii.now strength i rj j (flow vs.old (drop used draws.now)) }
-    ensures from { From draws.now used result.used }
+    draws: &mut Draws,
+) -> Result<(), Refusal>
+    requires { Placed at.now vs.old radii.now × (i < length radii.now) × (j < length radii.now) }
+    ensures is { came_to result (λ _. flow vs.new (left draws.new))
+        ≡ Collide.meet at.now radii.now strength i rj j (flow vs.old (left draws.old)) }
+    ensures further { Further draws.old draws.new }
+    ensures dry { OnlyDry result }
 {
     let ri = radius_of(radii, i);
     let r = ri + rj;
@@ -92,23 +92,11 @@ fn meet(
     let y = between(at, vs, i * 2 + 1, j * 2 + 1);
     let l = x * x + y * y;
     if l < r * r {
-        let g = shaken(draws, used, x, y);
-        let spent = g.used;
-        let dry = g.dry;
-        if dry {
-            return Spent {
-                used: spent,
-                dry: true,
-            };
-        }
-        let longer = lengthen(l, x, y, g.x, g.y);
-        part(vs, i, j, ri, rj, g.x, g.y, longer, strength);
-        return Spent {
-            used: spent,
-            dry: false,
-        };
+        let g = draws.shaken(x, y)?;
+        let l = lengthen(l, x, y, g.x, g.y);
+        part(vs, i, j, ri, rj, g.x, g.y, l, strength);
     }
-    Spent { used, dry: false }
+    Ok(())
 }
 
 // A leaf: only its first particle acts, and only if its index is greater.
@@ -120,21 +108,21 @@ pub fn meet_first(
     i: usize,
     m: &[u64],
     s: usize,
-    draws: &[f64],
-    used: usize,
-) -> Spent
-    requires { Spread at.now vs.old radii.now draws.now used × (i < length radii.now)
+    draws: &mut Draws,
+) -> Result<(), Refusal>
+    requires { Placed at.now vs.old radii.now × (i < length radii.now)
         × (s * slot_words + slot_words ≤ length m.now) × (0 < word m.now s 0) × (word m.now s 0 ≤ length radii.now) }
-    ensures is { spent_of vs.new draws.now result
-        ≡ meet_at at.now radii.now strength i m.now s (flow vs.old (drop used draws.now)) }
-    ensures from { From draws.now used result.used }
+    ensures is { came_to result (λ _. flow vs.new (left draws.new))
+        ≡ meet_at at.now radii.now strength i m.now s (flow vs.old (left draws.old)) }
+    ensures further { Further draws.old draws.new }
+    ensures dry { OnlyDry result }
 {
-    let j = index(store::tag(m, s) - 1);
+    let j = (store::tag(m, s) - 1) as usize;
     if i < j {
         let rj = store::node_value(m, s, 0);
-        return meet(at, vs, radii, strength, i, j, rj, draws, used);
+        return meet(at, vs, radii, strength, i, j, rj, draws);
     }
-    Spent { used, dry: false }
+    Ok(())
 }
 
 // An internal node: whether what lies below it is left out.

@@ -7,6 +7,7 @@ use native.Mathlib.Omega.{arith}
 use lib.Dec.{leb}
 use lib.ListN.{length}
 use lib.Ieee.{Float}
+use Rattle.std.specs.Prelude.{Result, Ok, Err}
 use Rattle.rules.specs.declared.Extent.{Extent}
 use Rattle.rules.specs.declared.Refusal.{Refusal}
 use Rattle.rules.specs.declared.TreeAnswer.{TreeAnswer}
@@ -16,7 +17,7 @@ use Rattle.rules.specs.Cell.{nowhere}
 use Rattle.rules.specs.Tree.{Tree, nodes, depth, fits_check, greatest_level}
 use Rattle.rules.specs.Calls.{slots_of}
 use Rattle.rules.specs.Edits.{Edit, points_of, insertions, Present, present, edited, present_after, removable, extent_now, tree_now, edit_check, edits_from, EditsInput, edit_list, edit_input_check, edits_result, edits_answer, edit_rows_after, edit_chains_after, edit_work_after}
-use Rattle.tree_build.specs.declared.build.Built.{Built}
+use Rattle.tree_slots.specs.declared.Quadtree.{Quadtree}
 use Rattle.tree_build.specs.Build.{particles}
 use Rattle.rules.proofs.RefusalLaws.{Refuses, of_require, of_done, ◌then·◌, ◌>>=·◌}
 use Rattle.tree_call.specs.Tree.{refused_tree, refused_work, Comes, extent_built, Answers}
@@ -86,9 +87,9 @@ module _ (l : EditsInput) (at : List Float) (size flags links tails : ℕ) (d : 
     unfolding edits_result
     clears = rw d.passed (edits_met (points_of (edit_list l)) (slots_of l.work) 0 (present 0 []) (edit_list l) >>=· λ _. of_done)
 
-    pub edits-come : (next : List ℕ) → length next ≡ links → (b : Built) → AllDone l.edits at m next b → Comes (edits_result l) b m next (length l.rows) (length l.chains)
-    edits-come next j (Built.Refused r) h = result-refused r h
-    edits-come next j (Built.Tree q) h =
+    pub edits-come : (next : List ℕ) → length next ≡ links → (b : Result Quadtree Refusal) → AllDone l.edits at m next b → Comes (edits_result l) b m next (length l.rows) (length l.chains)
+    edits-come next j (Err r) h = result-refused r h
+    edits-come next j (Ok q) h =
         let w = h.1 in
         let own : length next ≡ particles at = omega (arith, half, d.links) in (
           tree_now at s,
@@ -103,7 +104,7 @@ module _ (l : EditsInput) (at : List Float) (size flags links tails : ℕ) (d : 
         )
 
     -- the extent is that of all points inserted, and the slots are cleared
-    pub edits-after : (next : List ℕ) (b : Built) → AllDone l.edits at m next b → (a : TreeAnswer) (rows chains work : List ℕ) → Answers (edits_result l) b a l.rows l.chains m rows chains work → AfterEdits l a rows chains work
+    pub edits-after : (next : List ℕ) (b : Result Quadtree Refusal) → AllDone l.edits at m next b → (a : TreeAnswer) (rows chains work : List ℕ) → Answers (edits_result l) b a l.rows l.chains m rows chains work → AfterEdits l a rows chains work
     unfolding edits_answer edit_rows_after edit_chains_after edit_work_after
     edits-after next b h a rows chains work w =
         record {
@@ -113,9 +114,9 @@ module _ (l : EditsInput) (at : List Float) (size flags links tails : ℕ) (d : 
           worked = w.worked ∙ work_cleared (edits_result l) m l.work clears k;
         }
       where
-        extent_is : (b : Built) → AllDone l.edits at m next b → extent_built b ≡ if_done (edits_result l) (λ _. extent_now (points_of (edit_list l)) s) nowhere
-        extent_is (Built.Refused r) h = rw (result-refused r h)
-        extent_is (Built.Tree q) h = rw (result_done h.0) (h.1.extent ∙ ap (λ (x : List Float). extent_now x s) e)
+        extent_is : (b : Result Quadtree Refusal) → AllDone l.edits at m next b → extent_built b ≡ if_done (edits_result l) (λ _. extent_now (points_of (edit_list l)) s) nowhere
+        extent_is (Err r) h = rw (result-refused r h)
+        extent_is (Ok q) h = rw (result_done h.0) (h.1.extent ∙ ap (λ (x : List Float). extent_now x s) e)
 
 -- ---- refused by the checks
 

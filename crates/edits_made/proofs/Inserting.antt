@@ -10,6 +10,7 @@ use lib.Dec.{leb}
 use lib.ListN.{length, get_or, set}
 use lib.Seq.{get_or-set_same, get_or-set_other}
 use lib.Ieee.{Float}
+use Rattle.std.specs.Prelude.{Ok}
 use Rattle.rules.specs.declared.Extent.{Extent}
 use Rattle.rules.specs.Cover.{cover_first, extent_of}
 use Rattle.rules.specs.Outcome.{Check, done, fine, refused, refusal, require, ◌then◌}
@@ -18,7 +19,6 @@ use Rattle.rules.specs.Edits.{Edit, insertion, Present, edited, among, extent_no
 use Rattle.rules.proofs.CellList.{In}
 use Rattle.tree_slots.specs.declared.Quadtree.{Quadtree}
 use Rattle.tree_slots.proofs.Links.{rises_snoc}
-use Rattle.tree_placing.specs.declared.Inserted.TheVariants.{Done}
 use Rattle.tree_placing.specs.Add.{Puts, more_check, Placed}
 use Rattle.tree_placing.proofs.AddChain.{none_in, in_snoc}
 use Rattle.tree_build.specs.Build.{particles, ComesNext}
@@ -91,7 +91,7 @@ module _ (at : List Float) (s : Present) (there m next tail : List ℕ) (q : Qua
     pub insert-fine : more_check at is m' wide p ≡ fine → edit_check at (slots_of m) k s e ≡ fine
     insert-fine f = check-is ∙ ap (at_place k) f
 
-    module _ (there' next' tail' : List ℕ) (flag : there' ≡ set there p 1) (r : Quadtree) (d : Placed at is m' next' tail' wide p (Done r)) where
+    module _ (there' next' tail' : List ℕ) (flag : there' ≡ set there p 1) (r : Quadtree) (d : Placed at is m' next' tail' wide p (Ok r)) where
       earlier' : (i : ℕ) → In i (is ++ (p ∷ [])) → i < p + 1
       earlier' i n = ⊎_elim (λ l. omega (arith, h.earlier i l)) (λ z. omega arith) (in_snoc i p is n)
 

@@ -1,4 +1,3 @@
-mod Told
 mod Inserting
 mod Removals
 mod Turns

@@ -1,21 +1,21 @@
 -- The turns of editing: what is checked, what is there and how many insertions are left after k edits.
 use mathlib.Core.Path.{◌≡◌, refl, sym, ap, ◌∙◌, subst}
-use mathlib.Core.Logic.{◌⊎◌, inl, inr}
-use mathlib.Core.List.{List, [], ◌∷◌}
-use Prim.Native.Nat.{ℕ, zero, suc, ◌+◌, ◌*◌, ◌≤◌, ◌<◌}
+use mathlib.Core.List.{List, [], ◌∷◌, ◌++◌}
+use Prim.Native.Nat.{ℕ, ◌+◌, ◌*◌, ◌≤◌, ◌<◌}
 use native.Mathlib.Nat.{zero-mul}
 use native.Mathlib.Omega.{arith}
 use lib.ListN.{length, get_or, drop}
 use lib.Ieee.{Float}
+use Rattle.std.specs.Prelude.{Ok}
+use Rattle.std.proofs.lemmas.List.{drop_more, length-drop}
 use Rattle.rules.specs.declared.Extent.{Extent}
 use Rattle.rules.specs.declared.Refusal.{Refusal}
 use Rattle.rules.specs.Plain.{foldl}
 use Rattle.rules.specs.Outcome.{Check, fine, refused, ◌>>=◌}
 use Rattle.rules.specs.Cell.{nowhere}
 use Rattle.rules.specs.Tree.{chains_of, tree_in}
-use Rattle.rules.specs.Edits.{Edit, edit_of, edits_of, insertions, Present, present, edited, present_after, extent_now, tree_now, edit_check, edits_from, edit_words}
+use Rattle.rules.specs.Edits.{Edit, insertion, removal, unknown, edit_of, edits_of, insertions, Present, present, edited, present_after, extent_now, tree_now, edit_check, edits_from, edit_words}
 use Rattle.tree_slots.specs.declared.Quadtree.{Quadtree}
-use Rattle.tree_build.specs.declared.build.Built.TheVariants as Built
 use Rattle.tree_build.specs.Build.{particles}
 use Rattle.rules.proofs.CellRule.{tree-whole, chains_in_lem, chains-length}
 use Rattle.rules.specs.Calls.{slots_of}
@@ -25,8 +25,44 @@ use Rattle.tree_slots.proofs.Trees.{lays_levels}
 use Rattle.tree_placing.specs.Add.{Ranged}
 use Rattle.tree_placing.proofs.AddPlaced.{ranged_points}
 use Rattle.tree_build.proofs.AddBuild.{holds_none, no_extent, holds_lays}
-use Rattle.edits_words.proofs.Words.{edits-next, edits_end}
 use Rattle.edits_made.specs.Editing.{Now, Changed, Stood, AllDone}
+
+-- a rest of one or two words is no edit
+too_few : (w : List ℕ) → length w < edit_words → edits_of w ≡ []
+too_few [] h = refl
+too_few (x ∷ []) h = refl
+too_few (x ∷ y ∷ []) h = refl
+too_few (x ∷ y ∷ z ∷ w) h = absurd (omega (arith, h))
+
+-- the words of edit k, and the edit that they make
+pub record Next (words : List ℕ) (k : ℕ) (e t : List ℕ) : Type 0 where
+  pub more : k * edit_words + edit_words ≤ length words
+  pub kind : get_or words (k * edit_words) 0 ≡ get_or e 0 0
+  pub left : t ≡ drop ((k + 1) * edit_words) words
+  pub next : edits_of (drop (k * edit_words) words) ≡ edit_of (get_or e 0 0) (get_or e 1 0) (get_or e 2 0) ∷ edits_of (drop ((k + 1) * edit_words) words)
+
+pub next_edit : (words : List ℕ) (k : ℕ) (e t : List ℕ) → drop (k * edit_words) words ≡ e ++ t → length e ≡ edit_words → Next words k e t
+next_edit words k [] t h l = absurd (omega (arith, l))
+next_edit words k (a ∷ []) t h l = absurd (omega (arith, l))
+next_edit words k (a ∷ c ∷ []) t h l = absurd (omega (arith, l))
+next_edit words k (a ∷ c ∷ d ∷ x ∷ e) t h l = absurd (omega (arith, l))
+next_edit words k (a ∷ c ∷ d ∷ []) t h l =
+    let n = k * edit_words in
+    let long : n + 3 ≤ length words = omega (arith, length-drop n words, ap length h) in
+    let left : t ≡ drop (n + 3) words = cc (three n long) in
+    let turn : n + 3 ≡ (k + 1) * edit_words = omega arith in
+    record {
+      more = long;
+      kind = cc (three n long);
+      left = rw turn at left;
+      next = ap edits_of h ∙ ap (λ (u : List ℕ). edit_of a c d ∷ edits_of u) (rw turn at left);
+    }
+  where
+    three : (n : ℕ) → n + 3 ≤ length words → drop n words ≡ get_or words n 0 ∷ get_or words (n + 1) 0 ∷ get_or words (n + 2) 0 ∷ drop (n + 3) words
+    three n l =
+        let two : n + 1 + 1 ≡ n + 2 = omega arith in
+        let all : n + 2 + 1 ≡ n + 3 = omega arith in
+        cc (drop_more words n 0 (omega arith), rw two at (drop_more words (n + 1) 0 (omega arith)), rw all at (drop_more words (n + 2) 0 (omega arith)))
 
 module _ (words : List ℕ) (at : List Float) (slots : ℕ) where
   abbrev es : List Edit
@@ -67,68 +103,46 @@ module _ (words : List ℕ) (at : List Float) (slots : ℕ) where
       whole : es ≡ rest 0
       whole = ap (λ (i : ℕ). edits_of (drop i words)) (sym (zero-mul edit_words))
 
-  module _ (there m next tail : List ℕ) (q : Quadtree) (made k : ℕ) (b : Editing there m next tail q made k) (more : k * edit_words + edit_words ≤ length words) where
-    abbrev kind : ℕ
-    kind = get_or words (k * edit_words) 0
-
-    abbrev number : ℕ
-    number = get_or words (k * edit_words + 1) 0
-
-    abbrev third : ℕ
-    third = get_or words (k * edit_words + 2) 0
-
-    abbrev e : Edit
-    e = edit_of kind number third
-
-    next-is : rest k ≡ e ∷ rest (k + 1)
-    next-is = edits-next words k more
+  -- edit k is f
+  module _ (there m next tail : List ℕ) (q : Quadtree) (made k : ℕ) (b : Editing there m next tail q made k) (f : Edit) (next-is : rest k ≡ f ∷ rest (k + 1)) where
+    abbrev s : Present
+    s = present made b.left
 
     -- an insertion has a point
-    pub insertion-left : kind ≡ 0 → made < insertions es
-    insertion-left z = omega (arith, b.count, ap insertions next-is, ap (λ (n : ℕ). insertions (edit_of n number third ∷ rest (k + 1))) z)
+    pub insertion-left : (x y : Float) → f ≡ insertion x y → made < insertions es
+    insertion-left x y z = omega (arith, b.count, ap insertions next-is, ap (λ (f : Edit). insertions (f ∷ rest (k + 1))) z)
 
-    decided : (c : Check) → edit_check at slots k (present made b.left) e ≡ c → edits_from at slots 0 (present 0 []) es ≡ (c >>= λ _. edits_from at slots (k + 1) (edited (present made b.left) e) (rest (k + 1)))
+    decided : (c : Check) → edit_check at slots k s f ≡ c → edits_from at slots 0 (present 0 []) es ≡ (c >>= λ _. edits_from at slots (k + 1) (edited s f) (rest (k + 1)))
     unfolding edits_from
-    decided c f = b.check ∙ ap (edits_from at slots k (present made b.left)) next-is ∙ ap (λ (c : Check). c >>= λ _. edits_from at slots (k + 1) (edited (present made b.left) e) (rest (k + 1))) f
+    decided c h = b.check ∙ ap (edits_from at slots k s) next-is ∙ ap (λ (c : Check). c >>= λ _. edits_from at slots (k + 1) (edited s f) (rest (k + 1))) h
 
-    pub edit_refused : (r : Refusal) → edit_check at slots k (present made b.left) e ≡ refused r → edits_from at slots 0 (present 0 []) es ≡ refused r
-    edit_refused r f = decided (refused r) f
+    pub edit_refused : (r : Refusal) → edit_check at slots k s f ≡ refused r → edits_from at slots 0 (present 0 []) es ≡ refused r
+    edit_refused r h = decided (refused r) h
 
-    module _ (there' m' next' tail' : List ℕ) (r : Quadtree) (d : Changed at slots k (present made b.left) e there' m' next' tail' (Built.Tree r)) where
-      end_is : present_after es ≡ foldl edited (edited (present made b.left) e) (rest (k + 1))
-      end_is = b.end ∙ ap (foldl edited (present made b.left)) next-is
-
-      -- what is there then, and how many were inserted
-      edit-inserted : kind ≡ 0 → Editing there' m' next' tail' r (made + 1) (k + 1)
-      edit-inserted z = go kind z d.1 (decided fine d.0) end_is (b.count ∙ ap (λ (n : ℕ). made + n) (ap insertions next-is))
-        where
-          go : (n : ℕ) → n ≡ 0 → let f = edit_of n number third in let s = edited (present made b.left) f in Now at s there' m' next' tail' r
-              → edits_from at slots 0 (present 0 []) es ≡ edits_from at slots (k + 1) s (rest (k + 1)) → present_after es ≡ foldl edited s (rest (k + 1)) → insertions es ≡ made + insertions (f ∷ rest (k + 1)) → Editing there' m' next' tail' r (made + 1) (k + 1)
-          go zero z h c f i = record { left = _; here = h; check = c; end = f; count = omega (arith, i) }
-          go (suc n) z h c f i = absurd (omega arith)
-
-      edit-removed : (kind ≡ 0 → ⊥) → kind < 2 → Editing there' m' next' tail' r made (k + 1)
-      edit-removed n l = go kind n l d.1 (decided fine d.0) end_is (b.count ∙ ap (λ (n : ℕ). made + n) (ap insertions next-is))
-        where
-          go : (n : ℕ) → (n ≡ 0 → ⊥) → n < 2 → let f = edit_of n number third in let s = edited (present made b.left) f in Now at s there' m' next' tail' r
-              → edits_from at slots 0 (present 0 []) es ≡ edits_from at slots (k + 1) s (rest (k + 1)) → present_after es ≡ foldl edited s (rest (k + 1)) → insertions es ≡ made + insertions (f ∷ rest (k + 1)) → Editing there' m' next' tail' r made (k + 1)
-          go zero z l h c f i = absurd (z refl)
-          go (suc zero) z l h c f i = record { left = _; here = h; check = c; end = f; count = i }
-          go (suc (suc n)) z l h c f i = absurd (omega arith)
-
-      -- either way
-      pub edit-next : kind < 2 → (n : ℕ) → ((kind ≡ 0) × (n ≡ made + 1)) ⊎ ((kind ≡ 0 → ⊥) × (n ≡ made)) → Editing there' m' next' tail' r n (k + 1)
-      edit-next l n (inl (z, f)) = rw f (edit-inserted z)
-      edit-next l n (inr (z, f)) = rw f (edit-removed z l)
+    -- what is there then, and how many were inserted
+    pub edit-done : (there' m' next' tail' : List ℕ) (r : Quadtree) → Changed at slots k s f there' m' next' tail' (Ok r) → Editing there' m' next' tail' r (edited s f).made (k + 1)
+    edit-done there' m' next' tail' r d =
+        record {
+          left = (edited s f).left;
+          here = d.1;
+          check = decided fine d.0;
+          end = b.end ∙ ap (foldl edited s) next-is;
+          count = b.count ∙ ap (λ (n : ℕ). made + n) (ap insertions next-is) ∙ counted f;
+        }
+      where
+        counted : (f : Edit) → made + insertions (f ∷ rest (k + 1)) ≡ (edited s f).made + insertions (rest (k + 1))
+        counted (insertion x y) = omega arith
+        counted (removal i) = refl
+        counted unknown = refl
 
   -- after the last edit
-  module _ (there m next tail : List ℕ) (q : Quadtree) (made k : ℕ) (b : Editing there m next tail q made k) (none : length words < k * edit_words + edit_words) where
+  module _ (there m next tail : List ℕ) (q : Quadtree) (made k : ℕ) (b : Editing there m next tail q made k) (none : length (drop (k * edit_words) words) < edit_words) where
     edits-fine : edits_from at slots 0 (present 0 []) es ≡ fine
     unfolding edits_from
-    edits-fine = b.check ∙ ap (edits_from at slots k (present made b.left)) (edits_end words k none)
+    edits-fine = b.check ∙ ap (edits_from at slots k (present made b.left)) (too_few (drop (k * edit_words) words) none)
 
     edits-present : present_after es ≡ present made b.left
-    edits-present = b.end ∙ ap (foldl edited (present made b.left)) (edits_end words k none)
+    edits-present = b.end ∙ ap (foldl edited (present made b.left)) (too_few (drop (k * edit_words) words) none)
 
     -- what is there stands in the slots
     stood : Ranged at (particles at) → made ≤ particles at → Stood at (tree_now at (present made b.left)) (extent_now at (present made b.left)) m next q
@@ -146,7 +160,7 @@ module _ (words : List ℕ) (at : List Float) (slots : ℕ) where
           few = omega (arith, chains-length at (tree_in at c is) c is rule, rises_length 0 made is (omega arith) h.earlier h.rises);
         }
 
-    pub edits_done : Ranged at (particles at) → made ≤ particles at → slots_of m ≡ slots → AllDone words at m next (Built.Tree q)
+    pub edits_done : Ranged at (particles at) → made ≤ particles at → slots_of m ≡ slots → AllDone words at m next (Ok q)
     edits_done r l s = (
       ap (λ (n : ℕ). edits_from at n 0 (present 0 []) es) s ∙ edits-fine,
       subst (λ (x : Present). Stood at (tree_now at x) (extent_now at x) m next q) (sym edits-present) (stood r l),

@@ -5,9 +5,8 @@ ghost use Rattle.rules.specs.Calls.{slots_of};
 ghost use Rattle.tree_build.specs.Build.{particles};
 ghost use Rattle.edits_made.specs.Editing.{Now, FlagsLent, Changed};
 
-use crate::refuse::refused;
-use tree_build::build::{Built, add_next};
-use tree_placing::Inserted;
+use rules::Refusal;
+use tree_build::build::add_next;
 use tree_slots::Quadtree;
 
 // Edit k inserts the point whose number is `made`.
@@ -20,19 +19,14 @@ pub fn insert_next(
     q: Quadtree,
     made: usize,
     k: usize,
-) -> Built
+) -> Result<Quadtree, Refusal>
     requires { (is : List ℕ) × Now at.now (present made is) there.old m.old next.old tail.old q
         × FlagsLent at.now there.old next.old tail.old × (made < particles at.now) }
     ensures { (is : List ℕ) (x y : Float) → Now at.now (present made is) there.old m.old next.old tail.old q
         → Changed at.now (slots_of m.old) k (present made is) (insertion x y) there.new m.new next.new tail.new result }
 {
-    let answer = add_next(at, next, tail, m, q, made);
-    match answer {
-        Inserted::Done(more) => {
-            there[made] = 1;
-            Built::Tree(more)
-        }
-        Inserted::Deep => refused(6, k),
-        Inserted::Full => refused(7, k),
-    }
+    let added = add_next(at, next, tail, m, q, made);
+    let more = added.map_err(|reason| Refusal::new(reason, k as u64))?;
+    there[made] = 1;
+    Ok(more)
 }

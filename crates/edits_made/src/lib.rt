@@ -3,5 +3,4 @@
 
 pub mod edit;
 mod insert;
-mod refuse;
 mod remove;

@@ -5,8 +5,7 @@ ghost use Rattle.rules.specs.Calls.{slots_of};
 ghost use Rattle.tree_build.specs.Build.{particles};
 ghost use Rattle.edits_made.specs.Editing.{Now, FlagsLent, Changed};
 
-use crate::refuse::refused;
-use tree_build::build::Built;
+use rules::{Reason, Refusal};
 use tree_removing::remove::remove;
 use tree_slots::Quadtree;
 
@@ -21,19 +20,16 @@ pub fn remove_one(
     made: usize,
     number: u64,
     k: usize,
-) -> Built
+) -> Result<Quadtree, Refusal>
     requires { (is : List ℕ) × Now at.now (present made is) there.old m.old next.old tail.old q
         × FlagsLent at.now there.old next.old tail.old × (made ≤ particles at.now) }
     ensures { (is : List ℕ) → Now at.now (present made is) there.old m.old next.old tail.old q
         → Changed at.now (slots_of m.old) k (present made is) (removal number) there.new m.new next.new tail.new result }
 {
-    if number >= made as u64 {
-        return refused(15, k);
-    }
     let i = number as usize;
-    if there[i] == 0 {
-        return refused(15, k);
+    if i >= made || there[i] == 0 {
+        return Err(Refusal::new(Reason::NotThere, k as u64));
     }
     there[i] = 0;
-    Built::Tree(remove(m, at, next, tail, q, i))
+    Ok(remove(m, at, next, tail, q, i))
 }

@@ -1,68 +1,63 @@
--- What an edit is by its kind, and what one turn of each loop over the edits does.
-use mathlib.Core.Path.{◌≡◌, refl, sym, ap, ◌∙◌}
-use mathlib.Core.List.{List, ◌∷◌, ◌++◌, append-nil}
-use Prim.Native.Nat.{ℕ, zero, suc, ◌+◌, ◌*◌, ◌≤◌, ◌<◌}
+-- What an edit that is taken off the words adds to the insertions and to their points, by its kind, and how one of a known kind is passed.
+use mathlib.Core.Path.{◌≡◌, refl, sym, ◌∙◌}
+use mathlib.Core.List.{List, [], ◌∷◌, ◌++◌}
+use Prim.Native.Nat.{ℕ, zero, suc, ◌+◌}
 use native.Mathlib.Omega.{arith}
-use lib.ListN.{length, get_or, take, drop, set}
-use lib.Seq.{take_all}
-use lib.Ieee.{Float}
+use lib.ListN.{length, get_or}
+use lib.Dec.{leb}
+use borrow.Author.Tests.{lt-leb}
+use Rattle.std.proofs.Common.{Result, Ok}
+use Rattle.rules.specs.declared.Refusal.{Refusal}
+use Rattle.rules.specs.Outcome.{require, result_of, check_from, ◌>>=◌}
+use Rattle.rules.proofs.OutcomeLaws.{ok_goes_on}
 use Rattle.rules.specs.Number.{float_of}
-use Rattle.rules.specs.Outcome.{fine, require, refusal, no_refusal, refusal_of}
-use Rattle.rules.specs.Edits.{Edit, insertion, edit_of, edits_of, points_of, insertions, point_check, known, edit_words}
-use Rattle.sheet.proofs.Turns.{two-more}
-use Rattle.edits_words.proofs.Words.{edits-next, edits_end}
+use Rattle.rules.specs.Edits.{Edit, edit_of, edits_of, points_of, insertions, known, edit_words}
 
--- ---- an edit by its kind
+-- an edit by its kind
+adds_point : (kind x y : ℕ) (es : List Edit) → kind ≡ 0 → points_of (edit_of kind x y ∷ es) ≡ float_of x ∷ float_of y ∷ points_of es
+adds_point zero x y es h = refl
+adds_point (suc k) x y es h = absurd (omega arith)
 
--- one that is no insertion
-pub no_point : (i kind x y : ℕ) → (kind ≡ 0 → ⊥) → point_check i (edit_of kind x y) ≡ fine
-no_point i zero x y h = absurd (h refl)
-no_point i (suc zero) x y h = refl
-no_point i (suc (suc k)) x y h = refl
+adds_one : (kind x y : ℕ) (es : List Edit) → kind ≡ 0 → insertions (edit_of kind x y ∷ es) ≡ insertions es + 1
+adds_one zero x y es h = omega arith
+adds_one (suc k) x y es h = absurd (omega arith)
 
 adds_nothing : (kind x y : ℕ) (es : List Edit) → (kind ≡ 0 → ⊥) → (points_of (edit_of kind x y ∷ es) ≡ points_of es) × (insertions (edit_of kind x y ∷ es) ≡ insertions es)
 adds_nothing zero x y es h = absurd (h refl)
 adds_nothing (suc zero) x y es h = (refl, refl)
 adds_nothing (suc (suc k)) x y es h = (refl, refl)
 
--- from 2 on a kind is unknown
-pub kind_refused : (i kind x y : ℕ) → 1 < kind → refusal 5 i ≡ refusal_of (require (known (edit_of kind x y)) 5 i)
-kind_refused i zero x y h = absurd (omega arith)
-kind_refused i (suc zero) x y h = absurd (omega arith)
-kind_refused i (suc (suc k)) x y h = refl
+-- the edit's words, and the words that are left
+pub inserted : (edit left : List ℕ) → length edit ≡ edit_words → get_or edit 0 0 ≡ 0
+    → (points_of (edits_of (edit ++ left)) ≡ float_of (get_or edit 1 0) ∷ float_of (get_or edit 2 0) ∷ points_of (edits_of left))
+    × (insertions (edits_of (edit ++ left)) ≡ insertions (edits_of left) + 1)
+inserted [] left n h = absurd (omega arith)
+inserted (a ∷ []) left n h = absurd (omega arith)
+inserted (a ∷ b ∷ []) left n h = absurd (omega arith)
+inserted (a ∷ b ∷ c ∷ []) left n h = (adds_point a b c (edits_of left) h, adds_one a b c (edits_of left) h)
+inserted (a ∷ b ∷ c ∷ d ∷ l) left n h = absurd (omega arith)
 
-pub kind-passed : (i kind x y : ℕ) → kind ≤ 1 → no_refusal ≡ refusal_of (require (known (edit_of kind x y)) 5 i)
-kind-passed i zero x y h = refl
-kind-passed i (suc zero) x y h = refl
-kind-passed i (suc (suc k)) x y h = absurd (omega arith)
+pub passed_over : (edit left : List ℕ) → length edit ≡ edit_words → (get_or edit 0 0 ≡ 0 → ⊥)
+    → (points_of (edits_of (edit ++ left)) ≡ points_of (edits_of left)) × (insertions (edits_of (edit ++ left)) ≡ insertions (edits_of left))
+passed_over [] left n h = absurd (omega arith)
+passed_over (a ∷ []) left n h = absurd (omega arith)
+passed_over (a ∷ b ∷ []) left n h = absurd (omega arith)
+passed_over (a ∷ b ∷ c ∷ []) left n h = adds_nothing a b c (edits_of left) h
+passed_over (a ∷ b ∷ c ∷ d ∷ l) left n h = absurd (omega arith)
 
--- ---- edit k, and those after it
+-- an edit of a known kind is passed
+known_words : (edit left : List ℕ) (k : ℕ) → length edit ≡ edit_words
+    → check_from (λ k e. require (known e) 5 k) k (edits_of (edit ++ left)) ≡ require (leb (get_or edit 0 0) 1) 5 k >>= λ _. check_from (λ k e. require (known e) 5 k) (k + 1) (edits_of left)
+known_words [] left k n = absurd (omega arith)
+known_words (a ∷ []) left k n = absurd (omega arith)
+known_words (a ∷ b ∷ []) left k n = absurd (omega arith)
+known_words (zero ∷ b ∷ c ∷ []) left k n = refl
+known_words (suc zero ∷ b ∷ c ∷ []) left k n = refl
+known_words (suc (suc a) ∷ b ∷ c ∷ []) left k n = rw (lt-leb (suc (suc a)) 1 (omega arith))
+known_words (a ∷ b ∷ c ∷ d ∷ l) left k n = absurd (omega arith)
 
-module _ (w : List ℕ) (k : ℕ) (room : k * edit_words + edit_words ≤ length w) where
-  here : get_or w (k * edit_words) 0 ≡ 0 → edits_of (drop (k * edit_words) w) ≡ insertion (float_of (get_or w (k * edit_words + 1) 0)) (float_of (get_or w (k * edit_words + 2) 0)) ∷ edits_of (drop ((k + 1) * edit_words) w)
-  here e = edits-next w k room ∙ rw e
-
-  past : (get_or w (k * edit_words) 0 ≡ 0 → ⊥)
-      → (points_of (edits_of (drop (k * edit_words) w)) ≡ points_of (edits_of (drop ((k + 1) * edit_words) w)))
-      × (insertions (edits_of (drop (k * edit_words) w)) ≡ insertions (edits_of (drop ((k + 1) * edit_words) w)))
-  past h = rw (edits-next w k room) (adds_nothing (get_or w (k * edit_words) 0) (get_or w (k * edit_words + 1) 0) (get_or w (k * edit_words + 2) 0) (edits_of (drop ((k + 1) * edit_words) w)) h)
-
-  pub count-here : get_or w (k * edit_words) 0 ≡ 0 → insertions (edits_of (drop (k * edit_words) w)) ≡ insertions (edits_of (drop ((k + 1) * edit_words) w)) + 1
-  count-here e = ap insertions (here e) ∙ omega arith
-
-  pub count_past : (get_or w (k * edit_words) 0 ≡ 0 → ⊥) → insertions (edits_of (drop (k * edit_words) w)) ≡ insertions (edits_of (drop ((k + 1) * edit_words) w))
-  count_past h = (past h).1
-
-  -- its point is stored at i, where those before it end
-  pub read_here : (places : List Float) (i : ℕ) → get_or w (k * edit_words) 0 ≡ 0 → i + 1 < length places
-      → take (i + 2) (set (set places i (float_of (get_or w (k * edit_words + 1) 0))) (i + 1) (float_of (get_or w (k * edit_words + 2) 0))) ++ points_of (edits_of (drop ((k + 1) * edit_words) w))
-      ≡ take i places ++ points_of (edits_of (drop (k * edit_words) w))
-  read_here places i e h = two-more places i _ _ _ h ∙ ap (λ (es : List Edit). take i places ++ points_of es) (sym (here e))
-
-  pub read_past : (places : List Float) (i : ℕ) → (get_or w (k * edit_words) 0 ≡ 0 → ⊥)
-      → take i places ++ points_of (edits_of (drop ((k + 1) * edit_words) w)) ≡ take i places ++ points_of (edits_of (drop (k * edit_words) w))
-  read_past places i h = ap (λ (l : List Float). take i places ++ l) (sym (past h).0)
-
--- no edit is left
-pub read_end : (w : List ℕ) (k : ℕ) (places : List Float) (i : ℕ) → length w < k * edit_words + edit_words → length places ≤ i → take i places ++ points_of (edits_of (drop (k * edit_words) w)) ≡ places
-read_end w k places i h r = rw (edits_end w k h, take_all i places r) (append-nil places)
+pub known_on : (rest edit left : List ℕ) (k : ℕ) {r : Result (Unit {0}) Refusal} {t : Unit {0}} → rest ≡ edit ++ left → length edit ≡ edit_words
+    → r ≡ result_of (require (leb (get_or edit 0 0) 1) 5 k) → r ≡ Ok t
+    → check_from (λ k e. require (known e) 5 k) (k + 1) (edits_of left) ≡ check_from (λ k e. require (known e) 5 k) k (edits_of rest)
+known_on rest edit left k {r} {t} e n is ok =
+    rw (e, known_words edit left k n) (sym (ok_goes_on (require (leb (get_or edit 0 0) 1) 5 k) (λ _. check_from (λ k e. require (known e) 5 k) (k + 1) (edits_of left)) t (sym is ∙ ok)))

@@ -27,10 +27,6 @@ three-off w k h = two-off w (k * edit_words) 0 (omega arith) ∙ rw (list_left w
     e : k * edit_words + 2 + 1 ≡ (k + 1) * edit_words
     e = omega arith
 
--- edit k, by its three words
-abbrev pub edit_at : List ℕ → ℕ → Edit
-edit_at w k = edit_of (get_or w (k * edit_words) 0) (get_or w (k * edit_words + 1) 0) (get_or w (k * edit_words + 2) 0)
-
 pub edits-next : (w : List ℕ) (k : ℕ) → k * edit_words + edit_words ≤ length w
     → edits_of (drop (k * edit_words) w) ≡ edit_of (get_or w (k * edit_words) 0) (get_or w (k * edit_words + 1) 0) (get_or w (k * edit_words + 2) 0) ∷ edits_of (drop ((k + 1) * edit_words) w)
 edits-next w k h = ap edits_of (three-off w k h)

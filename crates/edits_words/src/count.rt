@@ -7,14 +7,12 @@ use rules::EDIT_WORDS;
 pub fn insertions(edits: &[u64]) -> usize
     ensures { result ≡ Edits.insertions (Edits.edits_of edits.now) }
 {
-    let n = edits.len() / EDIT_WORDS;
-    let mut made: usize = 0;
-    let mut k: usize = 0;
-    while k < n {
-        if edits[k * EDIT_WORDS] == 0 {
-            made = made + 1;
+    // A loop: of `filter` and `count` the proof didn't close, that what they count are the insertions.
+    let mut made = 0;
+    for edit in edits.chunks_exact(EDIT_WORDS) {
+        if edit[0] == 0 {
+            made += 1;
         }
-        k = k + 1;
     }
     made
 }

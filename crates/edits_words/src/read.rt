@@ -9,16 +9,12 @@ pub fn read_points(edits: &[u64], places: &mut [f64])
     requires { length places.old ≡ insertions (edits_of edits.now) * 2 }
     ensures { places.new ≡ points_of (edits_of edits.now) }
 {
-    let n = edits.len() / EDIT_WORDS;
-    let mut i: usize = 0;
-    let mut k: usize = 0;
-    while k < n {
-        let j = k * EDIT_WORDS;
-        if edits[j] == 0 {
-            places[i] = float_of(edits[j + 1]);
-            places[i + 1] = float_of(edits[j + 2]);
-            i = i + 2;
+    let mut i = 0;
+    for edit in edits.chunks_exact(EDIT_WORDS) {
+        if edit[0] == 0 {
+            places[i] = float_of(edit[1]);
+            places[i + 1] = float_of(edit[2]);
+            i += 2;
         }
-        k = k + 1;
     }
 }

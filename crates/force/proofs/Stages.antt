@@ -8,7 +8,7 @@ use native.Mathlib.Omega.{arith}
 use borrow.Author.Tests.{eq-eqb, ne_eqb}
 use lib.ListN.{length}
 use lib.Ieee.{Float}
-use Rattle.std.specs.Prelude.{Result, Ok, Err}
+use Rattle.std.specs.Prelude.{Result, Ok, Err, IfErr}
 use Rattle.rules.specs.Plain.{count_from, up_to}
 use Rattle.rules.specs.declared.Progress.{Progress}
 use Rattle.rules.specs.declared.Refusal.{Refusal}
@@ -20,7 +20,7 @@ use Rattle.force.specs.Draws.{From}
 use Rattle.force.specs.declared.lent.Draws.{Draws}
 use Rattle.force.specs.Draws as Draws
 use Rattle.force.specs.Draws.{came_to, OnlyDry, Further}
-use Rattle.force.specs.Ran.{flow_at, ended, ended_by, ran_check, ran_of, RanAs}
+use Rattle.force.specs.Ran.{flow_at, ended, ended_by, ran_check, ran_of, IsLate, RanAs}
 
 module _ (vs draws : List Float) (r : Ran) where
   pub ran_refused : (r.refusal.number ≡ 0 → ⊥) → ran_of vs draws r ≡ refused r.refusal
@@ -41,15 +41,24 @@ module _ (vs draws : List Float) (p now : Progress) (same : now.alpha ≡ p.alph
   unfolding ran_of ran_check zeroes_work
   ran_done e = record { is = e; alpha = same; draws = from; late = refl }
 
+-- 8 is met on the way
+pub dry_late : {A : Type 0} (r : Result A Refusal) → OnlyDry r → IfErr r IsLate
+unfolding zeroes_work
+dry_late (Ok a) d = tt
+dry_late (Err q) d = rw d ((λ z. absurd (omega (arith, z))), refl)
+
 -- a force that began at p, with the draws `old` of those lent, and answered r with the draws `new`
 module _ (vs draws : List Float) (p : Progress) (old new : Draws) (lent : old.lent.now ≡ draws) (begun : old.used ≡ p.used) (further : Further old new) where
   reach : From draws p.used new.used
   reach = let h = new.in_range in record { begun = omega (arith, further.begun); reach = rw (further.same, lent) at h }
 
-  pub ran_ended : (visits : ℕ) (r : Result (Unit {0}) Refusal) {o : Outcome (Counted Flow)} → OnlyDry r → came_to r (λ _. counted (flow vs (Draws.left new)) visits) ≡ o → RanAs vs draws p (ended_by r p new visits) o
+  pub ran_ended_late : (visits : ℕ) (r : Result (Unit {0}) Refusal) {o : Outcome (Counted Flow)} → IfErr r IsLate → came_to r (λ _. counted (flow vs (Draws.left new)) visits) ≡ o → RanAs vs draws p (ended_by r p new visits) o
   unfolding ran_of ran_check zeroes_work
-  ran_ended visits (Ok a) d e = record { is = rw (further.same, lent) at e; alpha = refl; draws = reach; late = refl }
-  ran_ended visits (Err q) d e = record { is = let e = rw d at e in rw d e; alpha = refl; draws = reach; late = rw d }
+  ran_ended_late visits (Ok a) l e = record { is = rw (further.same, lent) at e; alpha = refl; draws = reach; late = refl }
+  ran_ended_late visits (Err q) l e = record { is = ran_refused vs draws (ended_by (Err q) p new visits) l.0 ∙ e; alpha = refl; draws = reach; late = l.1 }
+
+  pub ran_ended : (visits : ℕ) (r : Result (Unit {0}) Refusal) {o : Outcome (Counted Flow)} → OnlyDry r → came_to r (λ _. counted (flow vs (Draws.left new)) visits) ≡ o → RanAs vs draws p (ended_by r p new visits) o
+  ran_ended visits r d e = ran_ended_late visits r (dry_late r d) e
 
 -- it is refused before it begins, by a number that is met on the way
 pub refused_at_once : (vs draws : List Float) (p : Progress) (r : Refusal) → p.used ≤ length draws → (r.number ≡ 0 → ⊥) → zeroes_work r ≡ true

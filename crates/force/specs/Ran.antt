@@ -36,6 +36,10 @@ ran_check r = cond (eqb r.refusal.number 0) fine (refused r.refusal)
 unfoldable pub ran_of : List Float → List Float → Ran → Outcome (Counted Flow)
 ran_of vs ds r = ran_check r >>= λ _. done (flow_at vs ds r.progress)
 
+-- a refusal that is met on the way
+abbrev pub IsLate : Refusal → Type 0
+IsLate r = (r.number ≡ 0 → ⊥) × (zeroes_work r ≡ true)
+
 -- The force began at p and ended as o; where it refuses, the work slots are zeroed.
 pub record RanAs (vs ds : List Float) (p : Progress) (r : Ran) (o : Outcome (Counted Flow)) : Type 0 where
   pub is : ran_of vs ds r ≡ o

@@ -1,5 +1,5 @@
 -- How many ends each particle has: lists of counts.
-use mathlib.Core.Path.{◌≡◌, refl, sym, ap, ap₂, ◌∙◌}
+use mathlib.Core.Path.{◌≡◌, refl, sym, ap, ◌∙◌}
 use mathlib.Core.Bool.{Bool, true, false, cond}
 use mathlib.Core.List.{List, [], ◌∷◌, ◌++◌, map}
 use Prim.Native.Nat.{ℕ, zero, suc, ◌+◌, ◌*◌, ◌/◌, ◌^◌, ◌≤◌, ◌<◌}
@@ -113,31 +113,35 @@ module _ {n : ℕ} {links : List ℕ} (lent : EndsLent n links) (k : ℕ) (h : k
         lent.few,
       )
 
-  module _ (s t : ℕ) (es' : s ≡ get_or links (k * 2) 0) (et : t ≡ get_or links (k * 2 + 1) 0) where
-    hs : s < n
-    hs = rw es' (lent.range (k * 2) (omega arith))
+  abbrev s : ℕ
+  s = get_or links (k * 2) 0
 
-    ht : t < n
-    ht = rw et (lent.range (k * 2 + 1) (omega arith))
+  abbrev t : ℕ
+  t = get_or links (k * 2 + 1) 0
 
-    -- both ends have counts, and one more fits each
-    pub count_room : (s < length cs) × (t < length cs) × (get_or cs s 0 < 2 ^ 31) × (get_or (one_more cs s) t 0 < 2 ^ 31)
-    count_room =
-        let hl : s < length cs = omega (arith, long, hs) in (
-          hl,
-          omega (arith, long, ht),
-          omega (arith, small s hs),
-          omega (arith, small t ht, counted-at cs s t hl, one_most (eqb s t)),
-        )
+  hs : s < n
+  hs = lent.range (k * 2) (omega arith)
 
-    -- both are counted
-    pub count_turn : (cs' : List ℕ) → cs' ≡ one_more (one_more cs s) t → cs' ≡ tallies n (ends_from links (k + 1))
-    count_turn cs' g =
-        g
-        ∙ ap (λ (l : List ℕ). one_more (one_more l s) t) is
-        ∙ tally_turn n (ends_from links k) s t hs ht
-        ∙ ap₂ (λ (a b : ℕ). tallies n (ends_from links k ++ (ends a b ∷ []))) es' et
-        ∙ ap (tallies n) (sym (ends_more links k (omega arith)))
+  ht : t < n
+  ht = lent.range (k * 2 + 1) (omega arith)
+
+  -- both ends have counts, and one more fits each
+  pub count_room : (s < length cs) × (t < length cs) × (get_or cs s 0 < 2 ^ 31) × (get_or (one_more cs s) t 0 < 2 ^ 31)
+  count_room =
+      let hl : s < length cs = omega (arith, long, hs) in (
+        hl,
+        omega (arith, long, ht),
+        omega (arith, small s hs),
+        omega (arith, small t ht, counted-at cs s t hl, one_most (eqb s t)),
+      )
+
+  -- both are counted
+  pub count_turn : (cs' : List ℕ) → cs' ≡ one_more (one_more cs s) t → cs' ≡ tallies n (ends_from links (k + 1))
+  count_turn cs' g =
+      g
+      ∙ ap (λ (l : List ℕ). one_more (one_more l s) t) is
+      ∙ tally_turn n (ends_from links k) s t hs ht
+      ∙ ap (tallies n) (sym (ends_more links k (omega arith)))
 
 -- ---- the counts once they are all made
 

@@ -1,5 +1,5 @@
 // link.rs: each link pulls its two ends towards its distance.
-ghost use Rattle.std.specs.Prelude.{◌≡◌, [], ◌+◌, ◌*◌, ◌/◌, ◌%◌, ◌≤◌, ◌<◌, length, get_or, drop};
+ghost use Rattle.std.specs.Prelude.{◌≡◌, [], ◌+◌, ◌*◌, ◌/◌, ◌%◌, ◌≤◌, ◌<◌, length, get_or};
 ghost use Rattle.std.specs.Float.{nan};
 ghost use Rattle.rules.specs.Number.{◌⊕◌, ◌⊖◌, ◌⊗◌, ◌⊘◌, 1·};
 ghost use Rattle.rules.specs.Refusal.{most_particles};
@@ -7,15 +7,14 @@ ghost use Rattle.rules.specs.Root as Root;
 ghost use Rattle.rules.specs.Flow.{flow, gap, length², pushed};
 ghost use Rattle.rules.specs.Link as Link;
 ghost use Rattle.rules.specs.Force.{ends_of};
-ghost use Rattle.force.specs.Draws.{spent_of, From};
+ghost use Rattle.force.specs.Draws.{left, came_to, OnlyDry, Further};
 ghost use Rattle.force.specs.Ran.{flow_at, RanAs};
 ghost use Rattle.link.specs.Links.{EndsLent, NumbersLent, LinksReady, tallies, pull_at, pull_each, link_outcome};
 ghost use Rattle.list_checks.specs.Checks.{ends_at};
 
-use force::{Ran, Spent, push_back, push_on, shaken};
+use force::{Draws, Ran, push_back, push_on};
 use link_tally::{bias, count_link, strength_at};
-use number::wide;
-use rules::{MOST_PARTICLES, Progress};
+use rules::{MOST_PARTICLES, Progress, Refusal};
 use square_root::root;
 
 // How many ends each particle has, from counts that are all zero.
@@ -23,12 +22,8 @@ fn count_ends(links: &[u32], counts: &mut [u32])
     requires { EndsLent (length counts.old) links.now × (counts.old ≡ tallies (length counts.old) []) }
     ensures { counts.new ≡ tallies (length counts.old) (ends_of links.now) }
 {
-    let n = links.len() / 2;
-    let mut k: usize = 0;
-    while k < n {
-        let at = k * 2;
-        count_link(counts, wide(links[at]), wide(links[at + 1]));
-        k = k + 1;
+    for k in 0..links.len() / 2 {
+        count_link(counts, links[k * 2] as usize, links[k * 2 + 1] as usize);
     }
 }
 
@@ -74,9 +69,8 @@ fn tie(
     ensures { vs.new
         ≡ Link.tied (ends_of links.now) strengths.now distances.now alpha k (ends_at links.now k) (gap x y) vs.old }
 {
-    let i = k * 2;
-    let source = wide(links[i]);
-    let target = wide(links[i + 1]);
+    let source = links[k * 2] as usize;
+    let target = links[k * 2 + 1] as usize;
     let from = counts[source];
     let to = counts[target];
     let l = pull_of(
@@ -90,6 +84,7 @@ fn tie(
 }
 
 // Link number k. Self-links are skipped.
+#[tactic(auto, unfolding(rules::specs::Link::pull))]
 fn pull(
     at: &[f64],
     vs: &mut [f64],
@@ -99,31 +94,24 @@ fn pull(
     distances: &[f64],
     k: usize,
     alpha: f64,
-    draws: &[f64],
-    used: usize,
-) -> Spent
+    draws: &mut Draws,
+) -> Result<(), Refusal>
     requires { LinksReady vs.old links.now counts.now × NumbersLent links.now strengths.now distances.now
-        × (length at.now ≡ length vs.old) × (k < length links.now / 2) × (used ≤ length draws.now) }
-    ensures is { spent_of vs.new draws.now result
-        ≡ pull_at at.now links.now strengths.now distances.now alpha k (flow vs.old (drop used draws.now)) }
-    ensures from { From draws.now used result.used }
+        × (length at.now ≡ length vs.old) × (k < length links.now / 2) }
+    ensures is { came_to result (λ _. flow vs.new (left draws.new))
+        ≡ pull_at at.now links.now strengths.now distances.now alpha k (flow vs.old (left draws.old)) }
+    ensures further { Further draws.old draws.new }
+    ensures dry { OnlyDry result }
 {
-    let i = k * 2;
-    let source = wide(links[i]);
-    let target = wide(links[i + 1]);
-    if source == target {
-        return Spent { used, dry: false };
+    let source = links[k * 2] as usize;
+    let target = links[k * 2 + 1] as usize;
+    if source != target {
+        let x = between(at, vs, source * 2, target * 2);
+        let y = between(at, vs, source * 2 + 1, target * 2 + 1);
+        let g = draws.shaken(x, y)?;
+        tie(vs, links, counts, strengths, distances, k, alpha, g.x, g.y);
     }
-    let x = between(at, vs, source * 2, target * 2);
-    let y = between(at, vs, source * 2 + 1, target * 2 + 1);
-    let g = shaken(draws, used, x, y);
-    let used = g.used;
-    let dry = g.dry;
-    if dry {
-        return Spent { used, dry: true };
-    }
-    tie(vs, links, counts, strengths, distances, k, alpha, g.x, g.y);
-    Spent { used, dry: false }
+    Ok(())
 }
 
 // Every link once, in order; later links see earlier changes.
@@ -135,36 +123,19 @@ fn pull_all(
     strengths: &[f64],
     distances: &[f64],
     alpha: f64,
-    draws: &[f64],
-    used: usize,
-) -> Spent
+    draws: &mut Draws,
+) -> Result<(), Refusal>
     requires { LinksReady vs.old links.now counts.now × NumbersLent links.now strengths.now distances.now
-        × (length at.now ≡ length vs.old) × (used ≤ length draws.now) }
-    ensures is { spent_of vs.new draws.now result
-        ≡ pull_each at.now links.now strengths.now distances.now alpha (flow vs.old (drop used draws.now)) }
-    ensures from { From draws.now used result.used }
+        × (length at.now ≡ length vs.old) }
+    ensures is { came_to result (λ _. flow vs.new (left draws.new))
+        ≡ pull_each at.now links.now strengths.now distances.now alpha (flow vs.old (left draws.old)) }
+    ensures further { Further draws.old draws.new }
+    ensures dry { OnlyDry result }
 {
-    let n = links.len() / 2;
-    let mut spent = used;
-    let mut k: usize = 0;
-    while k < n {
-        let s = pull(
-            at, vs, links, counts, strengths, distances, k, alpha, draws, spent,
-        );
-        let dry = s.dry;
-        spent = s.used;
-        if dry {
-            return Spent {
-                used: spent,
-                dry: true,
-            };
-        }
-        k = k + 1;
+    for k in 0..links.len() / 2 {
+        pull(at, vs, links, counts, strengths, distances, k, alpha, draws)?;
     }
-    Spent {
-        used: spent,
-        dry: false,
-    }
+    Ok(())
 }
 
 // The counts are worked out once, into a lent list of zeros.
@@ -176,37 +147,21 @@ fn iterate(
     strengths: &[f64],
     distances: &[f64],
     iterations: usize,
-    draws: &[f64],
-    p: Progress,
-) -> Ran
+    alpha: f64,
+    draws: &mut Draws,
+) -> Result<(), Refusal>
     requires { EndsLent (length counts.old) links.now × NumbersLent links.now strengths.now distances.now × (counts.old ≡ tallies (length counts.old) [])
-        × (length at.now ≡ length counts.old * 2) × (length vs.old ≡ length counts.old * 2) × (p.used ≤ length draws.now) }
-    ensures { RanAs vs.new draws.now p result
-        (link_outcome at.now links.now strengths.now distances.now iterations p.alpha (flow_at vs.old draws.now p)) }
+        × (length at.now ≡ length counts.old * 2) × (length vs.old ≡ length counts.old * 2) }
+    ensures is { came_to result (λ _. flow vs.new (left draws.new))
+        ≡ Link.run_link at.now (ends_of links.now) strengths.now distances.now iterations alpha (flow vs.old (left draws.old)) }
+    ensures further { Further draws.old draws.new }
+    ensures dry { OnlyDry result }
 {
     count_ends(links, counts);
-    let mut reached = p;
-    let mut i: usize = 0;
-    while i < iterations {
-        let s = pull_all(
-            at,
-            vs,
-            links,
-            counts,
-            strengths,
-            distances,
-            p.alpha,
-            draws,
-            reached.used,
-        );
-        let dry = s.dry;
-        reached.used = s.used;
-        if dry {
-            return Ran::dry(reached);
-        }
-        i = i + 1;
+    for i in 0..iterations {
+        pull_all(at, vs, links, counts, strengths, distances, alpha, draws)?;
     }
-    Ran::done(reached)
+    Ok(())
 }
 
 // The force. No node is handed out: the visits stay as they were handed in.
@@ -227,7 +182,8 @@ pub fn link(
 {
     let n = vs.len() / 2;
     let mut counts = [0u32; MOST_PARTICLES];
-    iterate(
+    let mut draws = Draws::new(draws, p.used);
+    let end = iterate(
         at,
         vs,
         links,
@@ -235,7 +191,8 @@ pub fn link(
         strengths,
         distances,
         iterations,
-        draws,
-        p,
-    )
+        p.alpha,
+        &mut draws,
+    );
+    Ran::ended(end, p, &draws, p.visits)
 }

@@ -1,6 +1,6 @@
 -- A particle's walk over the tree with its charges. Assumes nothing.
 use mathlib.Core.Path.{◌≡◌, refl, sym, ap, ◌∙◌}
-use mathlib.Core.List.{List}
+use mathlib.Core.List.{List, []}
 use Prim.Native.Nat.{ℕ, zero, suc}
 use native.Mathlib.Omega.{arith}
 use lib.ListN.{length}
@@ -14,25 +14,14 @@ use Rattle.rules.specs.Walk.{Entry, internal, tip, Counted, After, walk}
 use Rattle.rules.specs.Flow.{Flow}
 use Rattle.rules.specs.ManyBody.{charged_tree, many_body_step}
 use Rattle.tree_slots.specs.declared.Quadtree.{Quadtree}
-use Rattle.tree_walk.specs.declared.visit.Walk.{Walk}
-use Rattle.tree_walk.specs.declared.visit.Waiting.{Waiting}
 use Rattle.tree_slots.specs.Trees.{word, LeafIn, Follows}
-use Rattle.tree_walk.specs.Walk.{seen}
-use Rattle.tree_walk.proofs.Walking.{Walking, Turn, Rooted, start, turn-refused, turn-refused-leaf}
+use Rattle.tree_walk.specs.Walk.{lay, seen}
+use Rattle.tree_walk.proofs.Visits.{Visiting, Visited, start, turn-refused, turn-refused-leaf}
 use Rattle.tree_walk.proofs.WalkStands.{found, nodes_stands}
 use Rattle.many_body_chains.specs.Chain.{Few}
 use Rattle.many_body_charge.specs.Charge.{Charged}
 use Rattle.many_body_charge.proofs.ChargeChain.{chains-few}
 use Rattle.many_body_node.specs.NodePull.{node_at}
-
-module _ (t : Tuning) (at strengths : List Float) (alpha : Float) (i : ℕ) (next m : List ℕ) where
-  -- the walk of particle i from b has come to s, where w waits
-  abbrev pub Pulling : Counted Flow → Walk → Counted Flow → Type 0
-  Pulling b w s = Walking (many_body_step t at strengths alpha i) (node_at m) (Few (length strengths)) m next (charged_tree at strengths) b w s
-
-  -- a turn of it, with e on top
-  abbrev pub PullingAt : Counted Flow → Walk → Counted Flow → Waiting → Type 0
-  PullingAt b w s e = Turn (many_body_step t at strengths alpha i) (node_at m) (Few (length strengths)) m next (charged_tree at strengths) b w s e
 
 module _ (at strengths : List Float) {m next : List ℕ} {q : Quadtree} (v : Charged at strengths m next q) where
   charged_tree_lem : seen (node_at m) q.extent v.stands.tree ≡ charged_tree at strengths
@@ -42,14 +31,15 @@ module _ (at strengths : List Float) {m next : List ℕ} {q : Quadtree} (v : Cha
   pub charged_nodes : nodes (charged_tree at strengths) ≡ q.nodes
   charged_nodes = ap nodes (sym charged_tree_lem) ∙ nodes_stands v.stands (node_at m)
 
-  pub pull-start : (t : Tuning) (alpha : Float) (i : ℕ) (b : Counted Flow) {w u : Walk} → Rooted q.root q.extent w u → Pulling t at strengths alpha i next m b u b
+  pub pull-start : (t : Tuning) (alpha : Float) (i : ℕ) (b : Counted Flow) {waits : _} → waits ≡ lay q.root q.extent []
+      → Visiting (many_body_step t at strengths alpha i) (node_at m) (Few (length strengths)) m next (charged_tree at strengths) b waits b
   pull-start t alpha i b r =
-      start (many_body_step t at strengths alpha i) (node_at m) (Few (length strengths)) m next v.stands.tree (charged_tree at strengths) b
+      start (many_body_step t at strengths alpha i) (node_at m) (Few (length strengths)) m next q.root q.extent v.stands.tree (charged_tree at strengths) b
       (found v.stands (Few (length strengths)) (chains-few at (length strengths) v.stands)) v.stands.levels charged_tree_lem r
 
 -- the step refuses, at an internal node or at a leaf
-pub refused_there : {A S : Type 0} {step : Entry A → S → Outcome (After S)} {look : ℕ → Extent → A} {P : List ℕ → Type 0} {m next : List ℕ} {T : Tree A} {begun : Counted S} {w : Walk} {now : Counted S} {e : Waiting}
-    (t : Turn step look P m next T begun w now e) {r : Refusal} → (word m e.slot 0 ≡ 0 → step (internal (look e.slot e.extent)) now.state ≡ refused r)
+pub refused_there : {A S : Type 0} {step : Entry A → S → Outcome (After S)} {look : ℕ → Extent → A} {P : List ℕ → Type 0} {m next : List ℕ} {T : Tree A} {begun : Counted S} {waits : _} {now : Counted S} {e : _} {rest : _}
+    (t : Visited step look P m next T begun waits now e rest) {r : Refusal} → (word m e.slot 0 ≡ 0 → step (internal (look e.slot e.extent)) now.state ≡ refused r)
     → ((word m e.slot 0 ≡ 0 → ⊥) → (is : List ℕ) → Follows next is → LeafIn m e.slot is → P is → step (tip (look e.slot e.extent) is) now.state ≡ refused r)
     → walk step T begun ≡ refused r
 refused_there {step = step} {m = m} {T = T} {begun = begun} {e = e} t {r} a b = go (word m e.slot 0) refl

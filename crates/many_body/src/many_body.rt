@@ -2,22 +2,24 @@
 ghost use Rattle.std.specs.Prelude.{◌≡◌, ◌+◌, ◌*◌, ◌≤◌, ◌<◌, ◌^◌, length};
 ghost use Rattle.rules.specs.ManyBody as Rule;
 ghost use Rattle.rules.specs.Calls.{slots_of};
+ghost use Rattle.rules.specs.Flow.{flow};
+ghost use Rattle.rules.specs.Walk.{counted};
 ghost use Rattle.tree_slots.specs.Trees.{Stands};
 ghost use Rattle.tree_build.specs.Build as Build;
+ghost use Rattle.force.specs.Draws.{left, came_to, OnlyDry, Further};
 ghost use Rattle.force.specs.Ran.{flow_at, RanAs};
 ghost use Rattle.many_body_charge.specs.Charge.{Charged};
 ghost use Rattle.many_body_node.specs.NodePull.{Bodies};
-ghost use Rattle.many_body.specs.ManyBody.{pulled_all};
+ghost use Rattle.many_body.specs.ManyBody.{pulled_for, pulled_all};
 
-use force::Ran;
+use force::{Draws, Ran};
 use many_body_charge::charges;
 use many_body_node::many_body_step;
 use number::float_of;
-use rules::{Progress, Tuning, Visit};
-use tree_build::build::{Built, build};
+use rules::{Progress, Refusal, Tuning, Visit};
+use tree_build::build::build;
 use tree_slots::{Quadtree, store};
-use tree_walk::visit;
-use tree_walk::visit::Walk;
+use tree_walk::Walk;
 
 // Theta 0.9, least distance 1, greatest infinite, each squared.
 pub fn standard() -> Tuning
@@ -31,69 +33,82 @@ pub fn standard() -> Tuning
     }
 }
 
-// Every particle in index order, each pulled by all that it meets on a walk parent first. One Walk serves them all.
+// The walk of the particle i, parent first: it is pulled by all that it meets.
+fn pull(
+    q: Quadtree,
+    t: Tuning,
+    at: &[f64],
+    vs: &mut [f64],
+    strengths: &[f64],
+    alpha: f64,
+    i: usize,
+    next: &[u32],
+    m: &[u64],
+    walk: &mut Walk,
+    draws: &mut Draws,
+    visits: &mut u64,
+) -> Result<(), Refusal>
+    requires charged { Charged at.now strengths.now m.now next.now q }
+    requires bodies { Bodies at.now vs.old strengths.now next.now × (i < length strengths.now) × (visits.old + q.nodes < 2 ^ 64) }
+    ensures is { came_to result (λ _. counted (flow vs.new (left draws.new)) visits.new)
+        ≡ pulled_for t at.now strengths.now alpha (counted (flow vs.old (left draws.old)) visits.old) i }
+    ensures count { visits.new ≤ visits.old + q.nodes }
+    ensures further { Further draws.old draws.new }
+    ensures dry { OnlyDry result }
+{
+    walk.begin(q.root, q.extent);
+    while let Some(node) = walk.pop() {
+        *visits += 1;
+        let below = many_body_step(
+            t,
+            at,
+            vs,
+            strengths,
+            alpha,
+            i,
+            next,
+            m,
+            node.slot,
+            node.extent,
+            draws,
+        )?;
+        if store::tag(m, node.slot) == 0 {
+            if let Visit::Continue = below {
+                walk.push_children(m, node);
+            }
+        }
+    }
+    Ok(())
+}
+
+// Every particle in index order. One Walk serves them all.
 fn pull_all(
     q: Quadtree,
     t: Tuning,
     at: &[f64],
     vs: &mut [f64],
     strengths: &[f64],
-    draws: &[f64],
-    p: Progress,
+    alpha: f64,
     next: &[u32],
     m: &[u64],
-) -> Ran
+    draws: &mut Draws,
+    visits: &mut u64,
+) -> Result<(), Refusal>
     requires charged { Charged at.now strengths.now m.now next.now q }
-    requires bodies { Bodies at.now vs.old strengths.now next.now × (p.used ≤ length draws.now) × (p.visits + length strengths.now * q.nodes < 2 ^ 64) }
-    ensures runs { RanAs vs.new draws.now p result
-        (pulled_all t at.now strengths.now p.alpha (flow_at vs.old draws.now p)) }
-    ensures count { result.progress.visits ≤ p.visits + length strengths.now * q.nodes }
+    requires bodies { Bodies at.now vs.old strengths.now next.now × (visits.old + length strengths.now * q.nodes < 2 ^ 64) }
+    ensures is { came_to result (λ _. counted (flow vs.new (left draws.new)) visits.new)
+        ≡ pulled_all t at.now strengths.now alpha (counted (flow vs.old (left draws.old)) visits.old) }
+    ensures count { visits.new ≤ visits.old + length strengths.now * q.nodes }
+    ensures further { Further draws.old draws.new }
+    ensures dry { OnlyDry result }
 {
-    let n = strengths.len();
-    let extent = q.extent;
-    let mut w = Walk::empty();
-    let mut reached = p;
-    let mut i: usize = 0;
-    while i < n {
-        visit::push_cell(&mut w.cells, 0, q.root, extent);
-        w.height = visit::push_slot(&mut w.slots, 0, q.root);
-        while 0 < w.height {
-            let h = w.height - 1;
-            w.height = h;
-            let e = visit::waiting_at(&w.slots, &w.cells, h);
-            let s = e.slot;
-            let c = e.extent;
-            reached.visits += 1;
-            let r = many_body_step(
-                t,
-                at,
-                vs,
-                strengths,
-                p.alpha,
-                i,
-                next,
-                m,
-                s,
-                c,
-                draws,
-                reached.used,
-            );
-            reached.used = r.used;
-            if r.dry {
-                return Ran::dry(reached);
-            }
-            if store::tag(m, s) == 0 {
-                let below = r.visit;
-                if let Visit::Continue = below {
-                    let children = store::children(m, s);
-                    visit::push_cells(&mut w.cells, h, children, c);
-                    w.height = visit::push_slots(&mut w.slots, h, children);
-                }
-            }
-        }
-        i += 1;
+    let mut walk = Walk::new();
+    for i in 0..strengths.len() {
+        pull(
+            q, t, at, vs, strengths, alpha, i, next, m, &mut walk, draws, visits,
+        )?;
     }
-    Ran::done(reached)
+    Ok(())
 }
 
 // The force over a tree that stands in the slots: its charges are laid, then every particle is pulled.
@@ -115,7 +130,21 @@ pub fn many_body_on(
     ensures count { result.progress.visits ≤ p.visits + 2 ^ 31 }
 {
     charges(q, at, strengths, next, m);
-    pull_all(q, t, at, vs, strengths, draws, p, next, m)
+    let mut draws = Draws::new(draws, p.used);
+    let mut visits = p.visits;
+    let end = pull_all(
+        q,
+        t,
+        at,
+        vs,
+        strengths,
+        p.alpha,
+        next,
+        m,
+        &mut draws,
+        &mut visits,
+    );
+    Ran::ended(end, p, &draws, visits)
 }
 
 // The force: 6 and 7 where the tree is built, then all particles.
@@ -137,7 +166,7 @@ pub fn many_body(
     ensures count { result.progress.visits ≤ p.visits + 2 ^ 31 }
 {
     match build(at, next, tail, m) {
-        Built::Refused(refusal) => Ran::refused(refusal, p),
-        Built::Tree(q) => many_body_on(q, t, at, vs, strengths, draws, p, next, m),
+        Err(refusal) => Ran::refused(refusal, p),
+        Ok(q) => many_body_on(q, t, at, vs, strengths, draws, p, next, m),
     }
 }

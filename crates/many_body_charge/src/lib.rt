@@ -11,10 +11,9 @@ ghost use Rattle.many_body_chains.specs.Chain.{Chain};
 ghost use Rattle.many_body_charge.specs.Charge.{charge_of, sums_of, read_charge, put_charge, Charged};
 
 use many_body_chains::chain_strength;
-use number::{abs, index};
+use number::abs;
 use tree_slots::{Quadtree, store};
-use tree_walk::visit_after;
-use tree_walk::visit_after::Path;
+use tree_walk::Path;
 
 // A place and the strength that acts from there.
 #[derive(Clone, Copy)]
@@ -116,20 +115,14 @@ pub fn charges(q: Quadtree, at: &[f64], strengths: &[f64], next: &[u32], m: &mut
     requires next_len { (length next.now ≡ length strengths.now) × (length at.now ≡ length strengths.now * 2) }
     ensures { Charged at.now strengths.now m.new next.now q }
 {
-    let mut left = q.nodes;
-    let mut p = Path::begin(q.root);
-    while 0 < left {
-        let h = p.height;
-        let e = visit_after::next(&mut p.steps, h, m);
-        let s = e.slot;
-        p.height = e.height;
-        left -= 1;
-        let tag = store::tag(m, s);
+    let mut path = Path::begin(q.root);
+    while let Some(slot) = path.next(m) {
+        let tag = store::tag(m, slot);
         if tag == 0 {
-            put_charge(m, s, node_charge(m, s));
+            put_charge(m, slot, node_charge(m, slot));
         } else {
-            let c = leaf_charge(at, strengths, next, index(tag - 1));
-            put_charge(m, s, c);
+            let first = (tag - 1) as usize;
+            put_charge(m, slot, leaf_charge(at, strengths, next, first));
         }
     }
 }

@@ -1,13 +1,9 @@
 -- What the answers of ManyBody's code say at one node. Definitions only.
-use Rattle.std.specs.Prelude.{◌≡◌, cond, List, ℕ, ◌*◌, ◌≤◌, length, drop, Float}
+use Rattle.std.specs.Prelude.{◌≡◌, List, ℕ, ◌*◌, ◌≤◌, length, Float}
 use Rattle.rules.specs.declared.Extent.{Extent}
-use Rattle.rules.specs.Outcome.{Outcome, done, refused, refusal}
 use Rattle.rules.specs.Refusal.{most_particles}
-use Rattle.rules.specs.Walk.{After, after}
-use Rattle.rules.specs.Flow.{Flow, flow}
 use Rattle.rules.specs.ManyBody.{Charge}
 use Rattle.many_body_charge.specs.Charge.{read_charge}
-use Rattle.many_body_node.specs.declared.NodeLeft.{NodeLeft}
 
 -- ---- what is lent
 
@@ -23,7 +19,3 @@ pub record Bodies (at vs strengths : List Float) (next : List ℕ) : Type 0 wher
 -- what the slot s holds, whose cell is c
 abbrev pub node_at : List ℕ → ℕ → Extent → Extent × Charge
 node_at m s c = (c, read_charge m s)
-
--- what it leaves: dry is refusal 8, otherwise the velocities vs, what is left of the draws, and whether the walk goes on below
-unfoldable pub node_left_of : List Float → List Float → NodeLeft → Outcome (After Flow)
-node_left_of vs ds r = cond r.dry (refused (refusal 8 0)) (done (after (flow vs (drop r.used ds)) r.visit))

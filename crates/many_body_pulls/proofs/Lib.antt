@@ -1,2 +1,1 @@
-pub mod AimLaws
 mod MemberLaws

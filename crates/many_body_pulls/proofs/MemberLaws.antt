@@ -5,19 +5,17 @@ use mathlib.Core.List.{List, [], ◌∷◌}
 use Prim.Native.Nat.{ℕ}
 use lib.Dec.{eqb}
 use lib.Ieee.{Float}
-use borrow.Author.Tests.{eq-eqb, ne_eqb}
 use Rattle.rules.specs.Plain.{foldl, others}
 use Rattle.rules.specs.Flow.{Gap}
 use Rattle.rules.specs.ManyBody.{pull_member, pull_members}
+use Rattle.many_body_pulls.specs.declared.aim.Aim.{Aim}
+use Rattle.many_body_pulls.specs.Aims.{gap_of}
+
+-- all these members but the particle itself, as the code aims
+abbrev pub all_pull : List Float → Float → ℕ → Aim → List Float → List ℕ → List Float
+all_pull strengths alpha i aim vs is = pull_members strengths alpha i is (gap_of aim.gap) aim.l vs
 
 module _ (strengths : List Float) (alpha : Float) (i : ℕ) (g : Gap) (l : Float) where
-  -- the particle itself doesn't act
-  pub member_self : (vs : List Float) (j : ℕ) → j ≡ i → vs ≡ pull_members strengths alpha i (j ∷ []) g l vs
-  member_self vs j e = rw (eq-eqb j i e)
-
-  pub member_other : (vs ws : List Float) (j : ℕ) → (j ≡ i → ⊥) → ws ≡ pull_member strengths alpha i g l vs j → ws ≡ pull_members strengths alpha i (j ∷ []) g l vs
-  member_other vs ws j n e = rw (ne_eqb j i n, e)
-
   -- one member after the other
   pub member_on : (vs ws : List Float) (j : ℕ) → ws ≡ pull_members strengths alpha i (j ∷ []) g l vs → (is : List ℕ) → pull_members strengths alpha i (j ∷ is) g l vs ≡ pull_members strengths alpha i is g l ws
   member_on vs ws j e is = go (eqb j i) e

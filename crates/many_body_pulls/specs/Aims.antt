@@ -1,9 +1,10 @@
 -- How a pull is aimed, and what the code's answer says of it. Definitions only.
-use Rattle.std.specs.Prelude.{cond, List, drop, Float}
+use Rattle.std.specs.Prelude.{List, Float}
 use Rattle.rules.specs.declared.Tuning.{Tuning}
-use Rattle.rules.specs.Outcome.{Outcome, done, refused, refusal, ◌>>=◌}
+use Rattle.rules.specs.Outcome.{Outcome, done, ◌>>=◌}
 use Rattle.rules.specs.Flow.{Gap, gap, shaken, lengthened}
 use Rattle.rules.specs.ManyBody.{softened}
+use Rattle.force.specs.declared.gap.Gap as Code
 use Rattle.many_body_pulls.specs.declared.aim.Aim.{Aim}
 
 -- a gap in which a draw stands for each difference that was zero (it may be 0.0 itself), its length, and the draws that are left
@@ -19,6 +20,10 @@ aim_at g l ds = record { gap = g; length = l; left = ds }
 unfoldable pub aimed : Tuning → Gap → Float → List Float → Outcome Aimed
 aimed t g l ds = shaken g ds >>= λ s. done (aim_at s.gap (softened t (lengthened l g s.gap)) s.left)
 
--- dry is refusal 8
-unfoldable pub aim_of : List Float → Aim → Outcome Aimed
-aim_of ds r = cond r.dry (refused (refusal 8 0)) (done (aim_at (gap r.x r.y) r.l (drop r.used ds)))
+-- the code's gap
+abbrev pub gap_of : Code.Gap → Gap
+gap_of g = gap g.x g.y
+
+-- the aim a, and the draws ds that are left
+abbrev pub aim_to : Aim → List Float → Aimed
+aim_to a ds = aim_at (gap_of a.gap) a.l ds

@@ -1,25 +1,22 @@
 // How a pull is aimed: the draws that are needed, and the length that follows.
-ghost use Rattle.std.specs.Prelude.{◌≡◌, ◌≤◌, length, drop};
-ghost use Rattle.rules.specs.Flow.{gap};
+ghost use Rattle.std.specs.Prelude.{◌≡◌};
 ghost use Rattle.rules.specs.ManyBody as Rule;
-ghost use Rattle.force.specs.Draws.{From};
-ghost use Rattle.many_body_pulls.specs.Aims.{aimed, aim_of};
+ghost use Rattle.force.specs.Draws.{left, came_to, OnlyDry, Further};
+ghost use Rattle.many_body_pulls.specs.Aims.{aimed, aim_to, gap_of};
 
-use force::{lengthen, shaken};
-use rules::Tuning;
+use force::{Draws, Gap, lengthen};
+use rules::{Refusal, Tuning};
 use square_root::root;
 
-// A gap in which a draw stands for each difference that was zero (it may be 0.0 itself), and its length, or dry where a draw was needed and none was left.
+// A gap in which a draw stands for each difference that was zero (it may be 0.0 itself), and its length.
 #[derive(Clone, Copy)]
 pub struct Aim {
-    pub x: f64,
-    pub y: f64,
+    pub gap: Gap,
     pub l: f64,
-    pub used: usize,
-    pub dry: bool,
 }
 
 // No closer than the least distance.
+#[tactic(auto, unfolding(rules::specs::ManyBody::softened))]
 fn soften(t: Tuning, l: f64) -> f64
     ensures { result ≡ Rule.softened t l }
 {
@@ -30,17 +27,16 @@ fn soften(t: Tuning, l: f64) -> f64
 }
 
 // The draws that are needed, and the length that follows.
-pub fn take_aim(t: Tuning, draws: &[f64], used: usize, x: f64, y: f64, l: f64) -> Aim
-    requires { used ≤ length draws.now }
-    ensures { (aim_of draws.now result ≡ aimed t (gap x y) l (drop used draws.now)) × From draws.now used result.used }
+#[tactic(auto, unfolding(crate::specs::Aims::aimed))]
+pub fn take_aim(t: Tuning, draws: &mut Draws, gap: Gap, l: f64) -> Result<Aim, Refusal>
+    ensures is { came_to result (λ a. aim_to a (left draws.new)) ≡ aimed t (gap_of gap) l (left draws.old) }
+    ensures further { Further draws.old draws.new }
+    ensures dry { OnlyDry result }
 {
-    let g = shaken(draws, used, x, y);
-    let longer = soften(t, lengthen(l, x, y, g.x, g.y));
-    Aim {
-        x: g.x,
-        y: g.y,
-        l: longer,
-        used: g.used,
-        dry: g.dry,
-    }
+    let drawn = draws.shaken(gap.x, gap.y)?;
+    let longer = lengthen(l, gap.x, gap.y, drawn.x, drawn.y);
+    Ok(Aim {
+        gap: drawn,
+        l: soften(t, longer),
+    })
 }

@@ -1,3 +1,4 @@
-pub mod OutlineCalled
+mod Closing
+mod OutlineCalled
 mod Steps
 mod Turns

@@ -2,14 +2,12 @@
 use mathlib.Core.Path.{◌≡◌, sym, ap, ◌∙◌, subst}
 use mathlib.Core.Bool.{true}
 use mathlib.Core.List.{List, ◌∷◌}
-use Prim.Native.Nat.{ℕ, ◌+◌, ◌*◌, ◌^◌, ◌≤◌, ◌<◌}
+use Prim.Native.Nat.{ℕ, ◌+◌, ◌*◌, ◌≤◌, ◌<◌}
 use native.Mathlib.Omega.{arith}
-use borrow.Author.Rules.{sfits_of}
 use lib.IntN.{ℤ, pos, nat_abs}
-use lib.Signed.{mag}
 use lib.ListN.{length, get_or, set, drop, length-drop}
 use mir.Syntax.{w64}
-use mir.Val.{to_z, of_z, hbits}
+use mir.Val.{SFits, to_z, of_z}
 use mir.ValLaws.{to_z-of_z}
 use Rattle.rules.specs.Plain.{overwritten}
 use Rattle.rules.specs.Outline.{half_turn, longitude_range, short_way, outline, last_from}
@@ -49,5 +47,5 @@ module _ (l : List ℤ) (i : ℕ) (at v : ℤ) (h : i < length l) (e : v ≡ sho
       ap (overwritten m i) outline-next ∙ store_first m i v (outline v (drop (i + 1) l)) (omega (arith, n, length-drop (i + 1) l))
 
 -- what the machine reads back of a corner, and of where a step led
-pub step-read : (from corner r : ℤ) → mag corner < 2 ^ hbits w64 → mag r < 2 ^ hbits w64 → r ≡ short_way from (to_z w64 (of_z w64 corner)) → to_z w64 (of_z w64 r) ≡ short_way from corner
-step-read from corner r fc fr e = to_z-of_z w64 r (sfits_of fr) ∙ e ∙ ap (short_way from) (to_z-of_z w64 corner (sfits_of fc))
+pub step-read : (from corner r : ℤ) → SFits w64 corner → SFits w64 r → r ≡ short_way from (to_z w64 (of_z w64 corner)) → to_z w64 (of_z w64 r) ≡ short_way from corner
+step-read from corner r fc fr e = to_z-of_z w64 r fr ∙ e ∙ ap (short_way from) (to_z-of_z w64 corner fc)

@@ -7,20 +7,18 @@ const HALF_TURN: i64 = 1800000000;
 
 const TURN: i64 = 2 * HALF_TURN;
 
+#[tactic(auto, using(std::proofs::lemmas::Int::ints), unfolding(rules::specs::Outline::longitude_range))]
 pub fn longitude_range(a: i64) -> bool
     ensures { result ≡ Outline.longitude_range a }
 {
-    -HALF_TURN <= a && a <= HALF_TURN
+    (-HALF_TURN..=HALF_TURN).contains(&a)
 }
 
-// The one equivalent of the corner by a short step. A remainder has the sign of what is divided, so one below 0 lacks a turn.
+// The one equivalent of the corner by a short step.
 pub fn short_way(from: i64, corner: i64) -> i64
     requires { (nat_abs from ≤ farthest) × (Outline.longitude_range corner ≡ true) }
     ensures { result ≡ Outline.short_way from corner }
 {
-    let past = (corner - from + HALF_TURN) % TURN;
-    if past < 0 {
-        return from + (past + HALF_TURN);
-    }
+    let past = (corner - from + HALF_TURN).rem_euclid(TURN);
     from + (past - HALF_TURN)
 }

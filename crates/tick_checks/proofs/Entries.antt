@@ -1,4 +1,4 @@
--- The entries of the force slots from one on: how much they need, and what 1 and 2 let pass of them.
+-- What the entries of the force slots need, and what 1 and 2 let pass of them.
 use mathlib.Core.Path.{◌≡◌, refl, sym, ap, ◌∙◌}
 use mathlib.Core.Bool.{Bool, true, false, ◌||◌, false≢true, and-eq-true_iff}
 use mathlib.Core.List.{List, [], ◌∷◌, map}

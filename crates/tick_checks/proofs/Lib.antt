@@ -1,4 +1,4 @@
-pub mod ByKind
+pub mod Early
 pub mod Entries
 pub mod Folds
 pub mod Parts

@@ -1,4 +1,4 @@
--- ColumnsLent that the force slots share one after another: the walk over the slots, and how the rules' checks of the forces go part by part.
+-- Lists that the force slots share one after another: the walk over the slots, and how the rules' checks of the forces go part by part.
 use mathlib.Core.Path.{◌≡◌, refl, sym, ap, ap₂, ◌∙◌}
 use mathlib.Core.List.{List, [], ◌∷◌, map}
 use Prim.Native.Nat.{ℕ, zero, suc, ◌+◌, ◌*◌, ◌/◌, ◌≤◌}

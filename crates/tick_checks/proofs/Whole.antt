@@ -1,8 +1,8 @@
 -- The check of a whole input: what it lets pass, what it refuses by, and how the code answers it half by half.
 use mathlib.Core.Path.{◌≡◌, refl, sym, ap, ap₂, ◌∙◌}
 use mathlib.Core.Bool.{true, false, ◌&&◌, and-eq-true_iff}
-use mathlib.Core.List.{List, [], ◌∷◌, ◌++◌, map}
-use Prim.Native.Nat.{ℕ, ◌+◌, ◌*◌, ◌≤◌}
+use mathlib.Core.List.{List, [], ◌∷◌, map}
+use Prim.Native.Nat.{ℕ, ◌*◌, ◌≤◌}
 use native.Mathlib.Nat.{le_of_eq}
 use borrow.Author.Tests.{eqb-true}
 use lib.Dec.{eqb}
@@ -10,39 +10,20 @@ use lib.ListN.{length}
 use lib.Ieee.{Float}
 use Rattle.rules.specs.declared.Refusal.{Refusal}
 use Rattle.rules.specs.Plain.{all, sum}
-use Rattle.rules.specs.Outcome.{Check, refused, fine, ◌then◌, ◌>>=◌, done, require, result_of, check_from, check_each, on_the_way}
+use Rattle.rules.specs.Outcome.{Check, refused, fine, ◌then◌, result_of, check_each, on_the_way}
 use Rattle.rules.specs.Refusal.{most_particles, most_ticks, count_check, lengths_check, draws_check, settings_check}
 use Rattle.rules.specs.Sheet.{count_of, particles_of, whole_records, records_check}
-use Rattle.rules.specs.Number.{within}
-use Rattle.rules.proofs.OutcomeLaws.{check-any, ok_fine, err_refused}
+use Rattle.rules.proofs.OutcomeLaws.{ok_fine, err_refused}
 use Rattle.std.proofs.Common.{Ok, Err}
 use Rattle.rules.specs.Tick.{SheetInput, entry_counts, strengths_right, numbers_needed, links_needed, entries_of, force_ends, force_ranges, count, entries, forces, tick_lengths, sheet_check}
 use Rattle.rules.proofs.RefusalLaws.{Refuses}
 use Rattle.rules.proofs.RefusalNumbers.{Early, early-stays, sheet-early}
 use Rattle.list_checks.proofs.Checks.{then_both, then_fine, require_true}
+use Rattle.tick_checks.proofs.Early.{then_assoc, settings-append}
 use Rattle.tick_checks.specs.Fits.{Fits}
 use Rattle.tick_checks.specs.Input.{lent_sheet, sizes_check, contents_check}
 use Rattle.tick_checks.proofs.Entries.{sum_twice, count_small}
 use Rattle.tick_checks.proofs.Parts.{ends_each_lem, ranges_each_lem}
-
--- ---- settings one after the other
-
-then_bind : (c d e : Check) → (c >>= λ _. d then e) ≡ (c >>= λ _. d) then e
-then_bind (done t) d e = refl
-then_bind (refused r) d e = refl
-
-then_assoc : (c d e : Check) → (c then (d then e)) ≡ c then d then e
-then_assoc (done t) d e = refl
-then_assoc (refused r) d e = refl
-
-from-append : {A : Type 0} (f : A → Check) (i j k : ℕ) (l m : List A) → check_from (λ _ a. f a) i (l ++ m) ≡ check_from (λ _ a. f a) j l then check_from (λ _ a. f a) k m
-from-append f i j k [] m = check-any f i k m
-from-append f i j k (a ∷ l) m =
-    ap (λ (c : Check). f a >>= λ _. c) (from-append f (i + 1) (j + 1) k l m)
-    ∙ then_bind (f a) (check_from (λ _ a. f a) (j + 1) l) (check_from (λ _ a. f a) k m)
-
-settings-append : (l m : List Float) → settings_check (l ++ m) ≡ settings_check l then settings_check m
-settings-append l m = from-append (λ x. require (within x) 5 0) 0 0 0 l m
 
 -- ---- the checks one after the other
 

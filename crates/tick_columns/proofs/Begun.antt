@@ -10,14 +10,14 @@ use lib.ListN.{length, drop, length-drop}
 use lib.Ieee.{Float}
 use Rattle.rules.specs.declared.Refusal.{Refusal}
 use Rattle.rules.specs.Plain.{all}
-use Rattle.rules.specs.Outcome.{Check, refused, fine, refusal_of}
+use Rattle.rules.specs.Outcome.{refused, fine, result_of}
 use Rattle.rules.specs.Number.{within, float_of}
 use Rattle.rules.specs.Refusal.{most_ticks, count_check}
 use Rattle.rules.specs.Sheet.{record_size, whole_records, count_of, particles_of, places_of}
 use Rattle.rules.specs.Tick.{SheetInput, state, entries, count, sheet_check}
-use Rattle.rules.proofs.RefusalNumbers.{count-early, sheet-early}
+use Rattle.rules.proofs.OutcomeLaws.{ok_fine, err_refused}
 use Rattle.sheet.proofs.Checked.{records-sound}
-use Rattle.list_checks.proofs.Scans.{passes, stops}
+use Rattle.std.proofs.Common.{Result, Ok, Err}
 use Rattle.list_checks.proofs.Checks.{require_true}
 use Rattle.tick_checks.specs.Fits.{Fits}
 use Rattle.tick_checks.specs.Input.{lent_sheet}
@@ -29,18 +29,18 @@ use Rattle.tick_columns.specs.Columns.{ColumnsLent, Read}
 -- ---- the checks
 
 -- alpha and the work slots are not looked at
-pub answered : (l : SheetInput) (ticks : ℕ) (settings : List Float) (q : Refusal)
-    → q ≡ refusal_of (sheet_check (lent_sheet l.sheet 0 l.words l.numbers l.links l.draws []) (count_check most_ticks ticks) settings) → q ≡ refusal_of (sheet_check l (count_check most_ticks ticks) settings)
+pub answered : (l : SheetInput) (ticks : ℕ) (settings : List Float) (q : Result (Unit {0}) Refusal)
+    → q ≡ result_of (sheet_check (lent_sheet l.sheet 0 l.words l.numbers l.links l.draws []) (count_check most_ticks ticks) settings) → q ≡ result_of (sheet_check l (count_check most_ticks ticks) settings)
 answered l ticks settings q e =
-    e ∙ ap (λ (c : Check). refusal_of c) (check-same l.sheet l.alpha l.words l.numbers l.links l.draws l.work ticks settings)
+    e ∙ ap result_of (check-same l.sheet l.alpha l.words l.numbers l.links l.draws l.work ticks settings)
 
 -- q was answered
-module _ (l : SheetInput) (ticks : ℕ) (settings : List Float) (q : Refusal) (e : q ≡ refusal_of (sheet_check l (count_check most_ticks ticks) settings)) where
-  pub stopped : (q.number ≡ 0 → ⊥) → sheet_check l (count_check most_ticks ticks) settings ≡ refused q
-  stopped h = stops (sheet_check l (count_check most_ticks ticks) settings) (λ z. h (ap (λ (r : Refusal). r.number) e ∙ z)) ∙ ap refused (sym e)
+module _ (l : SheetInput) (ticks : ℕ) (settings : List Float) {q : Result (Unit {0}) Refusal} (e : q ≡ result_of (sheet_check l (count_check most_ticks ticks) settings)) where
+  pub stopped : {r : Refusal} → q ≡ Err r → sheet_check l (count_check most_ticks ticks) settings ≡ refused r
+  stopped {r} h = err_refused (sheet_check l (count_check most_ticks ticks) settings) r (sym e ∙ h)
 
-  pub past : q.number ≡ 0 → sheet_check l (count_check most_ticks ticks) settings ≡ fine
-  past z = passes (sheet_check l (count_check most_ticks ticks) settings) (sheet-early l (count-early most_ticks ticks) settings) (sym (ap (λ (r : Refusal). r.number) e) ∙ z)
+  pub past : {t : Unit {0}} → q ≡ Ok t → sheet_check l (count_check most_ticks ticks) settings ≡ fine
+  past {t} h = ok_fine (sheet_check l (count_check most_ticks ticks) settings) t (sym e ∙ h)
 
 -- whole records
 whole-records : (s : List ℕ) → whole_records s ≡ fine → length s ≡ count_of s * record_size

@@ -1,5 +1,5 @@
 -- One force slot: what 1, 2 and 3 say of its lists, which force it is, and that a tree can be built of its particles.
-use mathlib.Core.Path.{◌≡◌, refl, ◌∙◌}
+use mathlib.Core.Path.{◌≡◌}
 use mathlib.Core.List.{List}
 use Prim.Native.Nat.{ℕ, ◌+◌, ◌*◌, ◌≤◌, ◌<◌}
 use native.Mathlib.Omega.{arith}
@@ -11,12 +11,14 @@ use Rattle.rules.specs.declared.ForceEntry.{ForceEntry}
 use Rattle.rules.specs.declared.Tuning.{Tuning}
 use Rattle.rules.specs.Outcome.{done, fine, require_all}
 use Rattle.rules.specs.Refusal.{most_links, most_iterations, count_check}
-use Rattle.rules.specs.Force.{many_body, collide, link, ends_from, ends_of, ends_range}
-use Rattle.rules.specs.Tick.{State, push, center, entry_counts, numbers_needed, kind_force, force_of, force_stage}
+use Rattle.rules.specs.declared.Kind.{Kind}
+use Rattle.rules.specs.declared.Kind.TheVariants.{Empty, ManyBody, Collide, Center, Unknown}
+use Rattle.std.proofs.Common.{◌⊎◌, inl, inr}
+use Rattle.rules.specs.Force.{kind_of, many_body, collide, link, ends_from, ends_of, ends_range}
+use Rattle.rules.specs.Tick.{State, push, center, kind_force, force_of, force_stage}
 use Rattle.link.specs.Links.{EndsLent, NumbersLent}
 use Rattle.link.proofs.EndsRange.{ends_range_lem}
 use Rattle.list_checks.proofs.Checks.{then_both, require_true, as_many}
-use Rattle.tick_checks.proofs.ByKind.{of_kind_lem}
 use Rattle.tick_checks.proofs.Parts.{first_ends}
 use Rattle.tick_columns.specs.Stage.{ColumnsFit, Chains, EntryFits}
 use Rattle.tree_build.specs.Build as Build
@@ -25,40 +27,27 @@ use Rattle.sheet.proofs.Checked.{all_ranged}
 -- ---- which force
 
 module _ (n : ℕ) (e : ForceEntry) (xs : List Float) (ls : List ℕ) where
-  pub many_body_of : e.kind ≡ 1 → force_of n e xs ls ≡ push (many_body (take n xs))
+  pub many_body_of : ManyBody ≡ kind_of e.kind → force_of n e xs ls ≡ push (many_body (take n xs))
   unfolding kind_force
-  many_body_of k = rw k
+  many_body_of k = rw (← k)
 
-  pub collide_of : e.kind ≡ 2 → force_of n e xs ls ≡ push (collide (take n xs) e.a e.iterations)
+  pub collide_of : Collide ≡ kind_of e.kind → force_of n e xs ls ≡ push (collide (take n xs) e.a e.iterations)
   unfolding kind_force
-  collide_of k = rw k
+  collide_of k = rw (← k)
 
   pub link_of : e.kind ≡ 3 → force_of n e xs ls ≡ push (link (ends_from ls e.links) (take e.strengths xs) (take e.links (drop e.strengths xs)) e.iterations)
   unfolding kind_force
   link_of k = rw k
 
-  pub center_of : e.kind ≡ 4 → force_of n e xs ls ≡ center e.a e.b e.c
+  pub center_of : Center ≡ kind_of e.kind → force_of n e xs ls ≡ center e.a e.b e.c
   unfolding kind_force
-  center_of k = rw k
+  center_of k = rw (← k)
 
   -- no force, or one of no known kind
-  pub none_of : (e.kind ≡ 1 → ⊥) → (e.kind ≡ 2 → ⊥) → (e.kind ≡ 3 → ⊥) → (e.kind ≡ 4 → ⊥) → (t : Tuning) (slots : ℕ) (m : State) → done m ≡ force_stage t slots m (force_of n e xs ls)
+  pub none_of : (k : Kind) → k ≡ kind_of e.kind → (k ≡ Empty) ⊎ (k ≡ Unknown) → (t : Tuning) (slots : ℕ) (m : State) → done m ≡ force_stage t slots m (force_of n e xs ls)
   unfolding kind_force
-  none_of h1 h2 h3 h4 t slots m =
-      of_kind_lem (λ k. done m ≡ force_stage t slots m (kind_force k n e xs ls)) e.kind (λ _. refl) (λ z. absurd (h1 z)) (λ z. absurd (h2 z)) (λ z. absurd (h3 z)) (λ z. absurd (h4 z)) (λ _. refl)
-
--- ---- the lists of ManyBody and Collide
-
--- a number for each of n particles
-module _ (n : ℕ) (e : ForceEntry) (xs : List Float) (h : numbers_needed n e ≤ length xs) where
-  pub strengths_long : e.kind ≡ 1 → length (take n xs) ≡ n
-  strengths_long k = length-take-le n xs (rw k at h)
-
-  pub radii_long : e.kind ≡ 2 → length (take n xs) ≡ n
-  radii_long k = length-take-le n xs (rw k at h)
-
-pub few_iterations : (e : ForceEntry) → entry_counts e ≡ fine → e.kind ≡ 2 → e.iterations ≤ most_iterations
-few_iterations e h k = leb-true e.iterations most_iterations (require_true _ 1 0 (rw k at h))
+  none_of k is (inl z) t slots m = rw (← is, z)
+  none_of k is (inr z) t slots m = rw (← is, z)
 
 -- ---- Link's lists
 
@@ -87,9 +76,9 @@ module _ {n s k : ℕ} {xs : List Float} {ls : List ℕ} (h : LinkFits n s k xs 
   ends-long = length-take-le (k * 2) ls h.links
 
   -- the force of the lists that the code takes apart
-  pub link_taken : (e : ForceEntry) → e.kind ≡ 3 → s ≡ e.strengths → k ≡ e.links → (i d m : ℕ) → i ≡ e.iterations → d ≡ k
-      → force_of m e xs ls ≡ push (link (ends_of (take (k * 2) ls)) (take s xs) (take d (drop s xs)) i)
-  link_taken e k3 es ek i d m ei ed = rw (link_of m e xs ls k3, ed, ← first_ends k ls h.links, es, ek, ei)
+  pub link_taken : (e : ForceEntry) (m : ℕ) → e.kind ≡ 3 → s ≡ e.strengths → k ≡ e.links
+      → force_of m e xs ls ≡ push (link (ends_of (take (k * 2) ls)) (take s xs) (take k (drop s xs)) e.iterations)
+  link_taken e m k3 es ek = rw (link_of m e xs ls k3, ← first_ends k ls h.links, es, ek)
 
   pub ends-lent : EndsLent n (take (k * 2) ls)
   ends-lent =
@@ -99,18 +88,18 @@ module _ {n s k : ℕ} {xs : List Float} {ls : List ℕ} (h : LinkFits n s k xs 
         range = ends_range_lem n (take (k * 2) ls) (rw (← first_ends k ls h.links) h.ends) (omega (arith, ends-long));
       }
 
-  pub lists-lent : (d : ℕ) → d ≡ k → NumbersLent (take (k * 2) ls) (take s xs) (take d (drop s xs))
-  lists-lent d e =
+  pub lists-lent : NumbersLent (take (k * 2) ls) (take s xs) (take k (drop s xs))
+  lists-lent =
       record {
-        strength_each = λ some. omega (arith, h.each (omega (arith, strengths_long, some)), strengths_long, ends-long);
+        strength_each = λ some. omega (arith, h.each (omega (arith, strengths-long, some)), strengths-long, ends-long);
         distance_each = omega (arith, distances-long, ends-long);
       }
     where
-      strengths_long : length (take s xs) ≡ s
-      strengths_long = length-take-le s xs (omega (arith, h.numbers))
+      strengths-long : length (take s xs) ≡ s
+      strengths-long = length-take-le s xs (omega (arith, h.numbers))
 
-      distances-long : length (take d (drop s xs)) ≡ k
-      distances-long = length-take-le d (drop s xs) (simp length-drop (omega (arith, h.numbers))) ∙ e
+      distances-long : length (take k (drop s xs)) ≡ k
+      distances-long = length-take-le k (drop s xs) (simp length-drop (omega (arith, h.numbers)))
 
 -- ---- what a tree is built of
 

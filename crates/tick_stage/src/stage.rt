@@ -5,8 +5,7 @@ ghost use Rattle.rules.specs.Force as Force;
 ghost use Rattle.rules.specs.Force.{ends_of};
 ghost use Rattle.rules.specs.Calls.{slots_of};
 ghost use Rattle.rules.specs.Tick as Rule;
-ghost use Rattle.rules.specs.Outcome.{fine};
-ghost use Rattle.rules.specs.Tick.{entry_counts, numbers_needed, force_of, push_stage, force_stage};
+ghost use Rattle.rules.specs.Tick.{force_of, push_stage, force_stage};
 ghost use Rattle.rules.specs.declared.Tuning as T;
 ghost use Rattle.link.specs.Links.{EndsLent, NumbersLent};
 ghost use Rattle.tick_columns.specs.Stage.{columns, ColumnsFit, Chains, EntryFits, StageBy};
@@ -16,8 +15,7 @@ use collide::collide::collide;
 use force::Ran;
 use link::link::link;
 use many_body::many_body::many_body;
-use number::index;
-use rules::{ForceEntry, Progress, Tuning};
+use rules::{ForceEntry, Kind, Progress, Tuning};
 use tick_columns::ranged;
 
 // ManyBody, of a strength for each particle. No force looks at a flag, so any flags serve.
@@ -104,20 +102,12 @@ fn link_force(
         → StageBy (λ m. force_stage t slots m (force_of (length flags) e numbers.now links.now))
         (columns places.now speeds.old flags) (columns places.now speeds.new flags) draws.now p result }
 {
-    let m = index(e.links);
-    let s = index(e.strengths);
-    let ends = &links[..m * 2];
-    let strengths = &numbers[..s];
-    let distances = &numbers[s..s + m];
+    let ends = &links[..e.links as usize * 2];
+    let (strengths, rest) = numbers.split_at(e.strengths as usize);
+    let distances = &rest[..e.links as usize];
+    let iterations = e.iterations as usize;
     link_stage(
-        ends,
-        strengths,
-        distances,
-        index(e.iterations),
-        places,
-        speeds,
-        draws,
-        p,
+        ends, strengths, distances, iterations, places, speeds, draws, p,
     )
 }
 
@@ -139,50 +129,7 @@ fn center_stage(
     ranged(places, speeds, Ran::done(p))
 }
 
-// A slot of ManyBody or Collide, with a number for each of n particles; in an empty slot nothing runs. An unknown kind was refused before.
-fn tree_force(
-    e: ForceEntry,
-    n: usize,
-    numbers: &[f64],
-    places: &[f64],
-    speeds: &mut [f64],
-    t: Tuning,
-    draws: &[f64],
-    p: Progress,
-    next: &mut [u32],
-    tail: &mut [u32],
-    work: &mut [u64],
-) -> Ran
-    requires columns_fit { ColumnsFit places.now speeds.old draws.now n p.used × Chains n next.old tail.old × (p.visits < 2 ^ 63) }
-    requires e_value { (entry_counts e ≡ fine) × (numbers_needed n e ≤ length numbers.now) × (e.kind ≡ 3 → ⊥) × (e.kind ≡ 4 → ⊥) }
-    ensures { (flags links : List ℕ) → length flags ≡ n
-        → StageBy (λ m. force_stage t (slots_of work.old) m (force_of n e numbers.now links))
-        (columns places.now speeds.old flags) (columns places.now speeds.new flags) draws.now p result }
-{
-    let kind = e.kind;
-    if kind == 1 {
-        let strengths = &numbers[..n];
-        return many_body_stage(t, strengths, places, speeds, draws, p, next, tail, work);
-    }
-    if kind == 2 {
-        let radii = &numbers[..n];
-        return collide_stage(
-            radii,
-            e.a,
-            index(e.iterations),
-            places,
-            speeds,
-            draws,
-            p,
-            next,
-            tail,
-            work,
-        );
-    }
-    Ran::done(p)
-}
-
-// The force of a slot, whose lists are the first of what is left.
+// The force of a slot, whose lists are the first of what is left. In an empty slot nothing runs; an unknown kind was refused before.
 pub fn stage(
     e: ForceEntry,
     numbers: &[f64],
@@ -202,24 +149,21 @@ pub fn stage(
     ensures { StageBy (λ m. force_stage t (slots_of work.old) m (force_of (length flags.now) e numbers.now links.now))
         (columns places.old speeds.old flags.now) (columns places.new speeds.new flags.now) draws.now p result }
 {
-    let kind = e.kind;
-    if kind == 3 {
-        return link_force(e, numbers, links, places, speeds, draws, p);
+    let n = flags.len();
+    match Kind::from(e.kind) {
+        Kind::ManyBody => {
+            let strengths = &numbers[..n];
+            many_body_stage(t, strengths, places, speeds, draws, p, next, tail, work)
+        }
+        Kind::Collide => {
+            let radii = &numbers[..n];
+            let iterations = e.iterations as usize;
+            collide_stage(
+                radii, e.a, iterations, places, speeds, draws, p, next, tail, work,
+            )
+        }
+        Kind::Link => link_force(e, numbers, links, places, speeds, draws, p),
+        Kind::Center => center_stage(e.a, e.b, e.c, places, speeds, p),
+        Kind::Empty | Kind::Unknown => Ran::done(p),
     }
-    if kind == 4 {
-        return center_stage(e.a, e.b, e.c, places, speeds, p);
-    }
-    tree_force(
-        e,
-        flags.len(),
-        numbers,
-        places,
-        speeds,
-        t,
-        draws,
-        p,
-        next,
-        tail,
-        work,
-    )
 }

@@ -8,6 +8,7 @@ use native.Mathlib.Decide.{ℕ_discrete}
 use lib.Dec.{T}
 use lib.ListN.{length}
 use lib.Ieee.{Float}
+use Rattle.std.specs.Prelude.{Ok, Err}
 use Rattle.rules.specs.declared.Extent.{Extent}
 use Rattle.rules.specs.declared.Refusal.{Refusal}
 use Rattle.rules.specs.Plain.{count_from, up_to}
@@ -25,12 +26,10 @@ use Rattle.rules.proofs.CellIs.{Is, grow-none}
 use Rattle.rules.proofs.CellChain.{EachLeaf, Points, Chain}
 use Rattle.tree_slots.specs.declared.Quadtree.{Quadtree}
 use Rattle.tree_cells.specs.declared.cover.Covered.{Covered}
-use Rattle.tree_placing.specs.declared.Inserted.TheVariants.{Done}
 use Rattle.tree_slots.specs.Trees.{in_cells, Follows, Lays, Stands, lead}
 use Rattle.tree_cells.specs.Cover.{square_of, Reachable, Near, CoveredTo}
 use Rattle.tree_leaves.specs.Chain.{Linked}
 use Rattle.tree_placing.specs.Add.{Holds, Ranged, Puts, more_check, Placed}
-use Rattle.tree_build.specs.declared.build.Built.TheVariants as Built
 use Rattle.tree_build.specs.Build.{particles, Builds, ComesNext, Extends}
 use Rattle.tree_cells.proofs.CoverLaws as Laws
 use Rattle.tree_cells.proofs.Prefix.{member_less}
@@ -187,7 +186,7 @@ module _ (at : List Float) where
           b.check ∙ turn (particles at) slots p l k
           (subst (λ (n : ℕ). fits_check n p (tree_in at wide (up_to (p + 1))) ≡ k) s (subst (λ (is : List ℕ). fits_check (slots_of w) p (tree_in at wide is) ≡ k) (sym (up_to_snoc p)) f))
 
-      pub build-done : (r : Quadtree) → Placed at (up_to p) w a d wide p (Done r) → Building slots w a d r (p + 1)
+      pub build-done : (r : Quadtree) → Placed at (up_to p) w a d wide p (Ok r) → Building slots w a d r (p + 1)
       build-done r (f, (h, e, k)) =
           record {
             holds = subst (λ (is : List ℕ). Holds at is w r) (sym (up_to_snoc p)) h;
@@ -196,7 +195,7 @@ module _ (at : List Float) where
             check = decided fine f;
           }
 
-      pub build-refused : (r : Refusal) → more_check at (up_to p) w wide p ≡ refused r → Builds at w a (Built.Refused r)
+      pub build-refused : (r : Refusal) → more_check at (up_to p) w wide p ≡ refused r → Builds at w a (Err r)
       build-refused r f = ap (tree_check at (particles at)) s ∙ decided (refused r) f
 
   leaves_map : (P Q : List ℕ → Type 0) → ((js : List ℕ) → P js → Q js) → (t : Tree ℕ) → EachLeaf (λ _. P) t → EachLeaf (λ _. Q) t
@@ -223,7 +222,7 @@ module _ (at : List Float) where
   holds_stands n m next tail q r h k e = subst (λ (c : Extent). Lays (tree_in at c (up_to n)) m next q) e (holds_lays (up_to n) m next tail q (ranged_points at (up_to n) n r (in_up_to n)) h k)
 
   -- after the last particle
-  pub build_end : (slots : ℕ) (m next tail : List ℕ) (q : Quadtree) (p : ℕ) → Building slots m next tail q p → Ranged at (particles at) → p ≤ particles at → particles at ≤ p → slots_of m ≡ slots → Builds at m next (Built.Tree q)
+  pub build_end : (slots : ℕ) (m next tail : List ℕ) (q : Quadtree) (p : ℕ) → Building slots m next tail q p → Ranged at (particles at) → p ≤ particles at → particles at ≤ p → slots_of m ≡ slots → Builds at m next (Ok q)
   build_end slots m next tail q p b r le ge s =
       let n : ℕ = particles at in
       let z : p ≡ n = omega arith in

@@ -9,6 +9,10 @@ use lib.IntN.{ℤ}
 use lib.ListN.{length, get_or, set, length-set}
 use lib.Seq.{get_or-set_same}
 use lib.Ieee.{Float}
+use Rattle.std.specs.Prelude.{Result, Ok, Err}
+use Rattle.rules.specs.declared.Reason.{Reason}
+use Rattle.rules.specs.declared.Reason.TheVariants.{TooDeep, NoSlotLeft}
+use Rattle.rules.specs.Reason.{number_of}
 use Rattle.rules.specs.declared.Extent.{Extent}
 use Rattle.rules.specs.declared.Refusal.{Refusal}
 use Rattle.rules.specs.Number.{within, x_at, y_at}
@@ -26,8 +30,6 @@ use Rattle.rules.proofs.CellRule.{insert-tree, insert-none}
 use Rattle.tree_slots.specs.declared.Quadtree.{Quadtree}
 use Rattle.tree_cells.specs.declared.cover.Doubled.{Doubled}
 use Rattle.tree_cells.specs.declared.cover.Covered.{Covered}
-use Rattle.tree_placing.specs.declared.Inserted.{Inserted}
-use Rattle.tree_placing.specs.declared.Inserted.TheVariants.{Done, Deep, Full}
 use Rattle.tree_slots.specs.Slots.{word, put_internal, childless, InSlots}
 use Rattle.tree_slots.specs.Trees.{in_cells, lead, LeafIn, InternalIn}
 use Rattle.tree_cells.specs.Cover.{square_of, Near, DoubledTo}
@@ -145,8 +147,8 @@ module _ (at : List Float) where
       first_refused : (w : List ℕ) (r : Refusal) → fits_check (slots_of w) p (leaf c.extent (p ∷ [])) ≡ refused r → more_check at is w c.extent p ≡ refused r
       first_refused w r h = subst (λ (t : Tree Extent). fits_check (slots_of w) p t ≡ refused r) first-cells h
 
-      pub first-grown : (w : List ℕ) (r : Inserted) → Planted m w c.extent p r → Grown at is w c.extent p r
-      first-grown w (Done r) (fits, (ew, er)) =
+      pub first-grown : (w : List ℕ) (r : Result Quadtree Reason) → Planted m w c.extent p r → Grown at is w c.extent p r
+      first-grown w (Ok r) (fits, (ew, er)) =
           let (levels, room) = (fits-fine (slots_of w) p (leaf c.extent (p ∷ []))).0 fits in
           grown at is w c.extent p r
           (subst (Holds at (is ++ (p ∷ [])) w) (sym er)
@@ -163,8 +165,7 @@ module _ (at : List Float) where
             room = omega arith;
           }))
           (ap (λ (r : Quadtree). r.extent) er)
-      first-grown w Deep h = first_refused w (refusal 6 p) h
-      first-grown w Full h = first_refused w (refusal 7 p) h
+      first-grown w (Err reason) h = first_refused w (refusal (number_of reason) p) h
 
     -- a leaf root
 
@@ -210,12 +211,12 @@ module _ (at : List Float) where
         go : Grows (floor (x_at at p)) (floor (y_at at p)) (suc (c.doublings - 1)) (square_of e) (square_of v)
         go = subst (λ (k : ℕ). Grows (floor (x_at at p)) (floor (y_at at p)) k (square_of e) (square_of v)) (sym doublings-are) (covered_grows f.near f.covered)
 
-        some-deep : greatest_level < d + c.doublings → (w : List ℕ) → Grown at is w v p Deep
+        some-deep : greatest_level < d + c.doublings → (w : List ℕ) → Grown at is w v p (Err TooDeep)
         some-deep l w =
             fits-deep (slots_of w) p (tree_in at v (is ++ (p ∷ [])))
             (wrap-deep at p is (in_range is all-range) (c.doublings - 1) e u f.near (all_lie is e lies) internal (holds_is at is m q g.holds) v f.covered.reachable go (omega (arith, levels, b.exact l, doublings-are)))
 
-        some-full : d + c.doublings ≤ greatest_level → slots_of m < q.nodes + c.doublings → Grown at is m v p Full
+        some-full : d + c.doublings ≤ greatest_level → slots_of m < q.nodes + c.doublings → Grown at is m v p (Err NoSlotLeft)
         some-full shallow l =
             let r = wrap-full at p is (in_range is all-range) (c.doublings - 1) e u f.near (all_lie is e lies) internal (holds_is at is m q g.holds) v f.covered.reachable go (omega (arith, levels, b.bounds, doublings-are)) in
             fits_full (slots_of m) p (tree_in at v (is ++ (p ∷ []))) r.0 (more r.1)
@@ -223,11 +224,11 @@ module _ (at : List Float) where
             more : {k : ℕ} → k ≡ nodes u + suc (c.doublings - 1) + 1 → slots_of m < k
             more e = omega (arith, count, doublings-are)
 
-      pub enlarge-deep : greatest_level < d + c.doublings → (w : List ℕ) → Grown at is w v p Deep
+      pub enlarge-deep : greatest_level < d + c.doublings → (w : List ℕ) → Grown at is w v p (Err TooDeep)
       enlarge-deep l = some-deep (omega (arith, b.shallow)) l
 
       module _ (shallow : d + c.doublings ≤ greatest_level) where
-        pub enlarge-full : slots_of m < q.nodes + c.doublings → Grown at is m v p Full
+        pub enlarge-full : slots_of m < q.nodes + c.doublings → Grown at is m v p (Err NoSlotLeft)
         enlarge-full l = some-full (some (length m) g.holds.room l) shallow l
           where
             some : (n : ℕ) → q.nodes * slot_words ≤ n → n / slot_words < q.nodes + c.doublings → 0 < c.doublings
@@ -267,7 +268,7 @@ module _ (at : List Float) where
           in_tail = omega (arith, g.in_tail, ap length eb, length-set tail p p);
         }
 
-    pub first-placed : q.root ≡ 0 → (w : List ℕ) (r : Inserted) → Planted m w c.extent p r → Placed at is w a b c.extent p r
+    pub first-placed : q.root ≡ 0 → (w : List ℕ) (r : Result Quadtree Reason) → Planted m w c.extent p r → Placed at is w a b c.extent p r
     first-placed z w r h =
         placed at is w a b c.extent p r (first-grown is m q c p g.seeks z w r h)
         (kept at is m a b q p (begun-puts m q g.seeks.holds) begun-alone (λ i k e. subst (In i) (no-points is m q c p g.seeks z) k))

@@ -1,14 +1,13 @@
 -- Building the tree of all particles. Definitions only.
-use Rattle.std.specs.Prelude.{◌≡◌, List, ℕ, ◌+◌, ◌*◌, ◌/◌, ◌≤◌, ◌<◌, length, Float}
+use Rattle.std.specs.Prelude.{◌≡◌, List, ℕ, ◌+◌, ◌*◌, ◌/◌, ◌≤◌, ◌<◌, length, Float, Result}
+use Rattle.rules.specs.declared.Refusal.{Refusal}
 use Rattle.rules.specs.Cover.{cover_first, extent_of}
-use Rattle.rules.specs.Outcome.{Outcome, done, refused, DoneUnless}
+use Rattle.rules.specs.Outcome.{outcome_of, DoneUnless}
 use Rattle.rules.specs.Refusal.{most_particles}
 use Rattle.rules.specs.Tree.{tree_check}
 use Rattle.rules.specs.Calls.{slots_of}
 use Rattle.tree_slots.specs.declared.Quadtree.{Quadtree}
 use Rattle.tree_cells.specs.declared.cover.Covered.{Covered}
-use Rattle.tree_build.specs.declared.build.Built.{Built}
-use Rattle.tree_build.specs.declared.build.Built.TheVariants.{Tree, Refused}
 use Rattle.tree_slots.specs.Trees.{Stands}
 use Rattle.tree_placing.specs.Add.{Ranged, Covers}
 
@@ -23,15 +22,10 @@ pub record Lent (at : List Float) (next tail : List ℕ) : Type 0 where
   pub links : length next ≡ particles at
   pub tails : length tail ≡ particles at
 
--- what each answer to building is: the tree, or the refusal
-abbrev pub build_outcome : Built → Outcome Quadtree
-build_outcome (Tree q) = done q
-build_outcome (Refused r) = refused r
-
 -- It is refused as the rules refuse it: the earliest particle whose prefix breaks 6 or 7, 6 if both; otherwise the slots hold the tree of all particles, in the extent reached by covering them in order.
-abbrev pub Builds : List Float → List ℕ → List ℕ → Built → Type 0
+abbrev pub Builds : List Float → List ℕ → List ℕ → Result Quadtree Refusal → Type 0
 Builds at m next b =
-    DoneUnless (tree_check at (particles at) (slots_of m)) (λ q. Stands at (particles at) m next q × (q.extent ≡ extent_of (cover_first at (particles at)))) (build_outcome b)
+    DoneUnless (tree_check at (particles at) (slots_of m)) (λ q. Stands at (particles at) m next q × (q.extent ≡ extent_of (cover_first at (particles at)))) (outcome_of b)
 
 -- a tree in the extent of the particles before p, with a root if there are any
 pub record ComesNext (at : List Float) (q : Quadtree) (p : ℕ) : Type 0 where

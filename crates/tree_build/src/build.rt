@@ -5,19 +5,11 @@ ghost use Rattle.tree_placing.specs.Add.{Puts, Placed};
 ghost use Rattle.tree_build.specs.Build.{Lent, Builds, ComesNext, Extends};
 
 use crate::add;
-use rules::{Extent, Refusal};
+use rules::{Extent, Reason, Refusal};
 use tree_cells::cover;
 use tree_cells::cover::Covered;
 use tree_leaves::point;
-use tree_placing::Inserted;
 use tree_slots::Quadtree;
-
-// The tree, or refusal 6 or 7 with the particle's number as its place: `build_outcome`.
-#[derive(Clone, Copy)]
-pub enum Built {
-    Tree(Quadtree),
-    Refused(Refusal),
-}
 
 // The extent with p, and how many doublings lead to it.
 fn extend(at: &[f64], q: Quadtree, p: usize) -> Covered
@@ -43,7 +35,7 @@ pub fn add_next(
     m: &mut [u64],
     q: Quadtree,
     p: usize,
-) -> Inserted
+) -> Result<Quadtree, Reason>
     requires { (is : List ℕ) × ComesNext at.now q p × Puts at.now is m.old next.old tail.old q p }
     ensures { (is : List ℕ) → Puts at.now is m.old next.old tail.old q p
         → Placed at.now is m.new next.new tail.new (extent_of (cover_first at.now (p + 1))) p result }
@@ -52,11 +44,16 @@ pub fn add_next(
     add::insert(m, at, next, tail, q, covered, p)
 }
 
-pub fn build(at: &[f64], next: &mut [u32], tail: &mut [u32], m: &mut [u64]) -> Built
+// The tree, or refusal 6 or 7 with the particle's number as its place.
+pub fn build(
+    at: &[f64],
+    next: &mut [u32],
+    tail: &mut [u32],
+    m: &mut [u64],
+) -> Result<Quadtree, Refusal>
     requires { Lent at.now next.old tail.old }
     ensures { Builds at.now m.new next.new result }
 {
-    let n = at.len() / 2;
     let nowhere = Extent {
         x0: 0.0,
         y0: 0.0,
@@ -69,21 +66,8 @@ pub fn build(at: &[f64], next: &mut [u32], tail: &mut [u32], m: &mut [u64]) -> B
         nodes: 0,
         deepest: 0,
     };
-    let mut p: usize = 0;
-    while p < n {
-        let answer = add_next(at, next, tail, m, q, p);
-        match answer {
-            Inserted::Done(more) => {
-                q = more;
-            }
-            Inserted::Deep => {
-                return Built::Refused(Refusal::at(6, p as u64));
-            }
-            Inserted::Full => {
-                return Built::Refused(Refusal::at(7, p as u64));
-            }
-        }
-        p += 1;
+    for p in 0..at.len() / 2 {
+        q = add_next(at, next, tail, m, q, p).map_err(|reason| Refusal::new(reason, p as u64))?;
     }
-    Built::Tree(q)
+    Ok(q)
 }

@@ -7,6 +7,7 @@ use native.Mathlib.Omega.{arith}
 use borrow.Author.Tests.{ne_eqb, not-true, not-false}
 use lib.ListN.{length, replicate}
 use lib.Ieee.{Float}
+use Rattle.std.specs.Prelude.{Result, Ok, Err}
 use Rattle.rules.specs.declared.Extent.{Extent}
 use Rattle.rules.specs.declared.Refusal.{Refusal}
 use Rattle.rules.specs.declared.TreeAnswer.{TreeAnswer}
@@ -24,7 +25,6 @@ use Rattle.tree_slots.specs.declared.Quadtree.{Quadtree}
 use Rattle.tree_slots.specs.Trees.{Stands}
 use Rattle.tree_rows.proofs.ListWhole.{chains-all}
 use Rattle.tree_call.specs.Tree.{AfterTree, refused_tree, refused_work, Comes, extent_built, Answers, built, TreeReady}
-use Rattle.tree_build.specs.declared.build.Built.{Built}
 use Rattle.tree_build.specs.Build.{particles, Lent, Builds}
 use Rattle.tree_slots.proofs.Trees.{lays_levels}
 use Rattle.tree_build.proofs.Refusals.{tree_clears}
@@ -52,13 +52,13 @@ tree-on-way at n slots = record { by = λ r e. let l = tree_clears at n slots r 
 -- ---- what building came to
 
 -- a refusal leaves the lists
-pub answers_refused : (o : Outcome (Tree Extent)) (b : Built) (q : Refusal) (r : TreeAnswer) (rows chains work work' : List ℕ) → b ≡ Built.Refused q → o ≡ refused q → r ≡ refused_tree q → work' ≡ refused_work q work
+pub answers_refused : (o : Outcome (Tree Extent)) (b : Result Quadtree Refusal) (q : Refusal) (r : TreeAnswer) (rows chains work work' : List ℕ) → b ≡ Err q → o ≡ refused q → r ≡ refused_tree q → work' ≡ refused_work q work
     → Answers o b r rows chains work rows chains work'
 answers_refused o b q r rows chains work work' eb eo er ew = rw (eb, eo) (record { answer = er; listed = refl; chained = refl; worked = ew })
 
 -- a tree is listed
-pub answers_listed : (o : Outcome (Tree Extent)) (b : Built) (q : Quadtree) (t : Tree Extent) (z : Refusal) (r : TreeAnswer) (rows chains work rows' chains' work' : List ℕ)
-    → b ≡ Built.Tree q → o ≡ done t → nodes t ≡ q.nodes → z ≡ no_refusal → r ≡ record { refusal = z; nodes = q.nodes; extent = q.extent }
+pub answers_listed : (o : Outcome (Tree Extent)) (b : Result Quadtree Refusal) (q : Quadtree) (t : Tree Extent) (z : Refusal) (r : TreeAnswer) (rows chains work rows' chains' work' : List ℕ)
+    → b ≡ Ok q → o ≡ done t → nodes t ≡ q.nodes → z ≡ no_refusal → r ≡ record { refusal = z; nodes = q.nodes; extent = q.extent }
     → rows' ≡ padded (length rows) 0 (flat (rows_of t)) → chains' ≡ padded (length chains) 0 (chains_of t) → work' ≡ zeros work
     → Answers o b r rows chains work rows' chains' work'
 answers_listed o b q t z r rows chains work rows' chains' work' eb eo en ez er el ec ew = rw (eb, eo) (record { answer = er ∙ rw (ez, en); listed = el; chained = ec; worked = ew })
@@ -100,11 +100,11 @@ module _ {l : TreeInput} {size : ℕ} {at : List Float} {links tails : ℕ} (d :
       slots = omega arith
 
       -- what building came to
-      pub sheet-comes : (next : List ℕ) → length next ≡ links → (b : Built) → Builds at m next b → Comes (built l) b m next (length l.rows) (length l.chains)
-      sheet-comes next j (Built.Refused r) s =
+      pub sheet-comes : (next : List ℕ) → length next ≡ links → (b : Result Quadtree Refusal) → Builds at m next b → Comes (built l) b m next (length l.rows) (length l.chains)
+      sheet-comes next j (Err r) s =
           let g : tree_check (places_of (particles_of l.sheet)) n (slots_of l.work) ≡ refused r = rw (← read, ← half, ← slots) s in
           rw g
-      sheet-comes next j (Built.Tree q) s =
+      sheet-comes next j (Ok q) s =
           let g : tree_check (places_of (particles_of l.sheet)) n (slots_of l.work) ≡ fine = rw (← read, ← half, ← slots) s.0 in
           let own : length next ≡ n = omega (arith, d.links) in
           let stood : Stands at n m next q = rw (← half) s.1.0 in
@@ -121,7 +121,7 @@ module _ {l : TreeInput} {size : ℕ} {at : List Float} {links tails : ℕ} (d :
           )
 
       -- the extent is that of the sheet
-      pub sheet-after : (next : List ℕ) (b : Built) → Builds at m next b → (a : TreeAnswer) (rows chains work : List ℕ) → Answers (built l) b a l.rows l.chains m rows chains work → AfterTree l (built l) a rows chains work
+      pub sheet-after : (next : List ℕ) (b : Result Quadtree Refusal) → Builds at m next b → (a : TreeAnswer) (rows chains work : List ℕ) → Answers (built l) b a l.rows l.chains m rows chains work → AfterTree l (built l) a rows chains work
       unfolding tree_answer rows_after chains_after tree_work_after
       sheet-after next b s a rows chains work w =
           record {
@@ -131,6 +131,6 @@ module _ {l : TreeInput} {size : ℕ} {at : List Float} {links tails : ℕ} (d :
             worked = w.worked ∙ work_cleared (built l) m l.work (tree-on-way (places_of (particles_of l.sheet)) n (slots_of l.work) >>=· λ _. of_done) k;
           }
         where
-          extent_is : (b : Built) → Builds at m next b → extent_built b ≡ if_done (built l) (λ _. extent_of (cover_first (places_of (particles_of l.sheet)) (count_of l.sheet))) nowhere
-          extent_is (Built.Refused r) s = let g : tree_check (places_of (particles_of l.sheet)) n (slots_of l.work) ≡ refused r = rw (← read, ← half, ← slots) s in rw g
-          extent_is (Built.Tree q) s = let g : tree_check (places_of (particles_of l.sheet)) n (slots_of l.work) ≡ fine = rw (← read, ← half, ← slots) s.0 in rw g (s.1.1 ∙ rw (half, read))
+          extent_is : (b : Result Quadtree Refusal) → Builds at m next b → extent_built b ≡ if_done (built l) (λ _. extent_of (cover_first (places_of (particles_of l.sheet)) (count_of l.sheet))) nowhere
+          extent_is (Err r) s = let g : tree_check (places_of (particles_of l.sheet)) n (slots_of l.work) ≡ refused r = rw (← read, ← half, ← slots) s in rw g
+          extent_is (Ok q) s = let g : tree_check (places_of (particles_of l.sheet)) n (slots_of l.work) ≡ fine = rw (← read, ← half, ← slots) s.0 in rw g (s.1.1 ∙ rw (half, read))

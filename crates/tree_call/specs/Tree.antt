@@ -1,5 +1,5 @@
 -- The tree call: what it is lent, and what its parts ask and leave. Definitions only.
-use Rattle.std.specs.Prelude.{◌≡◌, List, ℕ, ◌*◌, ◌≤◌, length}
+use Rattle.std.specs.Prelude.{◌≡◌, List, ℕ, ◌*◌, ◌≤◌, length, Result, Ok, Err}
 use Rattle.rules.specs.declared.Extent.{Extent}
 use Rattle.rules.specs.declared.Refusal.{Refusal}
 use Rattle.rules.specs.declared.TreeAnswer.{TreeAnswer}
@@ -10,7 +10,7 @@ use Rattle.rules.specs.Cell.{nowhere}
 use Rattle.rules.specs.Tree.{Tree, nodes, row_numbers, tree_of, tree_check}
 use Rattle.rules.specs.Calls.{slots_of, rows_in, chains_in, TreeInput, tree_answer, rows_after, chains_after, tree_work_after}
 use Rattle.tree_rows.specs.List.{Whole}
-use Rattle.tree_build.specs.declared.build.Built.{Built}
+use Rattle.tree_slots.specs.declared.Quadtree.{Quadtree}
 
 -- what is lent to the call
 abbrev pub lent : List ℕ → List ℕ → List ℕ → List ℕ → TreeInput
@@ -34,17 +34,17 @@ refused_work r work = work_after {A = Tree Extent} (refused r) work
 -- ---- what building came to, of a sheet or of edits
 
 -- a tree, which stands in the slots and can be listed, or a refusal
-abbrev pub Comes : Outcome (Tree Extent) → Built → List ℕ → List ℕ → ℕ → ℕ → Type 0
-Comes o (Built.Tree q) m next rows chains = (t : Tree Extent) × (o ≡ done t) × Whole t m next q rows chains
-Comes o (Built.Refused r) m next rows chains = o ≡ refused r
+abbrev pub Comes : Outcome (Tree Extent) → Result Quadtree Refusal → List ℕ → List ℕ → ℕ → ℕ → Type 0
+Comes o (Ok q) m next rows chains = (t : Tree Extent) × (o ≡ done t) × Whole t m next q rows chains
+Comes o (Err r) m next rows chains = o ≡ refused r
 
 -- the extent of what was built
-abbrev pub extent_built : Built → Extent
-extent_built (Built.Tree q) = q.extent
-extent_built (Built.Refused r) = nowhere
+abbrev pub extent_built : Result Quadtree Refusal → Extent
+extent_built (Ok q) = q.extent
+extent_built (Err r) = nowhere
 
 -- the answer and every lent list then
-pub record Answers (o : Outcome (Tree Extent)) (b : Built) (r : TreeAnswer) (rows chains work rows' chains' work' : List ℕ) : Type 0 where
+pub record Answers (o : Outcome (Tree Extent)) (b : Result Quadtree Refusal) (r : TreeAnswer) (rows chains work rows' chains' work' : List ℕ) : Type 0 where
   pub answer : r ≡ record { refusal = refusal_of o; nodes = if_done o nodes 0; extent = extent_built b }
   pub listed : rows' ≡ rows_in rows o
   pub chained : chains' ≡ chains_in chains o

@@ -6,8 +6,8 @@ ghost use Rattle.rules.specs.Tree.{Tree};
 ghost use Rattle.tree_call.specs.Tree.{refused_tree, refused_work, Comes, Answers};
 
 use rules::{Extent, Refusal, TreeAnswer};
-use tree_build::build::Built;
 use tree_rows::list;
+use tree_slots::Quadtree;
 use tree_slots::store::clear;
 
 // Whether a refusal is met on the way, so that the work slots are cleared.
@@ -44,7 +44,7 @@ pub fn refuse(work: &mut [u64], refusal: Refusal) -> TreeAnswer
 
 // A tree that was built is listed, and the slots are cleared.
 pub fn answer(
-    built: Built,
+    built: Result<Quadtree, Refusal>,
     next: &[u32],
     rows: &mut [u32],
     chains: &mut [u32],
@@ -55,16 +55,14 @@ pub fn answer(
         → Answers o built result rows.old chains.old work.old rows.new chains.new work.new }
 {
     match built {
-        Built::Refused(refusal) => refuse(work, refusal),
-        Built::Tree(q) => {
-            let nodes = q.nodes;
-            let extent = q.extent;
+        Err(refusal) => refuse(work, refusal),
+        Ok(q) => {
             list(q, work, next, rows, chains);
             clear(work);
             TreeAnswer {
                 refusal: Refusal::none(),
-                nodes: nodes as u64,
-                extent,
+                nodes: q.nodes as u64,
+                extent: q.extent,
             }
         }
     }

@@ -3,7 +3,7 @@ use Rattle.std.proofs.Common.{◌≡◌, ℕ, zero, suc, ◌+◌, ◌-◌, ◌*�
 use mathlib.Core.Bool.{false≢true}
 use native.Mathlib.Nat.{pow-succ'}
 use lib.Signed.{le_z}
-use lib.Ieee.{Float, nan, inf, fin, binary64, low, up, down, round, sum, add, fits, lt, le, eq}
+use lib.Ieee.{Float, nan, inf, fin, binary64, up, down, round, sum, add, fits, lt, le, eq}
 use lib.Ieee.Fits.{down_pos, div-fits, of_int-fits, and_l, and_r}
 use lib.Ieee.Exact.{HasValue, round_exact}
 use lib.Ieee.Scale.{round_same}

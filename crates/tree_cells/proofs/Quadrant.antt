@@ -1,5 +1,5 @@
 -- A quadrant's number is below 4. Assumes nothing.
-use Rattle.std.proofs.Common.{◌≡◌, ℕ, ◌+◌, ◌<◌, Bool, true, false, cond, arith}
+use Rattle.std.proofs.Common.{◌+◌, ◌<◌, Bool, true, false, cond, arith}
 use lib.Ieee.{Float, le}
 use Rattle.rules.specs.declared.Extent.{Extent}
 use Rattle.rules.specs.Cell.{quadrant, xm, ym}
@@ -13,7 +13,3 @@ quadrant_lt c x y = go (le (ym c) y) (le (xm c) x)
     go true false = omega arith
     go false true = omega arith
     go false false = omega arith
-
--- neither of the first three is the last
-pub last : (q : ℕ) → q < 4 → (q ≡ 0 → ⊥) → (q ≡ 1 → ⊥) → (q ≡ 2 → ⊥) → q ≡ 3
-last q h a b d = omega arith

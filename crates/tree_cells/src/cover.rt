@@ -35,11 +35,10 @@ pub fn first(x: f64, y: f64) -> Extent
     requires { T (within x) × T (within y) }
     ensures { result ≡ Rule.extent_of (Rule.cover_point Rule.nothing (floor x) (floor y)) }
 {
-    let x0 = floored(x);
-    let y0 = floored(y);
+    let (x0, y0) = (floored(x), floored(y));
     Extent {
-        x0: x0,
-        y0: y0,
+        x0,
+        y0,
         x1: x0 + 1.0,
         y1: y0 + 1.0,
     }
@@ -64,16 +63,7 @@ fn old_quadrant(e: Extent, x: f64, y: f64) -> usize
     requires { Near e x y }
     ensures { result ≡ Rule.old_quadrant (square_of e) (floor x) (floor y) }
 {
-    if y < e.y0 {
-        if x < e.x0 {
-            return 3;
-        }
-        return 2;
-    }
-    if x < e.x0 {
-        return 1;
-    }
-    0
+    2 * usize::from(y < e.y0) + usize::from(x < e.x0)
 }
 
 // The ends that the quadrant number moves, z being the new side.
@@ -83,28 +73,24 @@ fn grown(q: usize, z: f64, e: Extent) -> Extent
 {
     match q {
         0 => Extent {
-            x0: e.x0,
-            y0: e.y0,
             x1: e.x0 + z,
             y1: e.y0 + z,
+            ..e
         },
         1 => Extent {
             x0: e.x1 - z,
-            y0: e.y0,
-            x1: e.x1,
             y1: e.y0 + z,
+            ..e
         },
         2 => Extent {
-            x0: e.x0,
-            y0: e.y1 - z,
             x1: e.x0 + z,
-            y1: e.y1,
+            y0: e.y1 - z,
+            ..e
         },
         _ => Extent {
             x0: e.x1 - z,
             y0: e.y1 - z,
-            x1: e.x1,
-            y1: e.y1,
+            ..e
         },
     }
 }
@@ -114,12 +100,11 @@ pub fn double_once(e: Extent, x: f64, y: f64) -> Doubled
     requires { Near e x y × (Rule.inside (square_of e) (floor x) (floor y) ≡ false) }
     ensures { DoubledTo e (floor x) (floor y) result }
 {
-    let q = old_quadrant(e, x, y);
-    let z = e.x1 - e.x0;
-    let extent = grown(q, z + z, e);
+    let quadrant = old_quadrant(e, x, y);
+    let side = e.x1 - e.x0;
     Doubled {
-        extent: extent,
-        quadrant: q,
+        extent: grown(quadrant, side + side, e),
+        quadrant,
     }
 }
 
@@ -128,15 +113,13 @@ pub fn cover(e: Extent, x: f64, y: f64) -> Covered
     requires { Near e x y }
     ensures { CoveredTo e (floor x) (floor y) result }
 {
-    let mut extent = e;
-    let mut doublings: usize = 0;
-    while outside(extent, x, y) {
-        let next = double_once(extent, x, y);
-        extent = next.extent;
-        doublings += 1;
+    let mut covered = Covered {
+        extent: e,
+        doublings: 0,
+    };
+    while outside(covered.extent, x, y) {
+        covered.extent = double_once(covered.extent, x, y).extent;
+        covered.doublings += 1;
     }
-    Covered {
-        extent: extent,
-        doublings: doublings,
-    }
+    covered
 }

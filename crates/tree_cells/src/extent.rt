@@ -4,6 +4,7 @@ ghost use Rattle.rules.specs.Cell as Cell;
 
 use rules::Extent;
 
+#[tactic(auto, unfolding(rules::specs::Cell::middle))]
 pub fn middle(a: f64, b: f64) -> f64
     ensures { result ≡ Cell.middle a b }
 {
@@ -11,6 +12,7 @@ pub fn middle(a: f64, b: f64) -> f64
 }
 
 // The cell of the quarter with this number.
+#[tactic(auto, unfolding(rules::specs::Cell::quarter))]
 pub fn quarter(q: usize, c: Extent) -> Extent
     requires { q < 4 }
     ensures { result ≡ Cell.quarter q c }
@@ -19,28 +21,24 @@ pub fn quarter(q: usize, c: Extent) -> Extent
     let ym = middle(c.y0, c.y1);
     match q {
         0 => Extent {
-            x0: c.x0,
-            y0: c.y0,
             x1: xm,
             y1: ym,
+            ..c
         },
         1 => Extent {
             x0: xm,
-            y0: c.y0,
-            x1: c.x1,
             y1: ym,
+            ..c
         },
         2 => Extent {
-            x0: c.x0,
-            y0: ym,
             x1: xm,
-            y1: c.y1,
+            y0: ym,
+            ..c
         },
         _ => Extent {
             x0: xm,
             y0: ym,
-            x1: c.x1,
-            y1: c.y1,
+            ..c
         },
     }
 }

@@ -8,10 +8,7 @@ use rules::Extent;
 
 #[derive(Clone, Copy)]
 pub struct Indexer {
-    pub x0: f64,
-    pub y0: f64,
-    pub x1: f64,
-    pub y1: f64,
+    pub cell: Extent,
     pub xm: f64,
     pub ym: f64,
 }
@@ -28,10 +25,7 @@ impl Indexer {
         ensures { result ≡ indexer c }
     {
         Indexer {
-            x0: c.x0,
-            y0: c.y0,
-            x1: c.x1,
-            y1: c.y1,
+            cell: c,
             xm: middle(c.x0, c.x1),
             ym: middle(c.y0, c.y1),
         }
@@ -40,40 +34,27 @@ impl Indexer {
     pub fn cell(self) -> Extent
         ensures { result ≡ cell_of self }
     {
-        Extent {
-            x0: self.x0,
-            y0: self.y0,
-            x1: self.x1,
-            y1: self.y1,
-        }
+        self.cell
     }
 
     // 2 if y >= ym, plus 1 if x >= xm.
+    #[tactic(auto, unfolding(rules::specs::Cell::quadrant))]
     pub fn get(self, x: f64, y: f64) -> usize
         requires { self ≡ indexer (cell_of self) }
         ensures { result ≡ quadrant (cell_of self) x y }
     {
-        if y >= self.ym {
-            if x >= self.xm {
-                return 3;
-            }
-            return 2;
-        }
-        if x >= self.xm {
-            return 1;
-        }
-        0
+        2 * usize::from(y >= self.ym) + usize::from(x >= self.xm)
     }
 
+    #[tactic(auto, using(crate::proofs::Quadrant::quadrant_lt))]
     pub fn get_and_descend(self, x: f64, y: f64) -> Descent
         requires { self ≡ indexer (cell_of self) }
         ensures { Descends (cell_of self) x y result }
     {
-        let q = self.get(x, y);
-        let below = quarter(q, self.cell());
+        let quadrant = self.get(x, y);
         Descent {
-            quadrant: q,
-            indexer: Indexer::with_extent(below),
+            quadrant,
+            indexer: Indexer::with_extent(quarter(quadrant, self.cell)),
         }
     }
 }

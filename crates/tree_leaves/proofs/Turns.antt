@@ -1,7 +1,7 @@
 -- The turns of the loops that go down the cells of a particle: counting the levels that two share, and splitting a leaf.
 use mathlib.Core.Path.{◌≡◌, sym, ap, ap₂, ◌∙◌, subst}
 use mathlib.Core.List.{List}
-use Prim.Native.Nat.{ℕ, zero, suc, ◌+◌, ◌-◌, ◌≤◌, ◌<◌}
+use Prim.Native.Nat.{ℕ, zero, suc, ◌+◌, ◌-◌, ◌<◌}
 use native.Mathlib.Omega.{arith}
 use lib.ListN.{set}
 use lib.Ieee.{Float}
@@ -15,7 +15,7 @@ use Rattle.tree_cells.specs.declared.indexer.Descent.{Descent}
 use Rattle.tree_cells.specs.Indexer.{indexer, cell_of, Descends}
 use Rattle.tree_cells.proofs.Quadrant.{quadrant_lt}
 use Rattle.tree_slots.specs.Slots.{put_internal, childless}
-use Rattle.tree_leaves.specs.Leaf.{side, shared_levels, forked, parted}
+use Rattle.tree_leaves.specs.Leaf.{side, shared_levels, parted}
 
 -- an indexer of a cell
 pub indexed : (i : Indexer) (c : Extent) → i ≡ indexer c → i ≡ indexer (cell_of i)
@@ -37,31 +37,33 @@ module _ (at : List Float) (p : ℕ) where
     pub step-cell : cell_of r.indexer ≡ quarter r.quadrant c
     step-cell = ap cell_of d.indexer
 
-  -- ---- the levels that two particles share
+-- ---- the levels that two particles share
 
-  module _ (n l f : ℕ) (c : Extent) (lt : l < n) where
-    one : n - l ≡ suc (n - (l + 1))
-    one = omega arith
+module _ (at : List Float) (p f : ℕ) {level most : ℕ} {c : Extent} {x y u v : Float} {r : Descent} {j : ℕ} (lt : level < most) (d : Descends c x y r) (ex : x ≡ x_at at p) (ey : y ≡ y_at at p)
+    (e : j ≡ quadrant c u v) (eu : u ≡ x_at at f) (ev : v ≡ y_at at f) where
+  one : most - level ≡ suc (most - (level + 1))
+  one = omega arith
 
-    pub shared_more : (k : ℕ) → k ≡ side at p c → k ≡ quadrant c (x_at at f) (y_at at f) → shared_levels at p (n - l) c f ≡ suc (shared_levels at p (n - (l + 1)) (quarter k c) f)
-    unfolding in_quarter
-    shared_more k e g = rw (one, e, eq-eqb (side at p c) (quadrant c (x_at at f) (y_at at f)) (sym e ∙ g))
+  other-side : j ≡ quadrant c (x_at at f) (y_at at f)
+  other-side = e ∙ ap₂ (quadrant c) eu ev
 
-    pub shared_stop : (k j : ℕ) → k ≡ side at p c → j ≡ quadrant c (x_at at f) (y_at at f) → (k ≡ j → ⊥) → shared_levels at p (n - l) c f ≡ 0
-    unfolding in_quarter
-    shared_stop k j e g n = rw (one, ne_eqb (side at p c) (quadrant c (x_at at f) (y_at at f)) (λ z. n (e ∙ z ∙ sym g)))
+  -- one more
+  pub shared_more : r.quadrant ≡ j → shared_levels at p (most - level) c f ≡ suc (shared_levels at p (most - (level + 1)) (cell_of r.indexer) f)
+  unfolding in_quarter
+  shared_more h =
+      let k = step-side at p c x y r d ex ey in
+      rw (one, step-cell at p c x y r d ex ey, k, eq-eqb (side at p c) (quadrant c (x_at at f) (y_at at f)) (sym k ∙ h ∙ other-side))
 
-  pub shared_start : (n f : ℕ) (c : Extent) → shared_levels at p n c f ≡ 0 + shared_levels at p (n - 0) c f
-  shared_start n f c = let z : n ≡ n - 0 = omega arith in omega (arith, ap (λ (k : ℕ). shared_levels at p k c f) z)
+  -- no more
+  pub shared_stop : (r.quadrant ≡ j → ⊥) → shared_levels at p (most - level) c f ≡ 0
+  unfolding in_quarter
+  shared_stop n = rw (one, ne_eqb (side at p c) (quadrant c (x_at at f) (y_at at f)) (λ z. n (step-side at p c x y r d ex ey ∙ z ∙ sym other-side)))
 
-  pub shared_end : (n l f : ℕ) (c : Extent) → n ≤ l → shared_levels at p (n - l) c f ≡ 0
-  shared_end n l f c h = let z : n - l ≡ 0 = omega arith in rw z
+-- ---- a split
 
-  -- ---- a split
-
-  pub split-turn : (f left k : ℕ) (c : Extent) (s x : ℕ) (m w : List ℕ) → 0 < left → k ≡ side at p c → w ≡ put_internal m s (set childless k (x + 1)) → parted at p f (left - 1) (quarter k c) x (x + 1) w ≡ parted at p f left c s x m
-  split-turn f zero k c s x m w l e g = absurd (omega arith)
-  split-turn f (suc n) k c s x m w l e g = let z : suc n - 1 ≡ n = omega arith in rw (z, g, e)
-
-  pub split_end : (f left j k : ℕ) (c : Extent) (s x : ℕ) (m w : List ℕ) → left ≤ 0 → j ≡ quadrant c (x_at at f) (y_at at f) → k ≡ side at p c → w ≡ forked f p m s j k x → w ≡ parted at p f left c s x m
-  split_end f left j k c s x m w l ej ek e = let z : left ≡ 0 = omega arith in e ∙ rw (z, ej, ek)
+pub split-turn : (at : List Float) (p f left slot free : ℕ) (m : List ℕ) {c : Extent} {x y : Float} {r : Descent} {w : List ℕ} → 0 < left → Descends c x y r → x ≡ x_at at p → y ≡ y_at at p
+    → w ≡ put_internal m slot (set childless r.quadrant (free + 1)) → parted at p f (left - 1) (cell_of r.indexer) free (free + 1) w ≡ parted at p f left c slot free m
+split-turn at p f zero slot free m lt d ex ey e = absurd (omega arith)
+split-turn at p f (suc n) slot free m {c} {x} {y} {r} lt d ex ey e =
+    let z : suc n - 1 ≡ n = omega arith in
+    rw (z, step-cell at p c x y r d ex ey, e, step-side at p c x y r d ex ey)

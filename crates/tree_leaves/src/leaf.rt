@@ -20,20 +20,18 @@ pub fn shared_levels(at: &[f64], cell: Extent, most: usize, f: usize, p: usize) 
     let u = point::x_at(at, f);
     let v = point::y_at(at, f);
     let mut ix = Indexer::with_extent(cell);
-    let mut l: usize = 0;
-    while l < most {
-        let other = ix.get(u, v);
+    for level in 0..most {
         let way = ix.get_and_descend(x, y);
-        if way.quadrant != other {
-            return l;
+        if way.quadrant != ix.get(u, v) {
+            return level;
         }
         ix = way.indexer;
-        l += 1;
     }
-    l
+    most
 }
 
 // A leaf of p in slot x, as child k of slot s.
+#[tactic(auto, unfolding(crate::specs::Leaf::hung))]
 pub fn hang(m: &mut [u64], s: usize, k: usize, x: usize, p: usize)
     requires { InSlots s m.old × (k < 4) × ((x + 1) * slot_words ≤ length m.old) × (x + 1 < 2 ^ 32) × (p < most_particles) }
     ensures { m.new ≡ hung p m.old s k x }
@@ -74,18 +72,13 @@ pub fn split(
     let v = point::y_at(at, p);
     let mut ix = Indexer::with_extent(cell);
     let mut slot = s;
-    let mut free = x;
-    let mut left = g;
-    while 0 < left {
+    for free in x..x + g {
         let way = ix.get_and_descend(u, v);
-        let children = store::only(way.quadrant, free + 1);
-        store::put_internal(m, slot, children);
+        store::put_internal(m, slot, store::only(way.quadrant, free + 1));
         ix = way.indexer;
         slot = free;
-        free += 1;
-        left -= 1;
     }
     let j = ix.get(point::x_at(at, f), point::y_at(at, f));
     let k = ix.get(u, v);
-    fork(m, slot, j, k, free, f, p);
+    fork(m, slot, j, k, x + g, f, p);
 }

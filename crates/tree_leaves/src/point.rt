@@ -18,6 +18,7 @@ pub fn y_at(at: &[f64], i: usize) -> f64
 }
 
 // Numerically equal: -0.0 is 0.0.
+#[tactic(auto, unfolding(rules::specs::Tree::same))]
 pub fn same(at: &[f64], i: usize, j: usize) -> bool
     requires { (i * 2 + 2 ≤ length at.now) × (j * 2 + 2 ≤ length at.now) }
     ensures { result ≡ Rule.same at.now i j }

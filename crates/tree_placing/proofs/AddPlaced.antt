@@ -7,8 +7,14 @@ use Prim.Native.Nat.{ℕ, ◌+◌, ◌-◌, ◌*◌, ◌/◌, ◌^◌, ◌≤◌
 use native.Mathlib.Omega.{arith}
 use lib.ListN.{length, get_or, set}
 use lib.Ieee.{Float}
+use Rattle.std.specs.Prelude.{Result, Ok, Err, MatchResult, IsErrAnd}
 use Rattle.rules.specs.declared.Extent.{Extent}
+use Rattle.rules.specs.declared.Reason.{Reason}
+use Rattle.rules.specs.declared.Refusal.{Refusal}
+use Rattle.rules.specs.declared.Reason.TheVariants.{TooDeep, NoSlotLeft}
 use Rattle.rules.specs.Number.{within, x_at, y_at}
+use Rattle.rules.specs.Outcome.{refusal}
+use Rattle.rules.specs.Reason.{number_of}
 use Rattle.rules.specs.Tree.{Tree, none, leaf, node, depth, same}
 use Rattle.rules.specs.Calls.{slot_words, slots_of}
 use Rattle.rules.specs.Refusal.{most_particles}
@@ -17,8 +23,6 @@ use Rattle.rules.proofs.CellChain.{Points}
 use Rattle.rules.proofs.CellRule.{points}
 use Rattle.tree_slots.specs.declared.Quadtree.{Quadtree}
 use Rattle.tree_slots.proofs.Slots.{same_refl}
-use Rattle.tree_placing.specs.declared.Inserted.{Inserted}
-use Rattle.tree_placing.specs.declared.Inserted.TheVariants.{Done, Deep, Full}
 use Rattle.tree_slots.specs.Trees.{first, last_or, InSlots}
 use Rattle.tree_slots.proofs.Links.{rises_length, last_in}
 use Rattle.tree_leaves.specs.Chain.{at_point, Linked, Joinable}
@@ -34,14 +38,23 @@ pub ranged_points : (at : List Float) (is : List ℕ) (n : ℕ) → Ranged at n 
 ranged_points at is n h l = points at is (λ i m. let r = h i (l i m) in both (within (x_at at i)) (within (y_at at i)) r.0 r.1)
 
 -- the slots hold the tree with p
-pub grown : (at : List Float) (is m : List ℕ) (c : Extent) (p : ℕ) (q : Quadtree) → Holds at (is ++ (p ∷ [])) m q → q.extent ≡ c → Grown at is m c p (Done q)
+pub grown : (at : List Float) (is m : List ℕ) (c : Extent) (p : ℕ) (q : Quadtree) → Holds at (is ++ (p ∷ [])) m q → q.extent ≡ c → Grown at is m c p (Ok q)
 grown at is m c p q h e = (holds_fits at (is ++ (p ∷ [])) m q c p h e, (h, e))
 
 -- the chains beside the tree
-pub placed : (at : List Float) (is m next tail : List ℕ) (c : Extent) (p : ℕ) (r : Inserted) → Grown at is m c p r → Linked at (is ++ (p ∷ [])) next tail → Placed at is m next tail c p r
-placed at is m next tail c p (Done q) (f, (h, e)) k = (f, (h, e, k))
-placed at is m next tail c p Deep h k = h
-placed at is m next tail c p Full h k = h
+pub placed : (at : List Float) (is m next tail : List ℕ) (c : Extent) (p : ℕ) (r : Result Quadtree Reason) → Grown at is m c p r → Linked at (is ++ (p ∷ [])) next tail → Placed at is m next tail c p r
+placed at is m next tail c p (Ok q) (f, (h, e)) k = (f, (h, e, k))
+placed at is m next tail c p (Err reason) h k = h
+
+-- what an answer was before its reason became a refusal
+pub was_ok : (Q : Reason → Refusal → Type 0) (r : Result Quadtree Reason) (s : Result Quadtree Refusal) (q : Quadtree) → MatchResult r (λ x. s ≡ Ok x) (λ e. IsErrAnd s (Q e)) → s ≡ Ok q → r ≡ Ok q
+was_ok Q (Ok x) s q h z = cc
+was_ok Q (Err e) s q h z = absurd (rw z at h)
+
+pub was_err : (Q : Reason → Refusal → Type 0) (r : Result Quadtree Reason) (s : Result Quadtree Refusal) (d : Refusal) (k : ℕ) → MatchResult r (λ x. s ≡ Ok x) (λ e. IsErrAnd s (Q e)) → s ≡ Err d
+    → ((e : Reason) → Q e d → d ≡ refusal (number_of e) k) → (e : Reason) × (r ≡ Err e) × (d ≡ refusal (number_of e) k)
+was_err Q (Ok x) s d k h z f = absurd cc
+was_err Q (Err e) s d k h z f = (e, refl, f e (rw z at h))
 
 module _ (at : List Float) (is m : List ℕ) (q : Quadtree) (p : ℕ) (g : Seeks at is m q p) where
   pub before-points : Points at is
@@ -97,7 +110,7 @@ module _ (at : List Float) (is m : List ℕ) (q : Quadtree) (p : ℕ) (g : Seeks
     leaf-new-point ne = leaf-new at p is m q h.holds l c s f h.rest way ne
 
     module _ (ne : same at f p ≡ false) (k : ℕ) (ek : k ≡ shared_levels at p (64 - l) c f) where
-      pub grown-deep : k ≡ 64 - l → (w : List ℕ) → Grown at is w q.extent p Deep
+      pub grown-deep : k ≡ 64 - l → (w : List ℕ) → Grown at is w q.extent p (Err TooDeep)
       grown-deep e w = too-deep at p is m q h.holds l c s f h.rest way ne (sym ek ∙ e) w
 
       pub shared-most : k ≤ 64
@@ -113,7 +126,7 @@ module _ (at : List Float) (is m : List ℕ) (q : Quadtree) (p : ℕ) (g : Seeks
         split-replaces : Replaces at p l (64 - l) c u (split_t at p (f ∷ h.rest) k c s q.nodes) q.nodes (q.nodes + (k + 2)) (k + 2)
         split-replaces = splits at p is m q h.holds l c s f h.rest k way ne (sym ek) less
 
-        pub grown-split-full : slots_of m < q.nodes + k + 2 → Grown at is m q.extent p Full
+        pub grown-split-full : slots_of m < q.nodes + k + 2 → Grown at is m q.extent p (Err NoSlotLeft)
         grown-split-full lt = next-full at p is m q h.holds l (64 - l) c u (split_t at p (f ∷ h.rest) k c s q.nodes) (q.nodes + (k + 2)) (k + 2) way split-replaces (omega arith)
 
         module _ (fits : q.nodes + k + 2 ≤ slots_of m) where
@@ -129,7 +142,7 @@ module _ (at : List Float) (is m : List ℕ) (q : Quadtree) (p : ℕ) (g : Seeks
                 new_place = g.read;
               }
 
-          pub grown-split : (w : List ℕ) (r : Quadtree) → w ≡ parted at p f k c s q.nodes m → r ≡ with_more q (k + 2) (l + k + 1) → Grown at is w q.extent p (Done r)
+          pub grown-split : (w : List ℕ) (r : Quadtree) → w ≡ parted at p f k c s q.nodes m → r ≡ with_more q (k + 2) (l + k + 1) → Grown at is w q.extent p (Ok r)
           grown-split w r ew er =
               let v : Tree ℕ = split_t at p (f ∷ h.rest) k c s q.nodes in
               let n : Quadtree = with_more q (k + 2) (l + k + 1) in
@@ -168,7 +181,7 @@ module _ (at : List Float) (is m : List ℕ) (q : Quadtree) (p : ℕ) (g : Seeks
     pub hole-new-point : (i : ℕ) → In i is → same at i p ≡ true → ⊥
     hole-new-point = hole-new at p is m q h.holds l d s h.t0 h.t1 h.t2 h.t3 h.reached empty
 
-    pub grown-hole-full : slots_of m ≡ q.nodes → Grown at is m q.extent p Full
+    pub grown-hole-full : slots_of m ≡ q.nodes → Grown at is m q.extent p (Err NoSlotLeft)
     grown-hole-full e = next-full at p is m q h.holds l (64 - l) d t v (q.nodes + 1) 2 h.reached hang-replaces (omega arith)
 
     module _ (free : slots_of m ≡ q.nodes → ⊥) where
@@ -183,7 +196,7 @@ module _ (at : List Float) (is m : List ℕ) (q : Quadtree) (p : ℕ) (g : Seeks
           let b = reach-each at p l q.extent h.holds.tree d t h.reached (λ j. j < q.nodes) h.holds.below in
           (omega (arith, b.0, h.holds.room), subst (λ (i : ℕ). i < 4) (sym h.quadrant) (side_lt at p d), omega (arith, fits), omega (arith, few), g.few)
 
-      pub grown-hung : (w : List ℕ) (r : Quadtree) → w ≡ hung p m s k q.nodes → r ≡ with_more q 1 (l + 1) → Grown at is w q.extent p (Done r)
+      pub grown-hung : (w : List ℕ) (r : Quadtree) → w ≡ hung p m s k q.nodes → r ≡ with_more q 1 (l + 1) → Grown at is w q.extent p (Ok r)
       grown-hung w r ew er =
           let (own-slot, quad, room, small, new) = hang-asks in
           let n : Quadtree = with_more q 1 (l + 1) in
@@ -228,8 +241,8 @@ module _ (at : List Float) (is m next tail : List ℕ) (q : Quadtree) (p : ℕ) 
     pub join-asks : Joinable next tail f p
     join-asks = record { first = in_tail; last = in_next (get_or tail f 0) last_there; few = k.few }
 
-    pub placed-joined : same at f p ≡ true → (a b : List ℕ) → a ≡ set next (get_or tail f 0) (p + 1) → b ≡ set tail f p → Placed at is m a b q.extent p (Done q)
+    pub placed-joined : same at f p ≡ true → (a b : List ℕ) → a ≡ set next (get_or tail f 0) (p + 1) → b ≡ set tail f p → Placed at is m a b q.extent p (Ok q)
     placed-joined e a b ea eb =
-        placed at is m a b q.extent p (Done q) (grown at is m q.extent p q (joined-holds at is m q p k s l f c h e) refl)
+        placed at is m a b q.extent p (Ok q) (grown at is m q.extent p q (joined-holds at is m q p k s l f c h e) refl)
         (subst₂ (λ (x y : List ℕ). Linked at (is ++ (p ∷ [])) x y) (sym ea) (sym eb)
         (join-linked at is p next tail g.linked k.earlier (before-points at is m q p k) alone (own at is m q p k) f starts.0 starts.1 e k.rises in_tail in_next))

@@ -1,8 +1,10 @@
 -- Insertion into a tree in slots: where a point's way down ends and what is written there. Definitions only.
-use Rattle.std.specs.Prelude.{◌≡◌, true, List, [], ◌∷◌, ◌++◌, ℕ, zero, suc, ◌+◌, ◌-◌, ◌*◌, ◌^◌, ◌≤◌, ◌<◌, max, length, get_or, Float}
+use Rattle.std.specs.Prelude.{◌≡◌, true, List, [], ◌∷◌, ◌++◌, ℕ, zero, suc, ◌+◌, ◌-◌, ◌*◌, ◌^◌, ◌≤◌, ◌<◌, max, length, get_or, Float, Result, Ok, Err}
 use Rattle.rules.specs.declared.Extent.{Extent}
 use Rattle.rules.specs.Number.{within, x_at, y_at}
 use Rattle.rules.specs.Floor.{floor}
+use Rattle.rules.specs.declared.Reason.{Reason}
+use Rattle.rules.specs.Reason.{number_of}
 use Rattle.rules.specs.Outcome.{Outcome, done, refused, refusal, Check, DoneOr, DoneUnless}
 use Rattle.rules.specs.Refusal.{most_particles}
 use Rattle.rules.specs.Cell.{quarter}
@@ -15,8 +17,6 @@ use Rattle.tree_slots.specs.declared.Quadtree.{Quadtree}
 use Rattle.tree_cells.specs.declared.cover.Covered.{Covered}
 use Rattle.tree_placing.specs.declared.Stop.{Stop}
 use Rattle.tree_placing.specs.declared.Stop.TheVariants.{Leaf, Hole}
-use Rattle.tree_placing.specs.declared.Inserted.{Inserted}
-use Rattle.tree_placing.specs.declared.Inserted.TheVariants.{Done, Deep, Full}
 use Rattle.tree_cells.specs.Cover.{square_of, Reachable, Near, CoveredTo}
 use Rattle.tree_leaves.specs.Chain.{Linked}
 use Rattle.tree_slots.specs.Slots.{put_leaf}
@@ -113,22 +113,21 @@ Found at is m q p (Hole s k l) = FoundHole at is m q p s k l
 abbrev pub with_more : Quadtree → ℕ → ℕ → Quadtree
 with_more q n l = record { extent = q.extent; root = q.root; nodes = q.nodes + n; deepest = max q.deepest l }
 
--- What each answer to inserting p is: the tree, or document 01's number with p as its place.
-abbrev pub insert_outcome : ℕ → Inserted → Outcome Quadtree
-insert_outcome p (Done q) = done q
-insert_outcome p Deep = refused (refusal 6 p)
-insert_outcome p Full = refused (refusal 7 p)
+-- What each answer to inserting p is: the tree, or the reason's number with p as its place.
+abbrev pub insert_outcome : ℕ → Result Quadtree Reason → Outcome Quadtree
+insert_outcome p (Ok q) = done q
+insert_outcome p (Err reason) = refused (refusal (number_of reason) p)
 
 -- what the rules refuse of the tree with p in the extent c, in the slots m
 abbrev pub more_check : List Float → List ℕ → List ℕ → Extent → ℕ → Check
 more_check at is m c p = fits_check (slots_of m) p (tree_in at c (is ++ (p ∷ [])))
 
 -- It is refused as the rules refuse it; otherwise the slots hold the tree with p in the extent c.
-abbrev pub Grown : List Float → List ℕ → List ℕ → Extent → ℕ → Inserted → Type 0
+abbrev pub Grown : List Float → List ℕ → List ℕ → Extent → ℕ → Result Quadtree Reason → Type 0
 Grown at is m c p r = DoneUnless (more_check at is m c p) (λ q. Holds at (is ++ (p ∷ [])) m q × (q.extent ≡ c)) (insert_outcome p r)
 
 -- and its chains are linked
-abbrev pub Placed : List Float → List ℕ → List ℕ → List ℕ → List ℕ → Extent → ℕ → Inserted → Type 0
+abbrev pub Placed : List Float → List ℕ → List ℕ → List ℕ → List ℕ → Extent → ℕ → Result Quadtree Reason → Type 0
 Placed at is m next tail c p r = DoneUnless (more_check at is m c p) (λ q. Holds at (is ++ (p ∷ [])) m q × (q.extent ≡ c) × Linked at (is ++ (p ∷ [])) next tail) (insert_outcome p r)
 
 -- p is covered from the extent of q, in which all particles before it lie
@@ -164,10 +163,10 @@ pub record Wrapped (at : List Float) (is m : List ℕ) (to : Extent) (r : Quadtr
   pub rooted : 0 < r.root
 
 -- or what the rules refuse of the tree with p
-abbrev pub Enlarged : List Float → List ℕ → List ℕ → Extent → ℕ → Inserted → Type 0
+abbrev pub Enlarged : List Float → List ℕ → List ℕ → Extent → ℕ → Result Quadtree Reason → Type 0
 Enlarged at is m c p r = DoneOr (Wrapped at is m c) (λ z. more_check at is m c p ≡ refused z) (insert_outcome p r)
 
 -- the first leaf, which is the whole tree, or what the rules refuse of it
-abbrev pub Planted : List ℕ → List ℕ → Extent → ℕ → Inserted → Type 0
+abbrev pub Planted : List ℕ → List ℕ → Extent → ℕ → Result Quadtree Reason → Type 0
 Planted m w c p r =
     DoneUnless (fits_check (slots_of w) p (leaf c (p ∷ []))) (λ q. (w ≡ put_leaf m 0 p) × (q ≡ record { extent = c; root = 1; nodes = 1; deepest = 0 })) (insert_outcome p r)

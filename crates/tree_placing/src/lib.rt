@@ -1,12 +1,12 @@
 // A particle goes into a tree whose extent holds it, after src/quadtree/add.rs of fjadra. Where it ends is found by reading alone.
 #![tactic(auto)]
 
-ghost use Rattle.std.specs.Prelude.{◌≡◌, false, List, ℕ, ◌+◌, ◌*◌, ◌≤◌, ◌<◌, max};
+ghost use Rattle.std.specs.Prelude.{◌≡◌, false, List, ℕ, ◌+◌, ◌*◌, ◌≤◌, ◌<◌};
 ghost use Rattle.rules.specs.Refusal.{most_particles};
 ghost use Rattle.rules.specs.Tree.{same, greatest_level};
 ghost use Rattle.tree_placing.specs.Add.{with_more, Seeks, Alone, Found, Puts, FoundLeaf, Grown, Placed};
 
-use rules::Extent;
+use rules::{Extent, Reason};
 use tree_cells::indexer::Indexer;
 use tree_leaves::{chain, leaf, point};
 use tree_slots::{Quadtree, store};
@@ -18,24 +18,6 @@ pub enum Stop {
     Leaf(usize, usize, usize, Extent),
     // An internal node with no child in the point's quadrant: its slot, the quadrant and its level.
     Hole(usize, usize, usize),
-}
-
-// The tree with the particle, or refusal 6, or refusal 7: `insert_outcome` says which case is which.
-#[derive(Clone, Copy)]
-pub enum Inserted {
-    Done(Quadtree),
-    Deep,
-    Full,
-}
-
-// The greater of two.
-pub fn greater(a: usize, b: usize) -> usize
-    ensures { result ≡ max a b }
-{
-    if a < b {
-        return b;
-    }
-    a
 }
 
 // Where the way of p ends.
@@ -71,12 +53,10 @@ fn more(q: Quadtree, nodes: usize, level: usize) -> Quadtree
     requires { (q.nodes ≤ greatest_level * most_particles) × (nodes ≤ greatest_level + 2) }
     ensures { result ≡ with_more q nodes level }
 {
-    let extent = q.extent;
     Quadtree {
-        extent: extent,
-        root: q.root,
         nodes: q.nodes + nodes,
-        deepest: greater(q.deepest, level),
+        deepest: q.deepest.max(level),
+        ..q
     }
 }
 
@@ -90,7 +70,7 @@ fn at_leaf(
     f: usize,
     cell: Extent,
     p: usize,
-) -> Inserted
+) -> Result<Quadtree, Reason>
     requires { (is : List ℕ) × Seeks at.now is m.old q p × FoundLeaf at.now is m.old q p s l f cell × (same at.now f p ≡ false) }
     ensures { (is : List ℕ) → Seeks at.now is m.old q p → FoundLeaf at.now is m.old q p s l f cell
         → Grown at.now is m.new q.extent p result }
@@ -98,13 +78,13 @@ fn at_leaf(
     let left = Quadtree::GREATEST_LEVEL - l;
     let g = leaf::shared_levels(at, cell, left, f, p);
     if g == left {
-        return Inserted::Deep;
+        return Err(Reason::TooDeep);
     }
     if store::slots(m) < q.nodes + g + 2 {
-        return Inserted::Full;
+        return Err(Reason::NoSlotLeft);
     }
     leaf::split(m, at, s, cell, g, q.nodes, f, p);
-    Inserted::Done(more(q, g + 2, l + g + 1))
+    Ok(more(q, g + 2, l + g + 1))
 }
 
 // p, a chain of its own so far, goes into a tree whose extent holds it.
@@ -115,26 +95,25 @@ pub fn place(
     tail: &mut [u32],
     q: Quadtree,
     p: usize,
-) -> Inserted
+) -> Result<Quadtree, Reason>
     requires { (is : List ℕ) × Puts at.now is m.old next.old tail.old q p × Alone next.old tail.old p × (0 < q.root) }
     ensures { (is : List ℕ) → Puts at.now is m.old next.old tail.old q p
         → Placed at.now is m.new next.new tail.new q.extent p result }
 {
-    let stop = find(m, at, q, p);
-    match stop {
+    match find(m, at, q, p) {
         Stop::Leaf(s, l, f, cell) => {
             if point::same(at, f, p) {
                 chain::join(next, tail, f, p);
-                return Inserted::Done(q);
+                return Ok(q);
             }
             at_leaf(m, at, q, s, l, f, cell, p)
         }
         Stop::Hole(s, k, l) => {
             if store::slots(m) == q.nodes {
-                return Inserted::Full;
+                return Err(Reason::NoSlotLeft);
             }
             leaf::hang(m, s, k, q.nodes, p);
-            Inserted::Done(more(q, 1, l + 1))
+            Ok(more(q, 1, l + 1))
         }
     }
 }
