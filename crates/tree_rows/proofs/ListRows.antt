@@ -1,24 +1,14 @@
 -- Rows, written node by node.
 use mathlib.Core.Path.{◌≡◌, refl, sym, ap, ◌∙◌}
 use mathlib.Core.List.{List, [], ◌∷◌, ◌++◌}
-use Prim.Native.Nat.{ℕ, suc, ◌+◌, ◌-◌, ◌*◌, ◌≤◌}
+use Prim.Native.Nat.{ℕ, ◌+◌, ◌*◌, ◌≤◌}
 use native.Mathlib.Omega.{arith}
-use lib.ListN.{length, set, length-append}
-use lib.Seq.{sets-eq}
+use lib.ListN.{length, length-append}
 use Rattle.rules.specs.Plain.{overwritten}
 use Rattle.rules.specs.Tree.{Tree, none, leaf, node, nodes, Row, row, rows_from, flat, row_numbers}
 use Rattle.sheet.proofs.Lists.{overwritten-next, overwritten-none, overwritten-length}
 use Rattle.tree_rows.specs.List.{RowsWritten}
 use Rattle.tree_rows.specs.declared.Cursor.{Cursor}
-
--- four stores are one row
-pub stores : (l : List ℕ) (n level quadrant kind chain : ℕ) → (n + 1) * row_numbers ≤ length l
-    → set (set (set (set l (n * row_numbers) level) (n * row_numbers + 1) quadrant) (n * row_numbers + 2) kind) (n * row_numbers + 3) chain ≡ overwritten l (n * row_numbers) (flat (row level quadrant kind chain ∷ []))
-stores l n level quadrant kind chain h =
-    let a : n * row_numbers + 1 ≡ suc (n * row_numbers) = omega arith in
-    let b : n * row_numbers + 2 ≡ suc (suc (n * row_numbers)) = omega arith in
-    let c : n * row_numbers + 3 ≡ suc (suc (suc (n * row_numbers))) = omega arith in
-    rw (a, b, c) (sets-eq (level ∷ quadrant ∷ kind ∷ chain ∷ []) l (n * row_numbers) (omega arith))
 
 pub flat-length : (rs : List Row) → length (flat rs) ≡ length rs * row_numbers
 flat-length [] = refl
@@ -40,14 +30,6 @@ module _ {rows chains : List ℕ} {at : Cursor} where
   pub wrote_none : RowsWritten rows chains at [] [] rows chains at
   wrote_none =
       record { listed = sym (overwritten-none rows (at.nodes * row_numbers)); chained = sym (overwritten-none chains at.chained); nodes = omega arith; reach = omega arith }
-
-  -- a leaf's chain and its row
-  pub wrote_leaf : {level quadrant end : ℕ} {is rows' chains' : List ℕ} → chains' ≡ overwritten chains at.chained is → end ≡ at.chained + length is
-      → rows' ≡ overwritten rows (at.nodes * row_numbers) (flat (row level quadrant 2 (end - at.chained) ∷ []))
-      → RowsWritten rows chains at (row level quadrant 2 (length is) ∷ []) is rows' chains' (record { nodes = at.nodes + 1; chained = end })
-  wrote_leaf {end = end} {is} c e r =
-      let k : end - at.chained ≡ length is = omega arith in
-      record { listed = rw (← k) r; chained = c; nodes = refl; reach = e }
 
   -- an internal node's row
   pub wrote_internal : {level quadrant : ℕ} {rows' : List ℕ} → rows' ≡ overwritten rows (at.nodes * row_numbers) (flat (row level quadrant 1 0 ∷ []))

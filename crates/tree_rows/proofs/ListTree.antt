@@ -1,7 +1,7 @@
 -- A tree in slots, taken apart for its listing.
 use mathlib.Core.Path.{◌≡◌, refl, ap, ◌∙◌}
 use mathlib.Core.List.{List, [], ◌∷◌, ◌++◌}
-use Prim.Native.Nat.{ℕ, ◌+◌, ◌-◌, ◌*◌, ◌≤◌}
+use Prim.Native.Nat.{ℕ, zero, suc, ◌+◌, ◌*◌, ◌≤◌, ◌<◌}
 use native.Mathlib.Omega.{arith}
 use lib.ListN.{length, get_or, length-append}
 use Rattle.rules.specs.Refusal.{most_particles}
@@ -19,49 +19,50 @@ below-append : (n : ℕ) (is js : List ℕ) → Below n (is ++ js) → Below n i
 below-append n [] js b = (tt, b)
 below-append n (i ∷ is) js b = let r = below-append n is js b.1 in ((b.0, r.0), r.1)
 
-module _ (m next : List ℕ) (p level : ℕ) where
+module _ {m next : List ℕ} {p level : ℕ} where
   -- 0 leads to no tree
   pub stands_none : (t : Tree ℕ) → StandsAt m next p level t → p ≡ 0 → t ≡ none
   stands_none none l z = refl
   stands_none (leaf s is) l z = absurd (omega (arith, l.leads.0))
   stands_none (node s t0 t1 t2 t3) l z = absurd (omega (arith, l.leads.0))
 
-  -- any other number leads to a node, whose slot is there
-  pub record Some (t : Tree ℕ) : Type 0 where
-    pub slot : InSlots (p - 1) m
-    pub shallow : level ≤ 64
-    pub one : 1 ≤ nodes t
+-- any other number leads to a node, whose slot s is there
+pub record Some (m : List ℕ) (s level : ℕ) (t : Tree ℕ) : Type 0 where
+  pub slot : InSlots s m
+  pub shallow : level ≤ 64
+  pub one : 1 ≤ nodes t
 
-  pub stands_some : (t : Tree ℕ) → StandsAt m next p level t → (p ≡ 0 → ⊥) → Some t
-  stands_some none l f = absurd (f l.leads)
-  stands_some (leaf s is) l f = record { slot = omega (arith, l.leads.0, l.slots); shallow = omega (arith, l.levels); one = omega arith }
-  stands_some (node s t0 t1 t2 t3) l f = record { slot = omega (arith, l.leads.0, l.slots.0); shallow = omega (arith, l.levels); one = omega arith }
+-- with a first word that is not 0 it is a leaf, whose chain begins there
+pub record IsLeaf (next : List ℕ) (w : ℕ) (t : Tree ℕ) : Type 0 where
+  pub label : ℕ
+  pub chain : List ℕ
+  pub is : t ≡ leaf label chain
+  pub trails : Trails next w chain
+  pub below : Below (length next) chain
+  pub small : w ≤ length next
 
-  -- with a first word that is not 0 it is a leaf, whose chain begins there
-  pub record IsLeaf (w : ℕ) (t : Tree ℕ) : Type 0 where
-    pub label : ℕ
-    pub chain : List ℕ
-    pub is : t ≡ leaf label chain
-    pub trails : Trails next w chain
-    pub below : Below (length next) chain
-    pub small : w ≤ length next
+module _ {m next : List ℕ} {p level : ℕ} (s : ℕ) where
+  pub stands_some : (t : Tree ℕ) → StandsAt m next p level t → p ≡ s + 1 → Some m s level t
+  stands_some none l e = absurd (omega (arith, l.leads))
+  stands_some (leaf i is) l e = record { slot = omega (arith, l.leads.0, l.slots); shallow = omega (arith, l.levels); one = omega arith }
+  stands_some (node i t0 t1 t2 t3) l e = record { slot = omega (arith, l.leads.0, l.slots.0); shallow = omega (arith, l.levels); one = omega arith }
 
-  pub stands_leaf : (w : ℕ) (t : Tree ℕ) → StandsAt m next p level t → (p ≡ 0 → ⊥) → w ≡ word m (p - 1) 0 → (w ≡ 0 → ⊥) → IsLeaf w t
-  stands_leaf w none l f e g = absurd (f l.leads)
-  stands_leaf w (leaf s is) l f e g =
-      let k : p - 1 ≡ s = omega (arith, l.leads.0) in
-      let h : w ≡ first is + 1 = e ∙ ap (λ (i : ℕ). word m i 0) k ∙ l.leads.1.tag in
-      record { label = s; chain = is; is = refl; trails = rw h (follows_trails next is l.leads.2); below = l.below; small = go is h l.leads.2 l.below }
+  pub stands_leaf : {w : ℕ} (t : Tree ℕ) → StandsAt m next p level t → p ≡ s + 1 → w ≡ word m s 0 → (w ≡ 0 → ⊥) → IsLeaf next w t
+  stands_leaf none l e k g = absurd (omega (arith, l.leads))
+  stands_leaf {w} (leaf i is) l e k g =
+      let n : s ≡ i = omega (arith, l.leads.0) in
+      let h : w ≡ first is + 1 = k ∙ ap (λ (i : ℕ). word m i 0) n ∙ l.leads.1.tag in
+      record { label = i; chain = is; is = refl; trails = rw h (follows_trails next is l.leads.2); below = l.below; small = go is h l.leads.2 l.below }
     where
       go : (is : List ℕ) → w ≡ first is + 1 → Follows next is → Below (length next) is → w ≤ length next
       go [] h c b = absurd c
       go (i ∷ is) h c b = omega (arith, b.0)
-  stands_leaf w (node s t0 t1 t2 t3) l f e g =
-      let k : p - 1 ≡ s = omega (arith, l.leads.0) in
-      absurd (g (e ∙ ap (λ (i : ℕ). word m i 0) k ∙ l.leads.1.tag))
+  stands_leaf (node i t0 t1 t2 t3) l e k g =
+      let n : s ≡ i = omega (arith, l.leads.0) in
+      absurd (g (k ∙ ap (λ (i : ℕ). word m i 0) n ∙ l.leads.1.tag))
 
 -- which can be listed
-pub leaf_listable : {m next : List ℕ} {p level k rows chains : ℕ} {at : Cursor} {t : Tree ℕ} → Listable m next p level rows chains at t → (l : IsLeaf m next p level k t)
+pub leaf_listable : {m next : List ℕ} {p level k rows chains : ℕ} {at : Cursor} {t : Tree ℕ} → Listable m next p level rows chains at t → (l : IsLeaf next k t)
     → ListableLeaf next k rows chains at l.chain
 leaf_listable {t = t} w l =
     let n : nodes t ≡ 1 = ap nodes l.is in
@@ -87,27 +88,26 @@ pub record IsNode (m next ks : List ℕ) (level : ℕ) (t : Tree ℕ) : Type 0 w
   pub nodes : nodes t ≡ 1 + nodes t0 + nodes t1 + nodes t2 + nodes t3
   pub chains : length (chains_of t) ≡ length (chains_of t0) + length (chains_of t1) + length (chains_of t2) + length (chains_of t3)
 
-pub stands_node : (m next ks : List ℕ) (p level w : ℕ) (t : Tree ℕ) → StandsAt m next p level t → (p ≡ 0 → ⊥) → w ≡ word m (p - 1) 0 → w ≡ 0 → ks ≡ kids m (p - 1)
-    → IsNode m next ks level t
-stands_node m next ks p level w none l f e z k = absurd (f l.leads)
-stands_node m next ks p level w (leaf s is) l f e z k =
-    let h : p - 1 ≡ s = omega (arith, l.leads.0) in
-    absurd (omega (arith, e ∙ ap (λ (i : ℕ). word m i 0) h ∙ l.leads.1.tag))
-stands_node m next ks p level w (node s t0 t1 t2 t3) l f e z k =
-    let h : p - 1 ≡ s = omega (arith, l.leads.0) in
+pub stands_node : {m next ks : List ℕ} {p level w : ℕ} (s : ℕ) (t : Tree ℕ) → StandsAt m next p level t → p ≡ s + 1 → w ≡ word m s 0 → w ≡ 0 → ks ≡ kids m s → IsNode m next ks level t
+stands_node s none l e k z g = absurd (omega (arith, l.leads))
+stands_node {m = m} s (leaf i is) l e k z g =
+    let n : s ≡ i = omega (arith, l.leads.0) in
+    absurd (omega (arith, k ∙ ap (λ (i : ℕ). word m i 0) n ∙ l.leads.1.tag))
+stands_node {m = m} {next = next} s (node i t0 t1 t2 t3) l e k z g =
+    let n : s ≡ i = omega (arith, l.leads.0) in
     let b = below-append (length next) (chains_of t0 ++ chains_of t1 ++ chains_of t2) (chains_of t3) l.below in
     let d = below-append (length next) (chains_of t0 ++ chains_of t1) (chains_of t2) b.0 in
-    let g = below-append (length next) (chains_of t0) (chains_of t1) d.0 in
-    rw (k, h)
+    let a = below-append (length next) (chains_of t0) (chains_of t1) d.0 in
+    rw (g, n)
     (record {
-      label = s;
+      label = i;
       t0 = t0;
       t1 = t1;
       t2 = t2;
       t3 = t3;
       is = refl;
-      l0 = record { leads = l.leads.2; levels = omega (arith, l.levels); slots = l.slots.1; below = g.0 };
-      l1 = record { leads = l.leads.3; levels = omega (arith, l.levels); slots = l.slots.2; below = g.1 };
+      l0 = record { leads = l.leads.2; levels = omega (arith, l.levels); slots = l.slots.1; below = a.0 };
+      l1 = record { leads = l.leads.3; levels = omega (arith, l.levels); slots = l.slots.2; below = a.1 };
       l2 = record { leads = l.leads.4; levels = omega (arith, l.levels); slots = l.slots.3; below = d.1 };
       l3 = record { leads = l.leads.5; levels = omega (arith, l.levels); slots = l.slots.4; below = b.1 };
       nodes = refl;
@@ -167,3 +167,71 @@ module _ {rows chains : List ℕ} {at : Cursor} {rs : List Row} {is : List ℕ} 
     room = simp length-append (omega (arith, s.room, rows_count level q t));
     space = simp length-append (omega (arith, s.space));
   }
+
+-- ---- an internal node, from its row on
+
+module _ {m next ks : List ℕ} {level : ℕ} {t : Tree ℕ} (n : IsNode m next ks level t) where
+  -- the children from the quadrant q on
+  abbrev pub trees_from : ℕ → List (Tree ℕ)
+  trees_from zero = n.t0 ∷ n.t1 ∷ n.t2 ∷ n.t3 ∷ []
+  trees_from (suc zero) = n.t1 ∷ n.t2 ∷ n.t3 ∷ []
+  trees_from (suc (suc zero)) = n.t2 ∷ n.t3 ∷ []
+  trees_from (suc (suc (suc zero))) = n.t3 ∷ []
+  trees_from (suc (suc (suc (suc q)))) = []
+
+  -- the node's own row, and those of the children before
+  abbrev pub rows_before : ℕ → ℕ → List Row
+  rows_before quadrant zero = row level quadrant 1 0 ∷ []
+  rows_before quadrant (suc zero) = (row level quadrant 1 0 ∷ []) ++ rows_from (level + 1) 0 n.t0
+  rows_before quadrant (suc (suc zero)) = (row level quadrant 1 0 ∷ []) ++ rows_from (level + 1) 0 n.t0 ++ rows_from (level + 1) 1 n.t1
+  rows_before quadrant (suc (suc (suc zero))) = (row level quadrant 1 0 ∷ []) ++ rows_from (level + 1) 0 n.t0 ++ rows_from (level + 1) 1 n.t1 ++ rows_from (level + 1) 2 n.t2
+  rows_before quadrant (suc (suc (suc (suc q)))) =
+      (row level quadrant 1 0 ∷ []) ++ rows_from (level + 1) 0 n.t0 ++ rows_from (level + 1) 1 n.t1 ++ rows_from (level + 1) 2 n.t2 ++ rows_from (level + 1) 3 n.t3
+
+  -- and their chains
+  abbrev pub chains_before : ℕ → List ℕ
+  chains_before zero = []
+  chains_before (suc zero) = [] ++ chains_of n.t0
+  chains_before (suc (suc zero)) = [] ++ chains_of n.t0 ++ chains_of n.t1
+  chains_before (suc (suc (suc zero))) = [] ++ chains_of n.t0 ++ chains_of n.t1 ++ chains_of n.t2
+  chains_before (suc (suc (suc (suc q)))) = [] ++ chains_of n.t0 ++ chains_of n.t1 ++ chains_of n.t2 ++ chains_of n.t3
+
+-- The row of t, an internal node, is written, and the rows and chains of its children before the quadrant q.
+pub record Children (m next ks rows chains : List ℕ) (at : Cursor) (level quadrant : ℕ) (t : Tree ℕ) (q : ℕ) (rows' chains' : List ℕ) (r : Cursor) : Type 0 where
+  pub node : IsNode m next ks level t
+  pub listing : Listing rows chains at (rows_before node quadrant q) (chains_before node q) (trees_from node q) rows' chains' r
+
+module _ {m next ks rows chains : List ℕ} {at : Cursor} {level quadrant : ℕ} {t : Tree ℕ} {q : ℕ} {rows' chains' : List ℕ} {r : Cursor}
+    (c : Children m next ks rows chains at level quadrant t q rows' chains' r) (b : q < 4) where
+  -- the next child can be listed
+  pub child_ready : (length next ≤ most_particles) × (length chains ≤ most_particles)
+      → (x : Tree ℕ) × Listable m next (get_or ks q 0) (level + 1) (length rows') (length chains') r x
+  child_ready f = go q b c.listing
+    where
+      go : (q : ℕ) → q < 4 → Listing rows chains at (rows_before c.node quadrant q) (chains_before c.node q) (trees_from c.node q) rows' chains' r
+          → (x : Tree ℕ) × Listable m next (get_or ks q 0) (level + 1) (length rows') (length chains') r x
+      go zero b s = (c.node.t0, next_child s c.node.l0 f)
+      go (suc zero) b s = (c.node.t1, next_child s c.node.l1 f)
+      go (suc (suc zero)) b s = (c.node.t2, next_child s c.node.l2 f)
+      go (suc (suc (suc zero))) b s = (c.node.t3, next_child s c.node.l3 f)
+      go (suc (suc (suc (suc q)))) b s = absurd (omega arith)
+
+  -- and then is
+  pub child_done : (length next ≤ most_particles) × (length chains ≤ most_particles) → {rows'' chains'' : List ℕ} {d : Cursor}
+      → ((x : Tree ℕ) → Listable m next (get_or ks q 0) (level + 1) (length rows') (length chains') r x → RowsWritten rows' chains' r (rows_from (level + 1) q x) (chains_of x) rows'' chains'' d)
+      → Children m next ks rows chains at level quadrant t (q + 1) rows'' chains'' d
+  child_done f {rows''} {chains''} {d} w = record { node = c.node; listing = go q b c.listing w }
+    where
+      go : (q : ℕ) → q < 4 → Listing rows chains at (rows_before c.node quadrant q) (chains_before c.node q) (trees_from c.node q) rows' chains' r
+          → ((x : Tree ℕ) → Listable m next (get_or ks q 0) (level + 1) (length rows') (length chains') r x → RowsWritten rows' chains' r (rows_from (level + 1) q x) (chains_of x) rows'' chains'' d)
+          → Listing rows chains at (rows_before c.node quadrant (q + 1)) (chains_before c.node (q + 1)) (trees_from c.node (q + 1)) rows'' chains'' d
+      go zero b s w = child_listed (level + 1) 0 s (w c.node.t0 (next_child s c.node.l0 f))
+      go (suc zero) b s w = child_listed (level + 1) 1 s (w c.node.t1 (next_child s c.node.l1 f))
+      go (suc (suc zero)) b s w = child_listed (level + 1) 2 s (w c.node.t2 (next_child s c.node.l2 f))
+      go (suc (suc (suc zero))) b s w = child_listed (level + 1) 3 s (w c.node.t3 (next_child s c.node.l3 f))
+      go (suc (suc (suc (suc q)))) b s w = absurd (omega arith)
+
+-- after the last child all of t is written
+pub children_listed : {m next ks rows chains : List ℕ} {at : Cursor} {level quadrant : ℕ} {t : Tree ℕ} {rows' chains' : List ℕ} {r : Cursor} → Children m next ks rows chains at level quadrant t 4 rows' chains' r
+    → RowsWritten rows chains at (rows_from level quadrant t) (chains_of t) rows' chains' r
+children_listed c = rw c.node.is c.listing.wrote

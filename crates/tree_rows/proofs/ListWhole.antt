@@ -1,10 +1,10 @@
 -- The listing of a whole tree.
 use mathlib.Core.Path.{◌≡◌, refl, sym, ap, ◌∙◌}
 use mathlib.Core.List.{List, ◌++◌, append-nil}
-use Prim.Native.Nat.{ℕ, suc, ◌+◌, ◌-◌, ◌*◌, ◌≤◌, ◌<◌}
+use Prim.Native.Nat.{ℕ, ◌+◌, ◌-◌, ◌*◌, ◌≤◌, ◌<◌}
 use native.Mathlib.Nat.{zero-add}
 use native.Mathlib.Omega.{arith}
-use lib.ListN.{length, set, replicate, length-append, length-set, length-replicate, drop_of_length-le}
+use lib.ListN.{length, replicate, length-append, length-replicate, drop_of_length-le}
 use lib.Ieee.{Float}
 use Rattle.rules.specs.declared.Extent.{Extent}
 use Rattle.rules.specs.Plain.{up_to, overwritten, padded}
@@ -14,7 +14,7 @@ use Rattle.rules.specs.Tree.{Tree, none, leaf, node, depth, Row, rows_from, rows
 use Rattle.rules.proofs.CellIs.{Is}
 use Rattle.rules.proofs.CellCount.{length-up_to, in_count}
 use Rattle.rules.proofs.CellRule as Rule
-use Rattle.sheet.proofs.Lists.{overwritten-none, overwritten-next, overwritten-length, store_first}
+use Rattle.sheet.proofs.Lists.{overwritten-next, overwritten-length}
 use Rattle.tree_slots.specs.Trees.{in_cells, Lays, Below, InSlots}
 use Rattle.tree_slots.proofs.Trees.{each_map}
 use Rattle.tree_slots.proofs.Links.{in_below}
@@ -37,29 +37,7 @@ chains_cells c (leaf s is) = refl
 chains_cells c (node s t0 t1 t2 t3) =
     rw (chains_cells (quarter 0 c) t0, chains_cells (quarter 1 c) t1, chains_cells (quarter 2 c) t2, chains_cells (quarter 3 c) t3)
 
--- ---- zeros from a place on
-
-pub record Clearing (before : List ℕ) (from : ℕ) (list : List ℕ) (i : ℕ) : Type 0 where
-  pub size : length list ≡ length before
-  pub reach : i ≤ length before
-  pub whole : overwritten before from (replicate (length before - from) 0) ≡ overwritten list i (replicate (length before - i) 0)
-
-pub clearing_turn : (before : List ℕ) (from : ℕ) (list : List ℕ) (i : ℕ) → Clearing before from list i → i < length list → Clearing before from (set list i 0) (i + 1)
-clearing_turn before from list i c h = record {
-  size = length-set list i 0 ∙ c.size;
-  reach = omega (arith, c.size);
-  whole = c.whole ∙ rw e (store_first list i 0 (replicate (length before - (i + 1)) 0) (omega (arith, length-replicate {A = ℕ} (length before - (i + 1)) 0, c.size)));
-}
-  where
-    e : length before - i ≡ suc (length before - (i + 1))
-    e = omega (arith, c.size)
-
-pub clearing_end : (before : List ℕ) (from : ℕ) (list : List ℕ) (i : ℕ) → Clearing before from list i → length list ≤ i
-    → list ≡ overwritten before from (replicate (length before - from) 0)
-clearing_end before from list i c h = sym (c.whole ∙ rw e (overwritten-none list i))
-  where
-    e : length before - i ≡ 0
-    e = omega (arith, c.size)
+-- ---- zeros behind a part
 
 -- a part of the list's own length takes its place
 taken : (l part : List ℕ) → length part ≡ length l → overwritten l 0 part ≡ part

@@ -27,11 +27,8 @@ fn put_row(rows: &mut [u32], n: usize, level: u32, quadrant: u32, kind: u32, cha
     requires { (n + 1) * row_numbers ≤ length rows.old }
     ensures { rows.new ≡ overwritten rows.old (n * row_numbers) (flat (row level quadrant kind chain ∷ [])) }
 {
-    let i = n * ROW_NUMBERS;
-    rows[i] = level;
-    rows[i + 1] = quadrant;
-    rows[i + 2] = kind;
-    rows[i + 3] = chain;
+    let start = n * ROW_NUMBERS;
+    rows[start..start + ROW_NUMBERS].copy_from_slice(&[level, quadrant, kind, chain]);
 }
 
 // The particles from the number p on: 0 for the end, i + 1 for the particle i. Answers where the next chain begins.
@@ -42,11 +39,10 @@ fn put_chain(next: &[u32], p: u32, chains: &mut [u32], at: usize) -> usize
 {
     let mut link = p;
     let mut end = at;
-    while link != 0 {
-        let i = link - 1;
+    while let Some(i) = link.checked_sub(1) {
         chains[end] = i;
-        end = end + 1;
         link = next[i as usize];
+        end += 1;
     }
     end
 }
@@ -66,12 +62,17 @@ fn list_leaf(
         → RowsWritten rows.old chains.old at (row level quadrant 2 (length is) ∷ []) is
         rows.new chains.new result }
 {
-    let nodes = at.nodes;
-    let chained = at.chained;
-    let end = put_chain(next, p, chains, chained);
-    put_row(rows, nodes, level, quadrant, LEAF, (end - chained) as u32);
+    let end = put_chain(next, p, chains, at.chained);
+    put_row(
+        rows,
+        at.nodes,
+        level,
+        quadrant,
+        LEAF,
+        (end - at.chained) as u32,
+    );
     Cursor {
-        nodes: nodes + 1,
+        nodes: at.nodes + 1,
         chained: end,
     }
 }
@@ -92,27 +93,23 @@ fn list_node(
         → RowsWritten rows.old chains.old at (rows_from level quadrant t) (chains_of t)
         rows.new chains.new result }
 {
-    if p == 0 {
+    let Some(s) = p.checked_sub(1) else {
         return at;
-    }
-    let s = (p - 1) as usize;
-    let first = tag(m, s);
+    };
+    let first = tag(m, s as usize);
     if first != 0 {
         return list_leaf(next, first as u32, level, quadrant, rows, chains, at);
     }
-    let nodes = at.nodes;
-    let chained = at.chained;
-    put_row(rows, nodes, level, quadrant, INTERNAL, 0);
-    let kids = children(m, s);
-    let below = level + 1;
-    let from = Cursor {
-        nodes: nodes + 1,
-        chained,
+    put_row(rows, at.nodes, level, quadrant, INTERNAL, 0);
+    let mut end = Cursor {
+        nodes: at.nodes + 1,
+        ..at
     };
-    let a = list_node(m, next, kids[0], below, 0, rows, chains, from);
-    let b = list_node(m, next, kids[1], below, 1, rows, chains, a);
-    let c = list_node(m, next, kids[2], below, 2, rows, chains, b);
-    list_node(m, next, kids[3], below, 3, rows, chains, c)
+    let below = children(m, s as usize);
+    for (i, child) in below.iter().enumerate() {
+        end = list_node(m, next, *child, level + 1, i as u32, rows, chains, end);
+    }
+    end
 }
 
 // From place `from` on, zeros.
@@ -120,11 +117,7 @@ fn clear_from(list: &mut [u32], from: usize)
     requires { from ≤ length list.old }
     ensures { list.new ≡ overwritten list.old from (replicate (length list.old - from) 0) }
 {
-    let mut i = from;
-    while i < list.len() {
-        list[i] = 0;
-        i = i + 1;
-    }
+    list[from..].fill(0);
 }
 
 // A whole tree. What its rows and its chains leave unused becomes zero.
@@ -134,12 +127,11 @@ pub fn list(q: Quadtree, m: &[u64], next: &[u32], rows: &mut [u32], chains: &mut
         → (rows.new ≡ padded (length rows.old) 0 (flat (rows_of t)))
         × (chains.new ≡ padded (length chains.old) 0 (chains_of t)) }
 {
-    let nodes = q.nodes;
     let from = Cursor {
         nodes: 0,
         chained: 0,
     };
     let end = list_node(m, next, q.root, 0, 0, rows, chains, from);
-    clear_from(rows, nodes * ROW_NUMBERS);
+    clear_from(rows, q.nodes * ROW_NUMBERS);
     clear_from(chains, end.chained);
 }
