@@ -71,7 +71,7 @@ fn shift_all(shift: Pair, places: &mut [f64])
     requires { length places.old % 2 ≡ 0 }
     ensures { places.new ≡ shifted_pairs shift.x shift.y places.old }
 {
-    // By number: a proof knows nothing of what is written through `chunks_exact_mut`.
+    // By number: a proof knows nothing of what is written through a chunk that is lent.
     for i in 0..places.len() / 2 {
         places[i * 2] -= shift.x;
         places[i * 2 + 1] -= shift.y;

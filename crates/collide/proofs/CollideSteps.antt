@@ -16,7 +16,7 @@ use Rattle.rules.specs.Flow.{Flow}
 use Rattle.rules.specs.Collide.{radius_of, radius_tree, away, meet_first, collide_step}
 use Rattle.tree_slots.specs.declared.Quadtree.{Quadtree}
 use Rattle.tree_slots.specs.Trees.{Follows, first, Below}
-use Rattle.tree_walk.specs.declared.visit.Waiting.{Waiting}
+use Rattle.tree_walk.specs.declared.parent_first.Waiting.{Waiting}
 use Rattle.tree_walk.specs.Walk.{lay, seen}
 use Rattle.tree_walk.proofs.Visits.{Visiting, Visited, start}
 use Rattle.tree_walk.proofs.WalkStands.{chains-below, found}

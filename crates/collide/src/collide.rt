@@ -100,7 +100,7 @@ fn iterate(
     ensures further { Further draws.old draws.new }
     ensures dry { OnlyDry result }
 {
-    for k in 0..iterations {
+    for _ in 0..iterations {
         walk_all(q, m, at, vs, radii, strength, draws, visits)?;
     }
     Ok(())

@@ -9,7 +9,7 @@ use collide_contact::radius_of;
 use tree_slots::{Quadtree, store};
 use tree_walk::Path;
 
-// The first where the second isn't greater, a NaN too: `max` would take the number then.
+// The first where the second isn't greater, even where the first is a NaN, which the library's maximum would pass over.
 fn greater(a: f64, b: f64) -> f64
     ensures { result ≡ Collide.greater a b }
 {

@@ -1,3 +1,2 @@
-pub mod Drawing
 pub mod Stages
 pub mod RanCheck

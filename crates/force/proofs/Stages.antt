@@ -1,18 +1,18 @@
 -- How a force that has run ended, and its stages one after the other. Assumes nothing.
-use mathlib.Core.Path.{◌≡◌, refl, sym, ◌∙◌, subst}
+use mathlib.Core.Path.{◌≡◌, refl, ◌∙◌}
 use mathlib.Core.Bool.{true}
 use mathlib.Core.List.{List}
-use Prim.Native.Nat.{ℕ, suc, ◌+◌, ◌-◌, ◌*◌, ◌≤◌, ◌<◌}
+use Prim.Native.Nat.{ℕ, suc, ◌+◌, ◌-◌, ◌≤◌, ◌<◌}
 use native.Mathlib.Nat.{sub-zero}
 use native.Mathlib.Omega.{arith}
-use borrow.Author.Tests.{eq-eqb, ne_eqb}
+use borrow.Author.Tests.{ne_eqb}
 use lib.ListN.{length}
 use lib.Ieee.{Float}
 use Rattle.std.specs.Prelude.{Result, Ok, Err, IfErr}
 use Rattle.rules.specs.Plain.{count_from, up_to}
 use Rattle.rules.specs.declared.Progress.{Progress}
 use Rattle.rules.specs.declared.Refusal.{Refusal}
-use Rattle.rules.specs.Outcome.{Outcome, done, refused, refusal, no_refusal, ◌>>=◌, fold_stages, zeroes_work}
+use Rattle.rules.specs.Outcome.{Outcome, done, refused, ◌>>=◌, fold_stages, zeroes_work}
 use Rattle.rules.specs.Walk.{Counted, counted}
 use Rattle.rules.specs.Flow.{Flow, flow}
 use Rattle.force.specs.declared.Ran.{Ran}
@@ -20,26 +20,12 @@ use Rattle.force.specs.Draws.{From}
 use Rattle.force.specs.declared.lent.Draws.{Draws}
 use Rattle.force.specs.Draws as Draws
 use Rattle.force.specs.Draws.{came_to, OnlyDry, Further}
-use Rattle.force.specs.Ran.{flow_at, ended, ended_by, ran_check, ran_of, IsLate, RanAs}
+use Rattle.force.specs.Ran.{ended, ended_by, ran_check, ran_of, IsLate, RanAs}
 
 module _ (vs draws : List Float) (r : Ran) where
   pub ran_refused : (r.refusal.number ≡ 0 → ⊥) → ran_of vs draws r ≡ refused r.refusal
   unfolding ran_of ran_check
   ran_refused h = rw (ne_eqb _ _ h)
-
-  ran_on : r.refusal.number ≡ 0 → ran_of vs draws r ≡ done (flow_at vs draws r.progress)
-  unfolding ran_of ran_check
-  ran_on h = rw (eq-eqb _ _ h)
-
--- a force that began at p has come to `now`
-module _ (vs draws : List Float) (p now : Progress) (same : now.alpha ≡ p.alpha) (from : From draws p.used now.used) {o : Outcome (Counted Flow)} where
-  pub ran_dry : refused (refusal 8 0) ≡ o → RanAs vs draws p (ended (refusal 8 0) now) o
-  unfolding ran_of ran_check zeroes_work
-  ran_dry e = record { is = e; alpha = same; draws = from; late = refl }
-
-  pub ran_done : done (flow_at vs draws now) ≡ o → RanAs vs draws p (ended no_refusal now) o
-  unfolding ran_of ran_check zeroes_work
-  ran_done e = record { is = e; alpha = same; draws = from; late = refl }
 
 -- 8 is met on the way
 pub dry_late : {A : Type 0} (r : Result A Refusal) → OnlyDry r → IfErr r IsLate
@@ -83,34 +69,5 @@ module _ {S : Type 0} (f : S → ℕ → Outcome S) where
 
   -- a stage that is refused, and one that is done
   module _ (n i : ℕ) (h : i < n) (s : S) where
-    pub left-stops : {r : Refusal} → f s i ≡ refused r → refused r ≡ left n i s
-    left-stops e = sym (left-next n i s h ∙ rw e)
-
     pub left-goes : {t : S} → f s i ≡ done t → left n i s ≡ left n (i + 1) t
     left-goes e = left-next n i s h ∙ rw e
-
-  pub left_end : (n i : ℕ) (s : S) → n ≤ i → done s ≡ left n i s
-  left_end n i s h = rw e
-    where
-      e : n - i ≡ 0
-      e = omega arith
-
--- a stage that ended as r
-module _ (f : Counted Flow → ℕ → Outcome (Counted Flow)) (n i : ℕ) (h : i < n) (s : Counted Flow) (vs draws : List Float) (r : Ran) (is : ran_of vs draws r ≡ f s i) where
-  pub left_refused : (r.refusal.number ≡ 0 → ⊥) → ran_of vs draws r ≡ left f n i s
-  left_refused k = ran_refused vs draws r k ∙ left-stops f n i h s (sym is ∙ ran_refused vs draws r k)
-
-  pub left-on : r.refusal.number ≡ 0 → left f n i s ≡ left f n (i + 1) (flow_at vs draws r.progress)
-  left-on k = left-goes f n i h s (sym is ∙ ran_on vs draws r k)
-
--- ---- what all stages count together
-
--- each of n stages counts at most k
-pub one_more : (i n k : ℕ) → i < n → i * k + k ≤ n * k
-one_more i n k h = subst (λ (x : ℕ). i * k + k ≤ x * k) e (spread (n - (i + 1)))
-  where
-    e : i + 1 + (n - (i + 1)) ≡ n
-    e = omega arith
-
-    spread : (j : ℕ) → i * k + k ≤ (i + 1 + j) * k
-    spread j = omega arith

@@ -1,26 +1,10 @@
--- What the answers of the code say about the lent draws `ds`: a number of used draws stands for what is left behind them. Definitions only.
-use Rattle.std.specs.Prelude.{◌≡◌, cond, List, ℕ, ◌≤◌, length, drop, Float, Result, IfErr}
-use Rattle.rules.specs.Outcome.{Outcome, done, refused, refusal, outcome_of, ◌>>=◌}
+-- What a stage of a force says of the lent draws: how many are used, and so what is left behind them. Definitions only.
+use Rattle.std.specs.Prelude.{◌≡◌, List, ℕ, ◌≤◌, length, drop, Float, Result, IfErr}
+use Rattle.rules.specs.Outcome.{Outcome, done, refusal, outcome_of, ◌>>=◌}
 use Rattle.rules.specs.declared.Refusal.{Refusal}
-use Rattle.rules.specs.Flow as Flow
-use Rattle.rules.specs.Flow.{Flow, flow, drawn, gap, Shaken}
-use Rattle.force.specs.declared.draws.Drawn.{Drawn}
-use Rattle.force.specs.declared.draws.Jiggled.{Jiggled}
-use Rattle.force.specs.declared.draws.Spent.{Spent}
+use Rattle.rules.specs.Flow.{gap, Shaken}
 use Rattle.force.specs.declared.lent.Draws.{Draws}
 use Rattle.force.specs.declared.gap.Gap.{Gap}
-
--- dry is refusal 8, otherwise the number and what is left
-unfoldable pub drawn_of : List Float → Drawn → Outcome Flow.Drawn
-drawn_of ds r = cond r.dry (refused (refusal 8 0)) (done (drawn r.value (drop r.used ds)))
-
--- dry is refusal 8, otherwise the gap and what is left
-unfoldable pub shaken_of : List Float → Jiggled → Outcome Flow.Shaken
-shaken_of ds r = cond r.dry (refused (refusal 8 0)) (done (record { gap = gap r.x r.y; left = drop r.used ds }))
-
--- dry is refusal 8, otherwise the velocities vs and what is left
-unfoldable pub spent_of : List Float → List Float → Spent → Outcome Flow
-spent_of vs ds r = cond r.dry (refused (refusal 8 0)) (done (flow vs (drop r.used ds)))
 
 -- no draw is used twice, and none past the last
 pub record From (ds : List Float) (used now : ℕ) : Type 0 where

@@ -31,16 +31,16 @@ impl<'a> Draws<'a> {
     }
 
     // The next draw.
-    #[tactic(auto, using(crate::proofs::Drawing::next_is), unfolding(rules::specs::Flow::next))]
+    #[tactic(auto, unfolding(rules::specs::Flow::next))]
     pub fn next(&mut self) -> Result<f64, Refusal>
         ensures is { came_to result (λ x. Flow.drawn x (left self.new)) ≡ Flow.next (left self.old) }
         ensures further { Further self.old self.new }
         ensures dry { OnlyDry result }
     {
-        if self.used == self.lent.len() {
-            return Err(Refusal::new(Reason::NoDrawLeft, 0));
-        }
-        let draw = self.lent[self.used];
+        let draw = *self
+            .lent
+            .get(self.used)
+            .ok_or_else(|| Refusal::new(Reason::NoDrawLeft, 0))?;
         self.used += 1;
         Ok(draw)
     }

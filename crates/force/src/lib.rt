@@ -1,16 +1,14 @@
 // What the forces share: the lent draws, a push on a velocity, and how a force ends.
 #![tactic(auto)]
 
-mod draws;
 mod gap;
 mod lent;
 mod push;
 
 ghost use Rattle.std.specs.Prelude.{◌≡◌};
-ghost use Rattle.rules.specs.Outcome.{refusal, no_refusal};
+ghost use Rattle.rules.specs.Outcome.{no_refusal};
 ghost use Rattle.force.specs.Ran.{ended, ended_by};
 
-pub use draws::{Drawn, Jiggled, Spent, nonzero, shaken};
 pub use gap::{Gap, lengthen};
 pub use lent::Draws;
 pub use push::{push_back, push_on};
@@ -42,16 +40,9 @@ impl Ran {
         Ran::refused(Refusal::from(end), progress)
     }
 
-    // 8: a draw was needed, and none was left.
-    pub fn dry(progress: Progress) -> Self
-        ensures { result ≡ ended (refusal 8 0) progress }
-    {
-        Ran::refused(Refusal::at(8, 0), progress)
-    }
-
     pub fn done(progress: Progress) -> Self
         ensures { result ≡ ended no_refusal progress }
     {
-        Ran::refused(Refusal::none(), progress)
+        Ran::refused(Refusal::from(Ok(())), progress)
     }
 }

@@ -3,16 +3,14 @@ ghost use Rattle.std.specs.Prelude.{◌≡◌, ◌+◌, ◌*◌, ◌<◌, length
 ghost use Rattle.rules.specs.Number.{◌⊕◌, ◌⊖◌};
 ghost use Rattle.rules.specs.Flow.{pushed};
 
+// Its twin subtracts: one function for both would take a closure, and be longer than the two.
 #[tactic(auto, unfolding(rules::specs::Flow::pushed, rules::specs::Number::set_pair))]
 pub fn push_on(vs: &mut [f64], i: usize, dx: f64, dy: f64)
     requires { i * 2 + 1 < length vs.old }
     ensures { vs.new ≡ pushed ◌⊕◌ vs.old i dx dy }
 {
-    let at = i * 2;
-    let x = vs[at] + dx;
-    let y = vs[at + 1] + dy;
-    vs[at] = x;
-    vs[at + 1] = y;
+    vs[i * 2] += dx;
+    vs[i * 2 + 1] += dy;
 }
 
 #[tactic(auto, unfolding(rules::specs::Flow::pushed, rules::specs::Number::set_pair))]
@@ -20,9 +18,6 @@ pub fn push_back(vs: &mut [f64], i: usize, dx: f64, dy: f64)
     requires { i * 2 + 1 < length vs.old }
     ensures { vs.new ≡ pushed ◌⊖◌ vs.old i dx dy }
 {
-    let at = i * 2;
-    let x = vs[at] - dx;
-    let y = vs[at + 1] - dy;
-    vs[at] = x;
-    vs[at + 1] = y;
+    vs[i * 2] -= dx;
+    vs[i * 2 + 1] -= dy;
 }

@@ -1,21 +1,19 @@
 -- A force called alone, stated over any force f that changes velocities.
 use mathlib.Core.Path.{◌≡◌, refl, sym, ap, ◌∙◌}
 use mathlib.Core.Bool.{Bool, true, false, ◌&&◌, and-eq-true_iff}
-use mathlib.Core.List.{List, ◌++◌, append_assoc}
-use Prim.Native.Nat.{ℕ, zero, suc, ◌+◌, ◌-◌, ◌*◌, ◌/◌, ◌%◌, ◌≤◌, ◌<◌}
-use native.Mathlib.Nat.{add-zero, zero-add, add_assoc}
+use mathlib.Core.List.{List}
+use Prim.Native.Nat.{ℕ, ◌+◌, ◌-◌, ◌*◌, ◌/◌, ◌%◌, ◌≤◌, ◌<◌}
 use native.Mathlib.Omega.{arith}
 use borrow.Author.Tests.{eq-eqb, ne_eqb, le-leb, lt-leb, eqb-true, leb-true}
 use lib.Dec.{eqb, leb}
-use lib.ListN.{length, take, drop, replicate, length-drop, length-append, take-append-drop}
-use lib.Seq.{length-take-le, take-append-le, drop-append-le, drop-drop}
+use lib.ListN.{length, replicate, length-drop}
 use lib.Ieee.{Float}
 use Rattle.rules.specs.declared.Refusal.{Refusal}
 use Rattle.rules.specs.declared.Counts.{Counts}
-use Rattle.rules.specs.Plain.{overwritten, zeros}
+use Rattle.rules.specs.Plain.{zeros}
 use Rattle.rules.specs.Outcome.{Outcome, done, refused, Check, fine, ◌then◌, ◌>>=◌, on_the_way, zeroes_work}
 use Rattle.rules.specs.Refusal.{most_particles, count_check, lengths_check, result_check}
-use Rattle.rules.specs.Sheet.{word_of, word_at, pair_size, pairs_from, pairs_bytes}
+use Rattle.rules.specs.Sheet.{pair_size}
 use Rattle.rules.specs.Walk.{Counted, counted}
 use Rattle.rules.specs.Flow.{Flow, flow}
 use Rattle.rules.specs.ManyBody.{standard}
@@ -26,7 +24,7 @@ use Rattle.sheet.specs.Columns.{put_pairs}
 use Rattle.sheet.proofs.Columns.{put_beside}
 use Rattle.force.specs.declared.Ran.{Ran}
 use Rattle.force.specs.Ran.{flow_at, ran_check, ran_of}
-use Rattle.force_call.specs.Calls.{lent, no_counts, counts_after, Settled, AfterForce}
+use Rattle.force_call.specs.Calls.{no_counts, counts_after, Settled, AfterForce}
 use Rattle.force.proofs.RanCheck.{late_met}
 use Rattle.list_checks.proofs.Checks.{then_both, require_true}
 
@@ -44,22 +42,22 @@ module _ (n m k start : ℕ) where
 
 -- ---- a force that has run
 
-module _ (c : Check) (ran : Ran) (vs : List Float) (part work : List ℕ) (r : Counts) (part' work' : List ℕ) (cleared : work' ≡ zeros work) where
-  pub settled_refused : (q : Refusal) → c ≡ refused q → r ≡ no_counts q → part' ≡ part → Settled c ran vs part work r part' work'
-  settled_refused q e er ep = record { answer = er ∙ rw e; bytes = ep ∙ rw e; slots = cleared }
+module _ (c : Check) (ran : Ran) (vs : List Float) (start : ℕ) (buffer work : List ℕ) (r : Counts) (buffer' work' : List ℕ) (cleared : work' ≡ zeros work) where
+  pub settled_refused : (q : Refusal) → c ≡ refused q → r ≡ no_counts q → buffer' ≡ buffer → Settled c ran vs start buffer work r buffer' work'
+  settled_refused q e er eb = record { answer = er ∙ rw e; bytes = eb ∙ rw e; slots = cleared }
 
-  pub settled_done : c ≡ fine → r ≡ counts_after fine ran.progress → part' ≡ put_pairs pair_size part 0 vs → length vs % 2 ≡ 0
-      → length part ≡ length vs * 8 → Settled c ran vs part work r part' work'
-  settled_done e er ep even long =
+  pub settled_done : c ≡ fine → r ≡ counts_after fine ran.progress → buffer' ≡ put_pairs pair_size buffer start vs → length vs % 2 ≡ 0
+      → start + length vs / 2 * pair_size ≤ length buffer → Settled c ran vs start buffer work r buffer' work'
+  settled_done e er eb even room =
       record {
         answer = er ∙ rw e;
-        bytes = ep ∙ put_beside (length vs / 2) part 0 vs (omega arith) (omega arith) ∙ rw e;
+        bytes = eb ∙ put_beside (length vs / 2) buffer start vs (omega arith) room ∙ rw e;
         slots = cleared;
       }
 
 -- a force that builds a tree hands on as many work slots as it was lent
-pub settled_slots : {c : Check} {ran : Ran} {vs : List Float} {part m work : List ℕ} {r : Counts} {part' work' : List ℕ} → length m ≡ length work
-    → Settled c ran vs part m r part' work' → Settled c ran vs part work r part' work'
+pub settled_slots : {c : Check} {ran : Ran} {vs : List Float} {start : ℕ} {buffer m work : List ℕ} {r : Counts} {buffer' work' : List ℕ} → length m ≡ length work
+    → Settled c ran vs start buffer m r buffer' work' → Settled c ran vs start buffer work r buffer' work'
 settled_slots e s = record { answer = s.answer; bytes = s.bytes; slots = s.slots ∙ ap (λ (n : ℕ). replicate n 0) e }
 
 -- ---- the outcome of a call, check by check
@@ -118,78 +116,26 @@ pub answered_refused : (l : ForceInput) (o : Outcome (Counted Flow)) (q : Refusa
 unfolding force_answer buffer_after
 answered_refused l o q r e h er = record { answer = er ∙ rw e; bytes = rw e; slots = rw (e, early-stays q h) }
 
-module _ (l : ForceInput) (o : Outcome (Counted Flow)) (ran : Ran) (vs : List Float) (r : Counts) (part' work' : List ℕ) where
+module _ (l : ForceInput) (o : Outcome (Counted Flow)) (ran : Ran) (vs : List Float) (r : Counts) (buffer' work' : List ℕ) where
   answered_by : (m : Counted Flow) (c : Check) → o ≡ c >>= (λ _. done m) → ((q : Refusal) → c ≡ refused q → on_the_way q ≡ true)
-      → m.visits ≡ ran.progress.visits → m.state.speeds ≡ vs → length l.draws - length m.state.draws ≡ ran.progress.used → l.start ≡ 0
-      → Settled c ran vs l.buffer l.work r part' work' → AfterForce l o r part' work'
+      → m.visits ≡ ran.progress.visits → m.state.speeds ≡ vs → length l.draws - length m.state.draws ≡ ran.progress.used → Settled c ran vs l.start l.buffer l.work r buffer' work' → AfterForce l o r buffer' work'
   unfolding force_answer buffer_after
-  answered_by m (done t) e z ev es ed e0 s =
+  answered_by m (done t) e z ev es ed s =
       record {
         answer = s.answer ∙ rw (e, ← ev, ← ed);
-        bytes = s.bytes ∙ rw (e, ← es, e0);
+        bytes = s.bytes ∙ rw (e, ← es);
         slots = s.slots ∙ rw e;
       }
-  answered_by m (refused q) e z ev es ed e0 s = record { answer = s.answer ∙ rw e; bytes = s.bytes ∙ rw e; slots = s.slots ∙ rw (e, z q refl) }
+  answered_by m (refused q) e z ev es ed s = record { answer = s.answer ∙ rw e; bytes = s.bytes ∙ rw e; slots = s.slots ∙ rw (e, z q refl) }
 
   -- the force ran as `ran` says, and was settled
   pub answered_ran : o ≡ (ran_check ran then result_check l.places vs) >>= (λ _. done (flow_at vs l.draws ran.progress))
-      → ran.progress.used ≤ length l.draws → zeroes_work ran.refusal ≡ true → l.start ≡ 0
-      → Settled (ran_check ran then result_check l.places vs) ran vs l.buffer l.work r part' work'
-      → AfterForce l o r part' work'
-  answered_ran e h z e0 s =
+      → ran.progress.used ≤ length l.draws → zeroes_work ran.refusal ≡ true
+      → Settled (ran_check ran then result_check l.places vs) ran vs l.start l.buffer l.work r buffer' work'
+      → AfterForce l o r buffer' work'
+  answered_ran e h z s =
       answered_by (flow_at vs l.draws ran.progress) (ran_check ran then result_check l.places vs) e
-      (late_met ran l.places vs z) refl refl (simp length-drop (omega arith)) e0 s
-
--- ---- a part of the buffer
-
-regroup : (a b c d : List ℕ) → a ++ ((b ++ c) ++ d) ≡ (a ++ b) ++ (c ++ d)
-regroup a b c d = simp append_assoc
-
--- m bytes from a place on
-module _ (s : List ℕ) (at m : ℕ) (h : at + m ≤ length s) where
-  part_length : length (take m (drop at s)) ≡ m
-  part_length = length-take-le m (drop at s) (simp length-drop (omega arith))
-
-  -- what stands from number j of the part on
-  part-drop : (j : ℕ) → j ≤ m → drop (at + j) s ≡ drop j (take m (drop at s)) ++ drop m (drop at s)
-  part-drop j hj =
-      sym (drop-drop j at s)
-      ∙ ap (drop j) (sym (take-append-drop m (drop at s)))
-      ∙ drop-append-le j (take m (drop at s)) (drop m (drop at s)) (omega (arith, part_length))
-
-  word-part : (j : ℕ) → j + 8 ≤ m → word_at (take m (drop at s)) j ≡ word_at s (at + j)
-  unfolding word_at
-  word-part j hj =
-      sym
-      (ap (λ (l : List ℕ). word_of (take 8 l)) (part-drop j (omega arith))
-      ∙ ap word_of (take-append-le 8 (drop j (take m (drop at s))) (drop m (drop at s)) (simp length-drop (omega (arith, part_length)))))
-
-  -- the pairs of a part are those that stand there
-  pairs-from : (k j : ℕ) → j + k * pair_size ≤ m → pairs_from pair_size (take m (drop at s)) j k ≡ pairs_from pair_size s (at + j) k
-  pairs-from zero j hj = refl
-  pairs-from (suc k) j hj =
-      rw (
-        word-part j (omega arith),
-        word-part (j + 8) (omega arith),
-        pairs-from k (j + pair_size) (omega arith),
-        add_assoc at j 8,
-        add_assoc at j pair_size,
-      )
-
-  pub pairs-part : (k : ℕ) → k * pair_size ≤ m → pairs_from pair_size (take m (drop at s)) 0 k ≡ pairs_from pair_size s at k
-  pairs-part k hk = pairs-from k 0 (omega arith) ∙ rw add-zero
-
-  -- bytes written over a part, put back into the whole
-  pub part-back : (b : List ℕ) → length (overwritten (take m (drop at s)) 0 b) ≡ m
-      → take at s ++ (overwritten (take m (drop at s)) 0 b ++ drop m (drop at s)) ≡ overwritten s at b
-  part-back b e = rw (part-drop (length b) fits, zero-add) (regroup (take at s) b (drop (length b) (take m (drop at s))) (drop m (drop at s)))
-    where
-      fits : length b ≤ m
-      fits = omega (arith, sym (length-append b (drop (0 + length b) (take m (drop at s)))) ∙ e)
-
-  -- a part put back as it was
-  pub part-kept : take at s ++ (take m (drop at s) ++ drop m (drop at s)) ≡ s
-  part-kept = rw (take-append-drop m (drop at s)) (take-append-drop at s)
+      (late_met ran l.places vs z) refl refl (simp length-drop (omega arith)) s
 
 -- ---- what 1, 2 and 3 let pass
 
@@ -222,48 +168,3 @@ lent-all l f w h =
     }
 
 -- ---- the same call on the part of the buffer alone
-
--- k is how many bytes the part has
-module _ (places : List Float) (buffer : List ℕ) (start : ℕ) (draws : List Float) (work : List ℕ) (f : Push) (w : Bool) (k : ℕ) (ek : k ≡ length places / 2 * pair_size) where
-  abbrev whole : ForceInput
-  whole = lent places buffer start draws work
-
-  abbrev part : ForceInput
-  part = lent places (take k (drop start buffer)) 0 draws work
-
-  module _ (e : lent_check whole f w ≡ fine) where
-    room : start + k ≤ length buffer
-    room = omega (arith, (lent-all whole f w e).reach)
-
-    pub part-size : length (take k (drop start buffer)) ≡ k
-    part-size = part_length buffer start k room
-
-    lengths-same : input_lengths part ≡ input_lengths whole
-    lengths-same =
-        let h = lent-all whole f w e in
-        sym (agrees (length places) _ (length places / 2) 0 h.pairs (omega (arith, part-size))) ∙ agrees (length places) (length buffer) (length places / 2) start h.pairs h.reach
-
-    -- 1, 2 and 3 let it pass too
-    pub lent-part : lent_check part f w ≡ fine
-    lent-part =
-        ap (λ (b : Bool). count_check most_particles (length places / 2) then push_counts f then lengths_check (b && w && push_lengths (length places / 2) f) then push_ends (length places / 2) f) lengths-same
-        ∙ e
-
-    -- it ends the same
-    pub result-part : (alpha : Float) → force_result whole f w alpha ≡ force_result part f w alpha
-    result-part alpha =
-        past-lent whole f w alpha e (speeds part) (pairs-part buffer start k room (length places / 2) (omega arith))
-        ∙ sym (past-lent part f w alpha lent-part (speeds part) refl)
-
-    -- what it leaves, seen in the whole
-    pub answered-part : (o o' : Outcome (Counted Flow)) (r : Counts) (part' work' : List ℕ) → o ≡ o' → length part' ≡ k → AfterForce part o' r part' work'
-        → AfterForce whole o r (take start buffer ++ (part' ++ drop k (drop start buffer))) work'
-    unfolding force_answer buffer_after
-    answered-part o (done m) r part' work' eo long a =
-        record {
-          answer = a.answer ∙ rw eo;
-          bytes = rw (eo, a.bytes) (part-back buffer start k room (pairs_bytes m.state.speeds) (ap length (sym a.bytes) ∙ long));
-          slots = a.slots ∙ rw eo;
-        }
-    answered-part o (refused q) r part' work' eo long a =
-        record { answer = a.answer ∙ rw eo; bytes = rw (eo, a.bytes) (part-kept buffer start k room); slots = a.slots ∙ rw eo }

@@ -1,32 +1,28 @@
-// What the calls of all forces share: the lengths of what is lent, and how a force that has run is answered.
+// What the calls of all forces share: the lengths of what is lent, and how a force is run by itself and answered.
 #![tactic(auto)]
 
-ghost use Rattle.std.specs.Prelude.{◌≡◌, [], ◌*◌, ◌%◌, length};
+ghost use Rattle.std.specs.Prelude.{◌≡◌, List, ℕ, Bool, Float, [], ◌+◌, ◌*◌, ◌/◌, ◌%◌, ◌≤◌, length};
+ghost use Rattle.std.specs.Borrow.{Bor, MutBor};
 ghost use Rattle.rules.specs.Outcome.{fine, ◌then◌};
-ghost use Rattle.rules.specs.Refusal.{result_check};
-ghost use Rattle.rules.specs.Calls.{input_lengths};
+ghost use Rattle.rules.specs.Refusal.{most_particles, result_check};
+ghost use Rattle.rules.specs.Sheet.{pair_size};
+ghost use Rattle.rules.specs.Force.{Push};
+ghost use Rattle.rules.specs.Calls.{input_lengths, lent_check, force_result};
+ghost use Rattle.force.specs.declared.Ran.{Ran};
 ghost use Rattle.force.specs.Ran.{ran_check};
-ghost use Rattle.force_call.specs.Calls.{lent, no_counts, counts_after, Settled};
+ghost use Rattle.force_call.specs.Calls.{lent, no_counts, counts_after, Settled, Moved, AfterForce};
 
 use force::Ran;
 use list_checks::result_check;
-use rules::{Counts, PAIR_SIZE, Progress, Refusal};
+use rules::{Counts, MOST_PARTICLES, PAIR_SIZE, Progress, Refusal};
 
 // Whole pairs of places, and a pair of velocities for each within the buffer. The sum start + n * PAIR_SIZE is never made, as it might wrap.
 pub fn input_lengths(places: &[f64], buffer: &[u8], start: usize) -> bool
     ensures { result ≡ input_lengths (lent places.now buffer.now start [] []) }
 {
     let n = places.len() / 2;
-    if places.len() != n * 2 {
-        return false;
-    }
-    if buffer.len() < n * PAIR_SIZE {
-        return false;
-    }
-    if buffer.len() - n * PAIR_SIZE < start {
-        return false;
-    }
-    true
+    let size = n * PAIR_SIZE;
+    places.len() == n * 2 && size <= buffer.len() && start <= buffer.len() - size
 }
 
 // A refusal's answer: all counts zero.
@@ -51,23 +47,51 @@ pub fn counted(p: Progress) -> Counts
     }
 }
 
-// Tests 9, and writes the velocities over the part where nothing is refused. The work slots are zero in any case.
-pub fn settle(places: &[f64], part: &mut [u8], speeds: &[f64], ran: Ran, work: &mut [u64]) -> Counts
-    requires { (length speeds.now % 2 ≡ 0) × (length part.old ≡ length speeds.now * 8) }
+// Tests 9, and writes the velocities over the buffer where nothing is refused. The work slots are zero in any case.
+fn settle(
+    places: &[f64],
+    buffer: &mut [u8],
+    start: usize,
+    speeds: &[f64],
+    ran: Ran,
+    work: &mut [u64],
+) -> Counts
+    requires { (length speeds.now % 2 ≡ 0) × (start + length speeds.now / 2 * pair_size ≤ length buffer.old) }
     ensures { let c = ran_check ran then result_check places.now speeds.now in
-        Settled c ran speeds.now part.old work.old result part.new work.new }
+        Settled c ran speeds.now start buffer.old work.old result buffer.new work.new }
 {
     tree_slots::store::clear(work);
-    let refusal = ran.refusal;
-    let number = refusal.number;
-    if number != 0 {
+    if ran.refusal.number != 0 {
+        return refused(ran.refusal);
+    }
+    if let Err(refusal) = result_check(places, speeds) {
         return refused(refusal);
     }
-    let result = result_check(places, speeds);
-    let number = result.number;
-    if number != 0 {
-        return refused(result);
-    }
-    sheet::write_pairs(part, PAIR_SIZE, 0, speeds);
+    sheet::write_pairs(buffer, PAIR_SIZE, start, speeds);
     counted(ran.progress)
+}
+
+// A force run by itself, once 1, 2 and 3 are past: the velocities are the pairs from `start` on, and `run` looks at the numbers and moves the velocities.
+pub fn run_alone<F: FnOnce(&mut [f64], &mut [u64]) -> Result<Ran, Refusal>>(
+    places: &[f64],
+    buffer: &mut [u8],
+    start: usize,
+    work: &mut [u64],
+    run: F,
+) -> Counts
+    requires lent { (length places.now ≤ 2 * most_particles) × (length places.now % 2 ≡ 0) × (start + length places.now / 2 * pair_size ≤ length buffer.old) }
+    requires runs { (vs : MutBor (List Float)) (m : MutBor (List ℕ)) → length vs.now ≡ length places.now → F.pre run vs m }
+    ensures { (f : Push) (w : Bool) (alpha : Float) (draws : List Float) → let l = lent places.now buffer.old start draws work.old in
+        lent_check l f w ≡ fine
+        → ((vs : MutBor (List Float)) (m : MutBor (List ℕ)) (r : _) (vs' : MutBor (List Float)) (m' : MutBor (List ℕ)) → F.post run vs m r vs' m'
+        → Moved f places.now draws alpha vs.now m.now r vs'.now m'.now)
+        → AfterForce l (force_result l f w alpha) result buffer.new work.new }
+{
+    let mut list = [0.0f64; 2 * MOST_PARTICLES];
+    let speeds = &mut list[..places.len()];
+    sheet::read_pairs(buffer, PAIR_SIZE, start, speeds);
+    match run(speeds, work) {
+        Err(refusal) => refused(refusal),
+        Ok(ran) => settle(places, buffer, start, speeds, ran, work),
+    }
 }

@@ -1,5 +1,5 @@
 -- How many ends each particle has: lists of counts.
-use mathlib.Core.Path.{◌≡◌, refl, sym, ap, ◌∙◌}
+use mathlib.Core.Path.{◌≡◌, refl, sym, ap, ap₂, ◌∙◌}
 use mathlib.Core.Bool.{Bool, true, false, cond}
 use mathlib.Core.List.{List, [], ◌∷◌, ◌++◌, map}
 use Prim.Native.Nat.{ℕ, zero, suc, ◌+◌, ◌*◌, ◌/◌, ◌^◌, ◌≤◌, ◌<◌}
@@ -8,8 +8,9 @@ use native.Mathlib.Numerals.{add-one}
 use native.Mathlib.Omega.{arith}
 use borrow.Author.Tests.{eqb-true, eqb-false}
 use lib.Dec.{eqb}
-use lib.ListN.{length, get_or, take, replicate, length-set, length-map}
-use lib.Seq.{get_or-set_same, get_or-set_other, ext_get_or}
+use lib.ListN.{length, get_or, get_or-append, take, drop, replicate, length-set, length-map, length-append}
+use lib.Seq.{get_or-drop, get_or-set_same, get_or-set_other, ext_get_or, drop-append_seam, drop-drop}
+use Rattle.std.proofs.Common.{length-drop}
 use lib.Ieee.{Float}
 use Rattle.rules.specs.Plain.{count_from, up_to}
 use Rattle.rules.specs.Refusal.{most_links}
@@ -97,6 +98,22 @@ tally_turn n es s t hs ht =
         counted-at (one_more cs s) t j (simp length-set (omega (arith, tally_length n es)))
         ∙ omega (arith, counted-at cs s j (omega (arith, tally_length n es)), tally_at n es j h, tally_at n (es ++ (ends s t ∷ [])) j h, count_snoc es (ends s t) j)
 
+-- the pair x is taken off what is left of the links from number k on
+module _ (links x rest : List ℕ) (k : ℕ) (split : drop (k * 2) links ≡ x ++ rest) (two : length x ≡ 2) where
+  pub pair-more : k < length links / 2
+  pair-more = omega (arith, length-drop (k * 2) links, ap length split, length-append x rest)
+
+  pub pair-source : get_or x 0 0 ≡ get_or links (k * 2) 0
+  pair-source = sym (get_or-append x rest 0 0 (omega arith)) ∙ ap (λ (l : List ℕ). get_or l 0 0) (sym split) ∙ get_or-drop (k * 2) links 0 0 ∙ ap (λ (i : ℕ). get_or links i 0) (omega arith)
+
+  pub pair-target : get_or x 1 0 ≡ get_or links (k * 2 + 1) 0
+  pair-target = sym (get_or-append x rest 0 1 (omega arith)) ∙ ap (λ (l : List ℕ). get_or l 1 0) (sym split) ∙ get_or-drop (k * 2) links 1 0
+
+  pub pair-rest : rest ≡ drop ((k + 1) * 2) links
+  pair-rest =
+      sym (drop-append_seam x rest) ∙ ap (drop (length x)) (sym split) ∙ ap (λ (i : ℕ). drop i (drop (k * 2) links)) two ∙ drop-drop 2 (k * 2) links
+      ∙ ap (λ (i : ℕ). drop i links) (omega arith)
+
 -- ---- a turn of the loop over the links
 
 module _ {n : ℕ} {links : List ℕ} (lent : EndsLent n links) (k : ℕ) (h : k < length links / 2) (cs : List ℕ) (is : cs ≡ tallies n (ends_from links k)) where
@@ -113,35 +130,32 @@ module _ {n : ℕ} {links : List ℕ} (lent : EndsLent n links) (k : ℕ) (h : k
         lent.few,
       )
 
-  abbrev s : ℕ
-  s = get_or links (k * 2) 0
+  -- s and t are its ends
+  module _ (s t : ℕ) (es' : s ≡ get_or links (k * 2) 0) (et : t ≡ get_or links (k * 2 + 1) 0) where
+    hs : s < n
+    hs = rw es' (lent.range (k * 2) (omega arith))
 
-  abbrev t : ℕ
-  t = get_or links (k * 2 + 1) 0
+    ht : t < n
+    ht = rw et (lent.range (k * 2 + 1) (omega arith))
 
-  hs : s < n
-  hs = lent.range (k * 2) (omega arith)
+    -- both ends have counts, and one more fits each
+    pub count_room : (s < length cs) × (t < length cs) × (get_or cs s 0 < 2 ^ 31) × (get_or (one_more cs s) t 0 < 2 ^ 31)
+    count_room =
+        let hl : s < length cs = omega (arith, long, hs) in (
+          hl,
+          omega (arith, long, ht),
+          omega (arith, small s hs),
+          omega (arith, small t ht, counted-at cs s t hl, one_most (eqb s t)),
+        )
 
-  ht : t < n
-  ht = lent.range (k * 2 + 1) (omega arith)
-
-  -- both ends have counts, and one more fits each
-  pub count_room : (s < length cs) × (t < length cs) × (get_or cs s 0 < 2 ^ 31) × (get_or (one_more cs s) t 0 < 2 ^ 31)
-  count_room =
-      let hl : s < length cs = omega (arith, long, hs) in (
-        hl,
-        omega (arith, long, ht),
-        omega (arith, small s hs),
-        omega (arith, small t ht, counted-at cs s t hl, one_most (eqb s t)),
-      )
-
-  -- both are counted
-  pub count_turn : (cs' : List ℕ) → cs' ≡ one_more (one_more cs s) t → cs' ≡ tallies n (ends_from links (k + 1))
-  count_turn cs' g =
-      g
-      ∙ ap (λ (l : List ℕ). one_more (one_more l s) t) is
-      ∙ tally_turn n (ends_from links k) s t hs ht
-      ∙ ap (tallies n) (sym (ends_more links k (omega arith)))
+    -- both are counted
+    pub count_turn : (cs' : List ℕ) → cs' ≡ one_more (one_more cs s) t → cs' ≡ tallies n (ends_from links (k + 1))
+    count_turn cs' g =
+        g
+        ∙ ap (λ (l : List ℕ). one_more (one_more l s) t) is
+        ∙ tally_turn n (ends_from links k) s t hs ht
+        ∙ ap₂ (λ (a b : ℕ). tallies n (ends_from links k ++ (ends a b ∷ []))) es' et
+        ∙ ap (tallies n) (sym (ends_more links k (omega arith)))
 
 -- ---- the counts once they are all made
 

@@ -22,8 +22,8 @@ fn count_ends(links: &[u32], counts: &mut [u32])
     requires { EndsLent (length counts.old) links.now × (counts.old ≡ tallies (length counts.old) []) }
     ensures { counts.new ≡ tallies (length counts.old) (ends_of links.now) }
 {
-    for k in 0..links.len() / 2 {
-        count_link(counts, links[k * 2] as usize, links[k * 2 + 1] as usize);
+    for ends in links.chunks_exact(2) {
+        count_link(counts, ends[0] as usize, ends[1] as usize);
     }
 }
 
@@ -158,7 +158,7 @@ fn iterate(
     ensures dry { OnlyDry result }
 {
     count_ends(links, counts);
-    for i in 0..iterations {
+    for _ in 0..iterations {
         pull_all(at, vs, links, counts, strengths, distances, alpha, draws)?;
     }
     Ok(())

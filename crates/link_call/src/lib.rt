@@ -1,23 +1,33 @@
 // Link called alone, on plain lists.
 #![tactic(auto)]
 
-ghost use Rattle.std.specs.Prelude.{◌≡◌, ◌&&◌, [], ◌*◌, ◌/◌, ◌%◌, eqb, length};
-ghost use Rattle.rules.specs.Outcome.{fine, refusal_of};
-ghost use Rattle.rules.specs.Sheet.{pair_size};
+ghost use Rattle.std.specs.Prelude.{◌≡◌, ◌&&◌, List, ℕ, [], ◌*◌, ◌/◌, ◌%◌, ◌≤◌, eqb, length};
+ghost use Rattle.rules.specs.Outcome.{fine, result_of};
 ghost use Rattle.rules.specs.Force as Force;
 ghost use Rattle.rules.specs.Force.{ends_of, push_lengths};
 ghost use Rattle.rules.specs.Calls.{input_lengths, link_result, lent_check, numbers_check};
-ghost use Rattle.force_call.specs.Calls.{lent, AfterForce};
+ghost use Rattle.rules.specs.Refusal.{most_particles};
+ghost use Rattle.link.specs.Links.{EndsLent, NumbersLent};
+ghost use Rattle.force_call.specs.Calls.{lent, Moved, AfterForce};
 
-use force_call::{input_lengths, refused, settle};
+use force::Ran;
+use force_call::{input_lengths, refused, run_alone};
 use link::link::link;
 use list_checks::{
-    count_check, distances_check, draws_check, ends_check, first, lengths_check, points_check,
+    count_check, distances_check, draws_check, ends_check, lengths_check, points_check,
     setting_check, strengths_check,
 };
-use rules::{Counts, MOST_ITERATIONS, MOST_LINKS, MOST_PARTICLES, PAIR_SIZE, Progress, Refusal};
+use rules::{Counts, MOST_ITERATIONS, MOST_LINKS, MOST_PARTICLES, Progress, Refusal};
+
+// A strength for each of n links, or none.
+fn strengths_agree(n: usize, strengths: &[f64]) -> bool
+    ensures { result ≡ Force.strengths_agree n (length strengths.now) }
+{
+    strengths.is_empty() || strengths.len() == n
+}
 
 // Whole pairs of places and of ends, velocities within the buffer, a distance for each link, and a strength for each or none.
+#[tactic(auto, using(crate::proofs::LinkCalled::ends_counted))]
 fn lengths_agree(
     places: &[f64],
     buffer: &[u8],
@@ -29,23 +39,15 @@ fn lengths_agree(
     ensures { result ≡ input_lengths (lent places.now buffer.now start [] []) && eqb (length links.now % 2) 0
         && push_lengths (length places.now / 2) (Force.link (ends_of links.now) strengths.now distances.now 0) }
 {
-    if !input_lengths(places, buffer, start) {
-        return false;
-    }
-    if links.len() % 2 != 0 {
-        return false;
-    }
     let n = links.len() / 2;
-    if distances.len() != n {
-        return false;
-    }
-    if strengths.len() == 0 {
-        return true;
-    }
-    strengths.len() == n
+    input_lengths(places, buffer, start)
+        && links.len() % 2 == 0
+        && distances.len() == n
+        && strengths_agree(n, strengths)
 }
 
 // 1, 2 and 3.
+#[tactic(auto, using(crate::proofs::LinkCalled::ends_counted))]
 fn lent_check(
     places: &[f64],
     buffer: &[u8],
@@ -54,21 +56,16 @@ fn lent_check(
     strengths: &[f64],
     distances: &[f64],
     iterations: usize,
-) -> Refusal
-    ensures { result ≡ refusal_of (lent_check (lent places.now buffer.now start [] [])
+) -> Result<(), Refusal>
+    ensures { result ≡ result_of (lent_check (lent places.now buffer.now start [] [])
         (Force.link (ends_of links.now) strengths.now distances.now iterations) (eqb (length links.now % 2) 0)) }
 {
     let n = places.len() / 2;
-    let particles = count_check(MOST_PARTICLES, n);
-    let counts = first(
-        count_check(MOST_LINKS, links.len() / 2),
-        count_check(MOST_ITERATIONS, iterations),
-    );
-    let lengths = lengths_check(lengths_agree(places, buffer, start, links, strengths, distances));
-    first(
-        first(first(particles, counts), lengths),
-        ends_check(links, n),
-    )
+    count_check(MOST_PARTICLES, n)?;
+    count_check(MOST_LINKS, links.len() / 2)?;
+    count_check(MOST_ITERATIONS, iterations)?;
+    lengths_check(lengths_agree(places, buffer, start, links, strengths, distances))?;
+    ends_check(links, n)
 }
 
 // 4 and 5.
@@ -79,23 +76,21 @@ fn numbers_check(
     distances: &[f64],
     draws: &[f64],
     alpha: f64,
-) -> Refusal
+) -> Result<(), Refusal>
     requires { length speeds.now ≡ length places.now }
-    ensures { result ≡ refusal_of (numbers_check places.now speeds.now
+    ensures { result ≡ result_of (numbers_check places.now speeds.now
         (Force.link [] strengths.now distances.now 0) draws.now alpha) }
 {
-    let points = points_check(places, speeds);
-    let lists = first(strengths_check(strengths), distances_check(distances));
-    first(
-        first(first(points, lists), draws_check(draws)),
-        setting_check(alpha),
-    )
+    points_check(places, speeds)?;
+    strengths_check(strengths)?;
+    distances_check(distances)?;
+    draws_check(draws)?;
+    setting_check(alpha)
 }
 
-// On the sheet's own part of the buffer, with a list for the velocities. 1, 2 and 3 are past.
-fn on_part(
+// 4 and 5, and then Link moves the velocities; it looks at no work slot. 1, 2 and 3 are past.
+fn moved(
     places: &[f64],
-    part: &mut [u8],
     speeds: &mut [f64],
     links: &[u32],
     strengths: &[f64],
@@ -103,34 +98,29 @@ fn on_part(
     iterations: usize,
     alpha: f64,
     draws: &[f64],
-    work: &mut [u64],
-) -> Counts
-    requires { (lent_check (lent places.now part.old 0 [] []) (Force.link (ends_of links.now) strengths.now distances.now iterations) (eqb (length links.now % 2) 0) ≡ fine)
-        × (length part.old ≡ length places.now / 2 * pair_size) × (length speeds.old ≡ length places.now) }
-    ensures { let l = lent places.now part.old 0 draws.now work.old in
-        AfterForce l (link_result l links.now strengths.now distances.now iterations alpha) result part.new work.new }
+) -> Result<Ran, Refusal>
+    requires lent { EndsLent (length places.now / 2) links.now × NumbersLent links.now strengths.now distances.now }
+    requires lists { (length places.now % 2 ≡ 0) × (length places.now ≤ 2 * most_particles) × (length speeds.old ≡ length places.now) }
+    ensures { (work : List ℕ) → Moved (Force.link (ends_of links.now) strengths.now distances.now iterations) places.now draws.now alpha speeds.old work result speeds.new work }
 {
-    sheet::read_pairs(part, PAIR_SIZE, 0, speeds);
-    let r = numbers_check(places, speeds, strengths, distances, draws, alpha);
-    let number = r.number;
-    if number != 0 {
-        return refused(r);
-    }
-    let p = Progress {
-        alpha,
-        used: 0,
-        visits: 0,
-    };
-    let ran = link(
-        places, speeds, links, strengths, distances, iterations, draws, p,
-    );
-    settle(places, part, speeds, ran, work)
+    numbers_check(places, speeds, strengths, distances, draws, alpha)?;
+    Ok(link(
+        places,
+        speeds,
+        links,
+        strengths,
+        distances,
+        iterations,
+        draws,
+        Progress::begin(alpha),
+    ))
 }
 
-// The same with a list of its own.
-fn with_speeds(
+// What the calls share runs it. 1, 2 and 3 are past.
+fn passed(
     places: &[f64],
-    part: &mut [u8],
+    buffer: &mut [u8],
+    start: usize,
     links: &[u32],
     strengths: &[f64],
     distances: &[f64],
@@ -139,25 +129,15 @@ fn with_speeds(
     draws: &[f64],
     work: &mut [u64],
 ) -> Counts
-    requires { (lent_check (lent places.now part.old 0 [] []) (Force.link (ends_of links.now) strengths.now distances.now iterations) (eqb (length links.now % 2) 0) ≡ fine)
-        × (length part.old ≡ length places.now / 2 * pair_size) }
-    ensures { let l = lent places.now part.old 0 draws.now work.old in
-        AfterForce l (link_result l links.now strengths.now distances.now iterations alpha) result part.new work.new }
+    requires { lent_check (lent places.now buffer.old start [] []) (Force.link (ends_of links.now) strengths.now distances.now iterations) (eqb (length links.now % 2) 0) ≡ fine }
+    ensures { let l = lent places.now buffer.old start draws.now work.old in
+        AfterForce l (link_result l links.now strengths.now distances.now iterations alpha) result buffer.new work.new }
 {
-    let n = places.len();
-    let mut speeds = [0.0f64; 2 * MOST_PARTICLES];
-    on_part(
-        places,
-        part,
-        &mut speeds[..n],
-        links,
-        strengths,
-        distances,
-        iterations,
-        alpha,
-        draws,
-        work,
-    )
+    run_alone(places, buffer, start, work, |speeds, _work| {
+        moved(
+            places, speeds, links, strengths, distances, iterations, alpha, draws,
+        )
+    })
 }
 
 // Any lists and numbers may come in. The velocities are the pairs from `start` on.
@@ -176,16 +156,12 @@ pub fn link_call(
     ensures { let l = lent places.now buffer.old start draws.now work.old in
         AfterForce l (link_result l links.now strengths.now distances.now iterations alpha) result buffer.new work.new }
 {
-    let r = lent_check(
+    match lent_check(
         places, buffer, start, links, strengths, distances, iterations,
-    );
-    let number = r.number;
-    if number != 0 {
-        return refused(r);
+    ) {
+        Err(refusal) => refused(refusal),
+        Ok(()) => passed(
+            places, buffer, start, links, strengths, distances, iterations, alpha, draws, work,
+        ),
     }
-    let end = start + places.len() / 2 * PAIR_SIZE;
-    let part = &mut buffer[start..end];
-    with_speeds(
-        places, part, links, strengths, distances, iterations, alpha, draws, work,
-    )
 }

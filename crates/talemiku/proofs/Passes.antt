@@ -18,8 +18,9 @@ use Rattle.rules.specs.Sheet.{particle, places_of, speeds_of}
 use Rattle.rules.specs.Particle.{offset, shifted, centered, closing}
 use Rattle.rules.proofs.RefusalNumbers.{count-early, settings-early}
 use Rattle.list_checks.proofs.Scans.{passes}
-use Rattle.talemiku.specs.declared.centring.Pair.{Pair}
-use Rattle.talemiku.specs.Pass.{result_of, moved_alone, pair, added_to, offsets_of}
+use Rattle.center.specs.declared.Pair.{Pair}
+use Rattle.center.specs.Pairs.{pair, offsets_of}
+use Rattle.talemiku.specs.Pass.{result_of, moved_alone, added_to}
 
 -- what stands past a list's end: no pass looks there
 abbrev pub none : Particle

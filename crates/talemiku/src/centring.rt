@@ -1,45 +1,13 @@
 // center.rs: the mean of all places is drawn to a point.
-ghost use Rattle.std.specs.Prelude.{◌≡◌, ◌≤◌};
-ghost use Rattle.rules.specs.Refusal.{most_particles};
 ghost use Rattle.rules.specs.Calls.{center_result};
 ghost use Rattle.talemiku.specs.AfterParticles.{AfterParticles};
-ghost use Rattle.talemiku.specs.Pass.{added_to, offsets_of};
 
 use crate::check::result_check;
-use center::shifted;
+use center::{Pair, added, offsets, shifted};
 use list_checks::count_check;
 use rules::{MOST_PARTICLES, Particle, Refusal};
 use sheet::record_check;
 use tick_checks::settings_check;
-
-// A number for each axis: sums of places, and how far to move back.
-#[derive(Clone, Copy)]
-pub struct Pair {
-    pub x: f64,
-    pub y: f64,
-}
-
-// The sums with one particle more.
-pub fn added(sums: Pair, p: Particle) -> Pair
-    ensures { result ≡ added_to sums p }
-{
-    Pair {
-        x: sums.x + p.x,
-        y: sums.y + p.y,
-    }
-}
-
-// How far the mean of n particles lies from x, y, times the strength.
-pub fn offsets(sums: Pair, n: usize, x: f64, y: f64, strength: f64) -> Pair
-    requires { n ≤ most_particles }
-    ensures { result ≡ offsets_of sums n x y strength }
-{
-    let count = n as f64;
-    Pair {
-        x: (sums.x / count - x) * strength,
-        y: (sums.y / count - y) * strength,
-    }
-}
 
 // Every result is tested before the first is written, so that a refusal changes nothing.
 #[unsafe(no_mangle)]
@@ -64,7 +32,7 @@ pub extern "C" fn talemiku_center(
         if refusal.number != 0 {
             return refusal;
         }
-        sums = added(sums, p);
+        sums = added(sums, p.x, p.y);
         i = i + 1;
     }
     refusal = settings_check(x, y, strength);

@@ -55,7 +55,7 @@ link_small links strengths iterations c h =
     let few = count_small most_links links (then_both (count_check most_links links) (count_check most_iterations iterations) c).0 in
     (few, omega (arith, none-small links strengths h))
 
-kind-small : (k : Kind) (n : ℕ) (e : ForceEntry) → n ≤ most_particles → kind_counts k e.links e.iterations ≡ fine → kind_strengths_agree k e ≡ true
+pub kind-small : (k : Kind) (n : ℕ) (e : ForceEntry) → n ≤ most_particles → kind_counts k e.links e.iterations ≡ fine → kind_strengths_agree k e ≡ true
     → (kind_numbers k n e ≤ 2 * most_links) × (kind_links k e ≤ most_links)
 kind-small Empty n e few c r = omega arith
 kind-small ManyBody n e few c r = omega arith

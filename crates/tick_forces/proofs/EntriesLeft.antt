@@ -1,26 +1,30 @@
 -- The force slots one after another: what is left of their lists, and of the stages.
-use mathlib.Core.Path.{◌≡◌, sym, ap, ◌∙◌}
+use mathlib.Core.Path.{◌≡◌, refl, sym, ap, ◌∙◌}
 use mathlib.Core.Bool.{◌&&◌, and-eq-true_iff}
 use mathlib.Core.List.{List, [], ◌∷◌, map}
-use Prim.Native.Nat.{ℕ, ◌+◌, ◌-◌, ◌*◌, ◌/◌, ◌≤◌, ◌<◌}
+use Prim.Native.Nat.{ℕ, ◌+◌, ◌*◌, ◌≤◌, ◌<◌}
 use native.Mathlib.Omega.{arith}
 use borrow.Author.Tests.{eq-eqb, eqb-true}
 use lib.Dec.{eqb}
-use lib.ListN.{length, take, drop, length-drop}
-use lib.Seq.{take_all, drop-drop}
+use lib.ListN.{length, get_or, drop, length-drop, drop_of_length-le}
+use Rattle.list_checks.proofs.Scans.{list_left}
 use lib.Ieee.{Float}
 use Rattle.rules.specs.declared.ForceEntry.{ForceEntry}
 use Rattle.rules.specs.declared.Tuning.{Tuning}
-use Rattle.rules.specs.Calls.{slot_words}
 use Rattle.rules.specs.Plain.{all, sum}
-use Rattle.rules.specs.Outcome.{Check, fine, fold_stages, check_from, check_each}
-use Rattle.rules.specs.Tick.{entry_words, force_slots, State, Force, entry_at, entries_of, entry_counts, strengths_right, numbers_needed, links_needed, force_of, forces_from, force_ends, force_stage}
+use Rattle.rules.specs.Outcome.{Outcome, Check, fine, no_refusal, zeroes_work, fold_stages, check_from, check_each}
+use Rattle.rules.specs.Refusal.{most_links}
+use Rattle.rules.specs.Force.{kind_of}
+use Rattle.rules.specs.Tick.{force_slots, State, entries_of, entry_counts, strengths_right, numbers_needed, links_needed, force_of, forces_from, force_ends, force_stage}
 use Rattle.rules.proofs.OutcomeLaws.{check-any}
+use Rattle.rules.specs.declared.Progress.{Progress}
 use Rattle.force.specs.declared.Ran.{Ran}
+use Rattle.force.specs.Draws.{From}
+use Rattle.force.specs.Ran.{ended, ran_check, most_force_visits, most_tick_visits}
 use Rattle.list_checks.proofs.Checks.{then_both}
 use Rattle.tick_checks.specs.Fits.{Fits}
-use Rattle.tick_checks.proofs.Entries.{entries_left, entries_left_lem, entries_none, bind_then}
-use Rattle.tick_columns.specs.Stage.{Columns, EntryFits, state_of, staged_of}
+use Rattle.tick_checks.proofs.Entries.{bind_then, kind-small}
+use Rattle.tick_columns.specs.Stage.{Columns, ColumnsFit, EntryFits, state_of, staged_of, Stages, StageBy}
 use Rattle.tick_columns.proofs.Staged.{staged_refused, staged_done}
 
 -- ---- what 1, 2 and 3 say of the first slot and of the others
@@ -46,61 +50,88 @@ fits-split n e es xs ls h =
       record { few = h.few; counts = c.1; lengths = rw (s.1, eq-eqb _ _ x', eq-eqb _ _ l'); ends = d.1 },
     )
 
--- ---- the slots from number i on, whose lists begin at a and b
+-- ---- the slots that are left: their entries, lists and stages
 
-module _ (n : ℕ) (w : List ℕ) (numbers : List Float) (links : List ℕ) where
-  pub record Left (i a b : ℕ) : Type 0 where
-    pub some : i ≤ force_slots
-    pub first : a ≤ length numbers
-    pub second : b ≤ length links
-    pub fits : Fits n (entries_left w i) (drop a numbers) (drop b links)
+-- the entries from one on, of all of them
+pub entry_left : (w : List ℕ) (l : List ForceEntry) (i : ℕ) (d : ForceEntry) → l ≡ entries_of w → i < force_slots → drop i l ≡ get_or l i d ∷ drop (i + 1) l
+entry_left w l i d e h = list_left l i d (rw e h)
 
-  abbrev pub forces_left : ℕ → ℕ → ℕ → List Force
-  forces_left i a b = forces_from n (entries_left w i) (drop a numbers) (drop b links)
+pub entries_done : (w : List ℕ) (l : List ForceEntry) (i : ℕ) → l ≡ entries_of w → force_slots ≤ i → drop i l ≡ []
+entries_done w l i e h = drop_of_length-le l {i = i} (rw e h)
 
-  pub left-first : Fits n (entries_of w) numbers links → Left 0 0 0
-  left-first h = record { some = omega arith; first = omega arith; second = omega arith; fits = h }
+-- i slots ran, and what is left of the entries, numbers and links decides, with the columns k at `at`, what all do; the forces began at p
+pub record Going (n : ℕ) (t : Tuning) (slots : ℕ) (ds : List Float) (p : Progress) (all : Outcome State) (i : ℕ) (es : List ForceEntry) (xs : List Float) (ls : List ℕ) (k : Columns) (at : Progress) : Type 0 where
+  pub fits : Fits n es xs ls
+  pub lent : ColumnsFit k.places k.speeds ds n at.used
+  pub alpha : at.alpha ≡ p.alpha
+  pub draws : From ds p.used at.used
+  pub few : at.visits ≤ p.visits + i * most_force_visits
+  pub same : fold_stages (force_stage t slots) (state_of k ds at) (forces_from n es xs ls) ≡ all
 
+pub going_first : {n : ℕ} {ds : List Float} {p : Progress} {es : List ForceEntry} {xs : List Float} {ls : List ℕ} {k : Columns} (t : Tuning) (slots : ℕ) → Fits n es xs ls → ColumnsFit k.places k.speeds ds n p.used
+    → Going n t slots ds p (fold_stages (force_stage t slots) (state_of k ds p) (forces_from n es xs ls)) 0 es xs ls k p
+going_first t slots f c = record { fits = f; lent = c; alpha = refl; draws = record { begun = omega arith; reach = c.drawn }; few = omega arith; same = refl }
+
+module _ {n : ℕ} {t : Tuning} {slots : ℕ} {ds : List Float} {p : Progress} {all : Outcome State} {i : ℕ} {es : List ForceEntry} {xs : List Float} {ls : List ℕ} {k : Columns} {at : Progress}
+    (g : Going n t slots ds p all i es xs ls k at) where
   -- nothing is left
-  pub left-none : (i a b : ℕ) → force_slots ≤ i → forces_left i a b ≡ []
-  left-none i a b h = ap (λ (es : List ForceEntry). forces_from n es (drop a numbers) (drop b links)) (entries_none w i h)
+  pub going_end : es ≡ [] → i ≤ force_slots → (r : Ran) → r ≡ ended no_refusal at → Stages k ds p (p.visits + most_tick_visits) r all
+  unfolding staged_of ran_check zeroes_work
+  going_end e h r is =
+      rw is (
+      record {
+        is = ap (λ (es : List ForceEntry). fold_stages (force_stage t slots) (state_of k ds at) (forces_from n es xs ls)) (sym e) ∙ g.same;
+        alpha = g.alpha;
+        draws = g.draws;
+        late = refl;
+        few = λ _. omega (arith, g.few);
+        ranged = λ _. g.lent.ranged;
+      }
+      )
 
-  -- e is the entry of slot i
-  module _ (i a b : ℕ) (h : Left i a b) (k : i < force_slots) (e : ForceEntry) (is : e ≡ entry_at w (i * entry_words)) where
-    both : EntryFits n e (drop a numbers) (drop b links) × Fits n (entries_left w (i + 1)) (drop (numbers_needed n e) (drop a numbers)) (drop (links_needed e * 2) (drop b links))
-    both = fits-split n e (entries_left w (i + 1)) (drop a numbers) (drop b links) (rw (entries_left_lem w i k, ← is) at h.fits)
+  -- e is the next entry
+  module _ {e : ForceEntry} {rest : List ForceEntry} (is : es ≡ e ∷ rest) where
+    both : EntryFits n e xs ls × Fits n rest (drop (numbers_needed n e) xs) (drop (links_needed e * 2) ls)
+    both = fits-split n e rest xs ls (rw is at g.fits)
 
-    pub left-slot : EntryFits n e (drop a numbers) (drop b links)
-    left-slot = both.0
+    pub going_slot : EntryFits n e xs ls
+    going_slot = both.0
 
-    pub left-next : Left (i + 1) (a + numbers_needed n e) (b + links_needed e * 2)
-    left-next =
-        record {
-          some = omega arith;
-          first = omega (arith, h.first, simp length-drop at left-slot.numbers);
-          second = omega (arith, h.second, simp length-drop at left-slot.links);
-          fits = rw (← drop-drop (numbers_needed n e) a numbers, ← drop-drop (links_needed e * 2) b links) both.1;
-        }
+    small : (numbers_needed n e ≤ 2 * most_links) × (links_needed e ≤ most_links)
+    small = kind-small (kind_of e.kind) n e g.fits.few going_slot.counts going_slot.strengths
 
-    pub left-forces : forces_left i a b ≡ force_of n e (drop a numbers) (drop b links) ∷ forces_left (i + 1) (a + numbers_needed n e) (b + links_needed e * 2)
-    left-forces = rw (entries_left_lem w i k, ← is, drop-drop (numbers_needed n e) a numbers, drop-drop (links_needed e * 2) b links)
+    -- what it needs is little, and there
+    pub going_numbers : {m : ℕ} → m ≡ numbers_needed n e → (m ≤ length xs) × (m ≤ 2 * most_links)
+    going_numbers im = rw im (going_slot.numbers, small.0)
 
--- all that stands from a place on, as the code says its length
-pub rest-is : {A : Type 0} (l : List A) (a : ℕ) → take (length l - a) (drop a l) ≡ drop a l
-rest-is l a = take_all (length l - a) (drop a l) (simp length-drop (omega arith))
+    pub going_links : {m : ℕ} → m ≡ links_needed e → (m * 2 ≤ length ls) × (m ≤ most_links)
+    going_links im = rw im (going_slot.links, small.1)
 
--- ---- the stages, of which the first was answered as r
+    turn : fold_stages (force_stage t slots) (state_of k ds at) (force_of n e xs ls ∷ forces_from n rest (drop (numbers_needed n e) xs) (drop (links_needed e * 2) ls)) ≡ all
+    turn = ap (λ (es : List ForceEntry). fold_stages (force_stage t slots) (state_of k ds at) (forces_from n es xs ls)) (sym is) ∙ g.same
 
-module _ (k : Columns) (ds : List Float) (r : Ran) where
-  -- on the lists as the code hands them over; w and w' are how many words the work slots have
-  pub staged_rest : (t : Tuning) (n : ℕ) (e : ForceEntry) (numbers : List Float) (links : List ℕ) (a b w w' : ℕ) (m : State) → w ≡ w'
-      → staged_of k ds r ≡ force_stage t (w / slot_words) m (force_of n e (take (length numbers - a) (drop a numbers)) (take (length links - b) (drop b links)))
-      → staged_of k ds r ≡ force_stage t (w' / slot_words) m (force_of n e (drop a numbers) (drop b links))
-  staged_rest t n e numbers links a b w w' m h is = is ∙ rw (rest-is numbers a, rest-is links b, h)
+    -- its stage was answered as r, and left the columns k'
+    module _ {k' : Columns} {r : Ran} (s : StageBy (λ m. force_stage t slots m (force_of n e xs ls)) k k' ds at r) where
+      pub going_stop : (r.refusal.number ≡ 0 → ⊥) → Stages k' ds p (p.visits + most_tick_visits) r all
+      going_stop h =
+          let q = staged_refused k' ds r h in
+          record {
+            is = q ∙ rw (sym s.is ∙ q) at turn;
+            alpha = s.alpha ∙ g.alpha;
+            draws = omega (arith, s.draws, g.draws);
+            late = s.late;
+            few = λ z. absurd (h z);
+            ranged = λ z. absurd (h z);
+          }
 
-  module _ (t : Tuning) (slots : ℕ) (m : State) (f : Force) (fs all : List Force) (e : all ≡ f ∷ fs) (is : staged_of k ds r ≡ force_stage t slots m f) where
-    pub stage-stop : (r.refusal.number ≡ 0 → ⊥) → staged_of k ds r ≡ fold_stages (force_stage t slots) m all
-    stage-stop h = let q = staged_refused k ds r h in q ∙ sym (rw (e, ← is, q))
-
-    pub stage-on : r.refusal.number ≡ 0 → fold_stages (force_stage t slots) m all ≡ fold_stages (force_stage t slots) (state_of k ds r.progress) fs
-    stage-on h = rw (e, ← is, staged_done k ds r h)
+      pub going_on : r.refusal.number ≡ 0 → length k'.places ≡ length k.places → length k'.speeds ≡ length k.speeds
+          → Going n t slots ds p all (i + 1) rest (drop (numbers_needed n e) xs) (drop (links_needed e * 2) ls) k' r.progress
+      going_on z ep ev =
+          record {
+            fits = both.1;
+            lent = record { few = g.lent.few; places = ep ∙ g.lent.places; speeds = ev ∙ g.lent.speeds; ranged = s.ranged z; drawn = s.draws.reach };
+            alpha = s.alpha ∙ g.alpha;
+            draws = omega (arith, s.draws, g.draws);
+            few = omega (arith, s.few z, g.few);
+            same = rw (sym s.is ∙ staged_done k' ds r z) at turn;
+          }

@@ -10,8 +10,8 @@ ghost use Rattle.tick_checks.specs.Fits.{Fits};
 ghost use Rattle.tick_columns.specs.Stage.{columns, ColumnsFit, Chains, state_of, Stages};
 
 use force::Ran;
-use rules::{FORCE_SLOTS, FORCE_WORDS, Progress, Tuning};
-use tick_checks::entry::{entry_at, links_needed, numbers_needed};
+use rules::{FORCE_WORDS, Progress, Tuning};
+use tick_checks::entry::{entries, links_needed, numbers_needed};
 use tick_stage::stage::stage;
 
 // Each slot on the state that the one before it left; its lists begin where those of the one before it end.
@@ -35,36 +35,20 @@ pub fn run_forces(
         (fold_stages (force_stage t (slots_of work.old)) (state_of (columns places.old speeds.old flags.now) draws.now p)
         (forces_from (length flags.now) (entries_of words.now) numbers.now links.now)) }
 {
-    let n = flags.len();
+    let entries = entries(words);
+    let mut numbers = numbers;
+    let mut links = links;
     let mut at = p;
-    let mut a: usize = 0;
-    let mut b: usize = 0;
-    let mut i: usize = 0;
-    while i < FORCE_SLOTS {
-        let e = entry_at(words, i);
-        let r = stage(
-            e,
-            &numbers[a..],
-            &links[b..],
-            places,
-            speeds,
-            flags,
-            t,
-            draws,
-            at,
-            next,
-            tail,
-            work,
+    for &e in &entries {
+        let ran = stage(
+            e, numbers, links, places, speeds, flags, t, draws, at, next, tail, work,
         );
-        let refusal = r.refusal;
-        let number = refusal.number;
-        if number != 0 {
-            return r;
+        if ran.refusal.number != 0 {
+            return ran;
         }
-        at = r.progress;
-        a = a + numbers_needed(n, e);
-        b = b + links_needed(e) * 2;
-        i = i + 1;
+        at = ran.progress;
+        numbers = numbers.split_at(numbers_needed(flags.len(), e)).1;
+        links = links.split_at(links_needed(e) * 2).1;
     }
     Ran::done(at)
 }

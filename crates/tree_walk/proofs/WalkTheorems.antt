@@ -13,9 +13,8 @@ use Rattle.rules.specs.declared.Visit.TheVariants.{Continue, Skip}
 use Rattle.rules.specs.Outcome.{Outcome, done, refused, ◌>>=◌, if_done}
 use Rattle.rules.specs.Tree.{Tree, none, leaf, node, nodes}
 use Rattle.rules.specs.Walk.{Entry, internal, tip, Counted, counted, After, after, unless_skip, walk, parent_last}
-use Rattle.tree_walk.specs.declared.visit.Walk.{Walk}
-use Rattle.tree_walk.specs.Walk.{most_waiting}
-use Rattle.tree_walk.proofs.Walking as walking
+use Rattle.tree_walk.specs.Walk.{Waiting, most_waiting}
+use Rattle.tree_walk.proofs.Visits as visits
 use Rattle.tree_walk.proofs.WalkAfter as later
 
 -- ---- the nodes of a tree, parent first, children 0, 1, 2, 3
@@ -187,9 +186,9 @@ module _ {A S : Type 0} (step : Entry A → S → Outcome (After S)) where
 -- ---- what waits
 
 -- At most 193 wait at any turn.
-pub waits_few : {A S : Type 0} {step : Entry A → S → Outcome (After S)} {look : ℕ → Extent → A} {P : List ℕ → Type 0} {m next : List ℕ} {T : Tree A} {begun : Counted S} {w : Walk} {now : Counted S}
-    → walking.Walking step look P m next T begun w now → w.height ≤ most_waiting
-waits_few w = walking.low w
+pub waits_few : {A S : Type 0} {step : Entry A → S → Outcome (After S)} {look : ℕ → Extent → A} {P : List ℕ → Type 0} {m next : List ℕ} {T : Tree A} {begun : Counted S} {waits : List Waiting} {now : Counted S}
+    → visits.Visiting step look P m next T begun waits now → length waits ≤ most_waiting
+waits_few w = visits.low w
 
 -- ---- parent last
 

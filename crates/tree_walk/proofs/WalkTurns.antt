@@ -17,9 +17,8 @@ use Rattle.rules.specs.Cell.{quarter}
 use Rattle.rules.specs.Tree.{Tree, none, leaf, node, nodes, depth}
 use Rattle.rules.specs.Walk.{Entry, internal, tip, Counted, counted, After, after, walk}
 use Rattle.rules.proofs.OutcomeLaws.{bind_cong, bind_assoc}
-use Rattle.tree_walk.specs.declared.visit.Waiting.{Waiting}
 use Rattle.tree_slots.specs.Trees.{word, kid, LeafIn, InternalIn, Follows, Leads, ChainFrom, InSlots, SlotsLent}
-use Rattle.tree_walk.specs.Walk.{most_waiting, lay, lay_kids, seen, EachChain}
+use Rattle.tree_walk.specs.Walk.{Waiting, most_waiting, lay, lay_kids, seen, EachChain}
 
 -- ---- what follows what was done
 

@@ -1,19 +1,13 @@
 -- The path of a walk parent last, and what is still to be handed out from it. Definitions only.
-use Rattle.std.specs.Prelude.{◌≡◌, List, [], ◌∷◌, ◌++◌, ℕ, zero, suc, ◌+◌, ◌*◌, ◌≤◌, ◌<◌, length, get_or, Float}
+use Rattle.std.specs.Prelude.{◌≡◌, List, [], ◌∷◌, ◌++◌, ℕ, zero, suc, ◌+◌, ◌≤◌, length, Float}
 use Rattle.rules.specs.Tree.{Tree, none, leaf, node, depth, tree_of, greatest_level}
 use Rattle.rules.specs.Walk.{Entry, internal, tip, valued, parent_last}
 use Rattle.tree_slots.specs.declared.Quadtree.{Quadtree}
 pub use Rattle.tree_walk.specs.declared.parent_last.Step.{Step}
-use Rattle.tree_walk.specs.declared.visit_after.Path.{Path}
-use Rattle.tree_walk.specs.declared.visit_after.Handed.{Handed}
 use Rattle.tree_slots.specs.Trees.{kid, LeafIn, InternalIn, Follows, Leads, Stands, InSlots, SlotsLent}
 use Rattle.tree_walk.specs.Walk.{seen}
 
 -- ---- the path
-
--- how many numbers a path takes: two for each level
-abbrev pub path_numbers : ℕ
-path_numbers = 2 * (greatest_level + 1)
 
 -- a path has no more steps than a tree has levels
 abbrev pub most_steps : ℕ
@@ -22,14 +16,6 @@ most_steps = greatest_level + 1
 -- the slot s of the path, where the quadrant q is next
 abbrev pub standing : ℕ → ℕ → Step
 standing s q = record { slot = s; quadrant = q }
-
--- the highest of h steps first
-abbrev pub steps_at : List ℕ → ℕ → List Step
-steps_at l zero = []
-steps_at l (suc h) = standing (get_or l (h * 2) 0) (get_or l (h * 2 + 1) 0) ∷ steps_at l h
-
-abbrev pub steps_of : Path → List Step
-steps_of p = steps_at p.steps p.height
 
 -- the slot that a number leads to, with all its quadrants to come: none for 0
 abbrev pub rooted : ℕ → List Step
@@ -68,14 +54,6 @@ pub record Climbs (m next : List ℕ) (es : List Step) (rest : List (Entry ℕ))
   pub steps : Steps m next es trees
   pub same : remaining_all es trees ≡ rest
 
--- a path along which something is to be handed out
-pub record Climbing (m l : List ℕ) (h : ℕ) : Type 0 where
-  pub next : List ℕ
-  pub rest : List (Entry ℕ)
-  pub climbs : Climbs m next (steps_at l h) rest
-  pub some : 0 < h
-  pub sized : length l ≡ path_numbers
-
 -- the slot that a number leads to is lent
 abbrev pub KidIn : List ℕ → ℕ → Type 0
 KidIn m zero = Unit {0}
@@ -88,20 +66,6 @@ KidsIn m s = KidIn m (kid m s 0) × KidIn m (kid m s 1) × KidIn m (kid m s 2) �
 abbrev pub EntryAt : List ℕ → List ℕ → ℕ → Entry ℕ → Type 0
 EntryAt m next s (internal i) = (i ≡ s) × InternalIn m s × KidsIn m s
 EntryAt m next s (tip i is) = (i ≡ s) × LeafIn m s is × Follows next is
-
--- the first of the entries that are to be handed out stands at this slot, and the others are left along the path
-pub record First (m next l : List ℕ) (h s : ℕ) (rest : List (Entry ℕ)) : Type 0 where
-  pub entry : Entry ℕ
-  pub others : List (Entry ℕ)
-  pub split : rest ≡ entry ∷ others
-  pub stands : EntryAt m next s entry
-  pub lent : InSlots s m
-  pub climbs : Climbs m next (steps_at l h) others
-
--- from the first h steps of l the walk went on to its next node, whatever was to be handed out
-pub record HandsOut (m l : List ℕ) (h : ℕ) (l' : List ℕ) (r : Handed) : Type 0 where
-  pub first : (next : List ℕ) (rest : List (Entry ℕ)) → Climbs m next (steps_at l h) rest → First m next l' r.height r.slot rest
-  pub sized : length l' ≡ path_numbers
 
 -- ---- values are laid, children first
 

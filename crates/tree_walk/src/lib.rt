@@ -3,9 +3,6 @@
 
 mod parent_first;
 mod parent_last;
-pub mod visit;
-pub mod visit_after;
 
-pub use parent_first::Walk;
+pub use parent_first::{Waiting, Walk};
 pub use parent_last::{Path, Step};
-pub use visit::Waiting;

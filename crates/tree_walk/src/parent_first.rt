@@ -3,11 +3,17 @@ ghost use Rattle.std.specs.Prelude.{◌≡◌, [], ◌∷◌, ◌<◌, ◌≤◌
 ghost use Rattle.tree_slots.specs.Trees.{InSlots};
 ghost use Rattle.tree_walk.specs.Walk.{most_waiting, lay, lay_kids};
 
-use crate::visit::Waiting;
 use rules::Extent;
 use std::marker::Model;
 use tree_cells::extent::quarter;
 use tree_slots::{Quadtree, store};
+
+// A node that waits: its slot, and its cell.
+#[derive(Clone, Copy)]
+pub struct Waiting {
+    pub slot: usize,
+    pub extent: Extent,
+}
 
 // At most `Quadtree::MOST_WAITING` wait. Contracts see them as a list, the next one first.
 #[derive(Drop)]

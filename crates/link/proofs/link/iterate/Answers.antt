@@ -7,8 +7,8 @@ use Rattle.link.proofs.Linked.{times_first}
 use Rattle.link.specs.Links.{tallies}
 use Rattle.link.proofs.link.iterate.Goals as goal
 
-pub loop-i-init : goal.loop-i-init
-loop-i-init c =
+pub loop-init : goal.loop-init
+loop-init c =
     let a = c.args in
     let k = c.count_ends.auto.counts in (
       record {

@@ -8,9 +8,9 @@ use Rattle.link.specs.Links.{LinksReady}
 use Rattle.link.proofs.Linked.{times_left}
 use Rattle.link.proofs.link.iterate.Given as goal
 
-abbrev pub invariant-loop-i : goal.invariant-loop-i
-invariant-loop-i l =
+abbrev pub invariant-loop : goal.invariant-loop
+invariant-loop l =
     LinksReady l.vs l.links l.counts
     × Further l.initial.draws l.draws
-    × (times_left l.at l.links l.strengths l.distances l.alpha l.iterations l.i (flow l.vs (left l.draws))
+    × (times_left l.at l.links l.strengths l.distances l.alpha l.iterations l.counter (flow l.vs (left l.draws))
     ≡ run_link l.at (ends_of l.links) l.strengths l.distances l.iterations l.alpha (flow l.initial.vs (left l.initial.draws)))

@@ -11,7 +11,7 @@ use Rattle.rules.specs.Outcome.{Check, refusal_of}
 use Rattle.rules.specs.Particle.{shifted, centered}
 use Rattle.rules.specs.Refusal.{most_particles, count_check, settings_check}
 use Rattle.rules.specs.Sheet.{record_check}
-use Rattle.talemiku.specs.declared.centring.Pair.{Pair}
+use Rattle.center.specs.declared.Pair.{Pair}
 use Rattle.talemiku.specs.Pass.{result_of, added_to}
 use Rattle.talemiku.proofs.Answered.{refuses, zero_of, none_is, counted, set_so, record_fine, result_fine, ended, stopped, went_on}
 use Rattle.talemiku.proofs.Outcomes.{stops-count, stops-records, stops-settings, stops-results, accepts}
