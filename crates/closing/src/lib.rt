@@ -85,6 +85,7 @@ pub fn close_all(home: &[f64], places: &mut [f64], speeds: &mut [f64], flags: &[
     ensures { let closed = Rule.closing decay home.now (particles_from places.old speeds.old flags.now) in
         (places.new ≡ places_of closed) × (speeds.new ≡ speeds_of closed) }
 {
+    // By number: a proof knows nothing of what is written through a chunk that is lent.
     for i in 0..flags.len() {
         let p = particle_at(places, speeds, flags, i);
         let j = i * 2;

@@ -1,10 +1,10 @@
--- Words of edits: the edits that are left from one on, how many there are, and what the checks of the words say.
-use mathlib.Core.Path.{◌≡◌, refl, sym, ap, ◌∙◌}
+-- Words of edits: how many edits there are, and what the checks of the words say.
+use mathlib.Core.Path.{◌≡◌, refl, sym, ◌∙◌}
 use mathlib.Core.Bool.{true, false≢true, and-eq-true_iff}
 use mathlib.Core.List.{List, [], ◌∷◌}
 use Prim.Native.Nat.{ℕ, zero, suc, ◌+◌, ◌*◌, ◌/◌, ◌≤◌, ◌<◌}
 use native.Mathlib.Omega.{arith}
-use lib.ListN.{length, get_or, drop, length-drop}
+use lib.ListN.{length, get_or}
 use Rattle.rules.specs.Plain.{all}
 use Rattle.rules.specs.Number.{within, place_range, x_at, y_at}
 use Rattle.rules.specs.Outcome.{fine, require, check_from, check_each}
@@ -12,32 +12,7 @@ use Rattle.rules.specs.Refusal.{place_check}
 use Rattle.rules.specs.Edits.{Edit, insertion, removal, unknown, edit_of, edits_of, points_of, insertions, point_check, known, edit_words}
 use Rattle.rules.proofs.OutcomeLaws.{place_both}
 use Rattle.sheet.proofs.Checked.{all_ranged}
-use Rattle.sheet.proofs.Turns.{two-off}
-use Rattle.list_checks.proofs.Scans.{list_left}
 use Rattle.list_checks.proofs.Checks.{bind_both, require_true}
-
--- ---- what is left from edit k on
-
-three-off : (w : List ℕ) (k : ℕ) → k * edit_words + edit_words ≤ length w
-    → drop (k * edit_words) w ≡ get_or w (k * edit_words) 0 ∷ get_or w (k * edit_words + 1) 0 ∷ get_or w (k * edit_words + 2) 0 ∷ drop ((k + 1) * edit_words) w
-three-off w k h = two-off w (k * edit_words) 0 (omega arith) ∙ rw (list_left w (k * edit_words + 2) 0 (omega arith), e)
-  where
-    e : k * edit_words + 2 + 1 ≡ (k + 1) * edit_words
-    e = omega arith
-
-pub edits-next : (w : List ℕ) (k : ℕ) → k * edit_words + edit_words ≤ length w
-    → edits_of (drop (k * edit_words) w) ≡ edit_of (get_or w (k * edit_words) 0) (get_or w (k * edit_words + 1) 0) (get_or w (k * edit_words + 2) 0) ∷ edits_of (drop ((k + 1) * edit_words) w)
-edits-next w k h = ap edits_of (three-off w k h)
-
--- a rest of one or two words is no edit
-too_few : (w : List ℕ) → length w < edit_words → edits_of w ≡ []
-too_few [] h = refl
-too_few (a ∷ []) h = refl
-too_few (a ∷ b ∷ []) h = refl
-too_few (a ∷ b ∷ c ∷ w) h = absurd (omega arith)
-
-pub edits_end : (w : List ℕ) (k : ℕ) → length w < k * edit_words + edit_words → edits_of (drop (k * edit_words) w) ≡ []
-edits_end w k h = too_few (drop (k * edit_words) w) (rw (length-drop (k * edit_words) w) (omega arith))
 
 -- ---- how many there are
 

@@ -16,7 +16,7 @@ links_left next zero l = 0
 links_left next (suc k) zero = 0
 links_left next (suc k) (suc i) = suc (links_left next k (get_or next i 0))
 
-pub left_trails : (next : List ℕ) (k l : ℕ) (is : List ℕ) → Trails next l is → length is ≤ k → links_left next k l ≡ length is
+left_trails : (next : List ℕ) (k l : ℕ) (is : List ℕ) → Trails next l is → length is ≤ k → links_left next k l ≡ length is
 unfolding links_left
 left_trails next zero l [] t h = refl
 left_trails next (suc k) l [] t h = rw t
@@ -108,7 +108,3 @@ module _ {next : List ℕ} {n f : ℕ} (h : Chain next n f) where
 
   pub rest-few : Few n (rest_of h.members)
   rest-few = record { below = pieces.1.below.1; few = omega (arith, pieces.1.few) }
-
--- from its beginning on
-pub alongside : {S : Type 0} {act : S → List ℕ → S} {next : List ℕ} {n link : ℕ} {is : List ℕ} (s : S) → Trails next link is → Few n is → Along act next n (act s is) link s
-alongside {is = is} s t f = record { rest = is; trails = t; good = f; same = refl }

@@ -1,10 +1,11 @@
 -- The last internal node on a way: it is gathered, or its one child is a leaf.
 use mathlib.Core.Path.{◌≡◌, refl, sym, ap, ◌∙◌, subst}
-use mathlib.Core.List.{List, [], ◌++◌, append-nil}
+use mathlib.Core.List.{List, [], ◌∷◌, ◌++◌, append-nil}
 use Prim.Native.Nat.{ℕ, zero, suc, ◌+◌, ◌-◌, ◌≤◌, ◌<◌}
 use native.Mathlib.Omega.{arith}
-use lib.ListN.{get_or}
 use lib.Ieee.{Float}
+use borrow.Author.Tests.{ne_eqb}
+use Rattle.std.specs.Prelude.{cond, count_by, not, ◌==◌}
 use Rattle.rules.specs.declared.Extent.{Extent}
 use Rattle.rules.specs.Cell.{quarter}
 use Rattle.rules.specs.Tree.{Tree, none, leaf, node, nodes}
@@ -28,17 +29,38 @@ use Rattle.tree_removing.proofs.Gather.{gather_leaf, gather_none, gather_node, g
 
 -- ---- four numbers
 
-two-kids : (a0 a1 a2 a3 n0 n1 n2 n3 : ℕ) → (0 < a0 → 1 ≤ n0) → (0 < a1 → 1 ≤ n1) → (0 < a2 → 1 ≤ n2) → (0 < a3 → 1 ≤ n3) → (first_of a0 (first_of a1 (first_of a2 a3)) ≡ a0 + a1 + a2 + a3 → ⊥) → 2 ≤ n0 + n1 + n2 + n3
-two-kids (suc a0) (suc a1) a2 a3 n0 n1 n2 n3 h0 h1 h2 h3 ne = omega (arith, h0 (omega arith), h1 (omega arith))
-two-kids (suc a0) zero (suc a2) a3 n0 n1 n2 n3 h0 h1 h2 h3 ne = omega (arith, h0 (omega arith), h2 (omega arith))
-two-kids (suc a0) zero zero (suc a3) n0 n1 n2 n3 h0 h1 h2 h3 ne = omega (arith, h0 (omega arith), h3 (omega arith))
-two-kids (suc a0) zero zero zero n0 n1 n2 n3 h0 h1 h2 h3 ne = absurd (ne (omega arith))
-two-kids zero (suc a1) (suc a2) a3 n0 n1 n2 n3 h0 h1 h2 h3 ne = omega (arith, h1 (omega arith), h2 (omega arith))
-two-kids zero (suc a1) zero (suc a3) n0 n1 n2 n3 h0 h1 h2 h3 ne = omega (arith, h1 (omega arith), h3 (omega arith))
-two-kids zero (suc a1) zero zero n0 n1 n2 n3 h0 h1 h2 h3 ne = absurd (ne (omega arith))
-two-kids zero zero (suc a2) (suc a3) n0 n1 n2 n3 h0 h1 h2 h3 ne = omega (arith, h2 (omega arith), h3 (omega arith))
-two-kids zero zero (suc a2) zero n0 n1 n2 n3 h0 h1 h2 h3 ne = absurd (ne (omega arith))
-two-kids zero zero zero a3 n0 n1 n2 n3 h0 h1 h2 h3 ne = absurd (ne (omega arith))
+-- how many of them there are
+abbrev counted : List ℕ → ℕ
+counted ks = count_by (λ k. not (k == 0)) ks
+
+one : (a : ℕ) → ◌≡◌ {A = ℕ} (cond (not (suc a == 0)) 1 0) 1
+one a = rw (ne_eqb (suc a) 0 (λ z. omega arith))
+
+two-kids : (a0 a1 a2 a3 n0 n1 n2 n3 : ℕ) → (0 < a0 → 1 ≤ n0) → (0 < a1 → 1 ≤ n1) → (0 < a2 → 1 ≤ n2) → (0 < a3 → 1 ≤ n3) → 0 < first_of a0 (first_of a1 (first_of a2 a3)) → (counted (a0 ∷ a1 ∷ a2 ∷ a3 ∷ []) ≡ 1 → ⊥) → 2 ≤ n0 + n1 + n2 + n3
+two-kids (suc a0) (suc a1) a2 a3 n0 n1 n2 n3 h0 h1 h2 h3 l ne = omega (arith, h0 (omega arith), h1 (omega arith))
+two-kids (suc a0) zero (suc a2) a3 n0 n1 n2 n3 h0 h1 h2 h3 l ne = omega (arith, h0 (omega arith), h2 (omega arith))
+two-kids (suc a0) zero zero (suc a3) n0 n1 n2 n3 h0 h1 h2 h3 l ne = omega (arith, h0 (omega arith), h3 (omega arith))
+two-kids (suc a0) zero zero zero n0 n1 n2 n3 h0 h1 h2 h3 l ne = absurd (ne (omega (arith, one a0)))
+two-kids zero (suc a1) (suc a2) a3 n0 n1 n2 n3 h0 h1 h2 h3 l ne = omega (arith, h1 (omega arith), h2 (omega arith))
+two-kids zero (suc a1) zero (suc a3) n0 n1 n2 n3 h0 h1 h2 h3 l ne = omega (arith, h1 (omega arith), h3 (omega arith))
+two-kids zero (suc a1) zero zero n0 n1 n2 n3 h0 h1 h2 h3 l ne = absurd (ne (omega (arith, one a1)))
+two-kids zero zero (suc a2) (suc a3) n0 n1 n2 n3 h0 h1 h2 h3 l ne = omega (arith, h2 (omega arith), h3 (omega arith))
+two-kids zero zero (suc a2) zero n0 n1 n2 n3 h0 h1 h2 h3 l ne = absurd (ne (omega (arith, one a2)))
+two-kids zero zero zero (suc a3) n0 n1 n2 n3 h0 h1 h2 h3 l ne = absurd (ne (omega (arith, one a3)))
+two-kids zero zero zero zero n0 n1 n2 n3 h0 h1 h2 h3 l ne = absurd (omega arith)
+
+-- one alone is the sum of all
+one-sum : (a0 a1 a2 a3 : ℕ) → counted (a0 ∷ a1 ∷ a2 ∷ a3 ∷ []) ≡ 1 → first_of a0 (first_of a1 (first_of a2 a3)) ≡ a0 + a1 + a2 + a3
+one-sum (suc a0) (suc a1) a2 a3 e = absurd (omega (arith, e, one a0, one a1))
+one-sum (suc a0) zero (suc a2) a3 e = absurd (omega (arith, e, one a0, one a2))
+one-sum (suc a0) zero zero (suc a3) e = absurd (omega (arith, e, one a0, one a3))
+one-sum (suc a0) zero zero zero e = omega arith
+one-sum zero (suc a1) (suc a2) a3 e = absurd (omega (arith, e, one a1, one a2))
+one-sum zero (suc a1) zero (suc a3) e = absurd (omega (arith, e, one a1, one a3))
+one-sum zero (suc a1) zero zero e = omega arith
+one-sum zero zero (suc a2) (suc a3) e = absurd (omega (arith, e, one a2, one a3))
+one-sum zero zero (suc a2) zero e = omega arith
+one-sum zero zero zero a3 e = omega arith
 
 lead-nodes : (t : Tree ℕ) → 0 < lead t → 1 ≤ nodes t
 lead-nodes none l = absurd (omega arith)
@@ -137,30 +159,31 @@ module _ (at : List Float) (m : List ℕ) (q : Quadtree) (i : ℕ) (t : Tree ℕ
         (λ z. omega (arith, cells_nodes (quarter 0 h.cell) h.t0, cells_nodes (quarter 1 h.cell) h.t1, cells_nodes (quarter 2 h.cell) h.t2, cells_nodes (quarter 3 h.cell) h.t3)))
 
     module _ (ks : List ℕ) (ek : ks ≡ kids m e.slot) where
-      sum_is : get_or ks 0 0 + get_or ks 1 0 + get_or ks 2 0 + get_or ks 3 0 ≡ lead h.t0 + lead h.t1 + lead h.t2 + lead h.t3
-      sum_is = ap (λ (l : List ℕ). get_or l 0 0 + get_or l 1 0 + get_or l 2 0 + get_or l 3 0) (ek ∙ kids-are)
+      count-is : counted ks ≡ counted (leads (pick h.t0 h.t1 h.t2 h.t3))
+      count-is = ap counted (ek ∙ kids-are)
 
       kid_is : some_kid ks ≡ some_kid (leads (pick h.t0 h.t1 h.t2 h.t3))
       kid_is = ap some_kid (ek ∙ kids-are)
 
-      pub lone-many : (some_kid ks ≡ get_or ks 0 0 + get_or ks 1 0 + get_or ks 2 0 + get_or ks 3 0 → ⊥) → gather at i q.extent (in_cells q.extent t) ≡ in_cells q.extent t
+      -- it has a child
+      pub lone-some : 0 < some_kid ks
+      lone-some = omega (arith, (some-kid e.slot k fruit.0).3, kid_is)
+
+      pub lone-many : (counted ks ≡ 1 → ⊥) → gather at i q.extent (in_cells q.extent t) ≡ in_cells q.extent t
       lone-many n =
           stays (two-kids (lead h.t0) (lead h.t1) (lead h.t2) (lead h.t3) (nodes h.t0) (nodes h.t1) (nodes h.t2) (nodes h.t3) (lead-nodes h.t0) (lead-nodes h.t1) (lead-nodes h.t2) (lead-nodes h.t3)
-          (λ z. n (kid_is ∙ z ∙ sym sum_is)))
+          (omega (arith, lone-some, kid_is)) (λ z. n (count-is ∙ z)))
 
-      module _ (one : some_kid ks ≡ get_or ks 0 0 + get_or ks 1 0 + get_or ks 2 0 + get_or ks 3 0) where
-        some : 0 < some_kid ks
-        some = omega (arith, (some-kid e.slot k fruit.0).3, kid_is)
-
+      module _ (one : counted ks ≡ 1) where
         only : Alone (pick h.t0 h.t1 h.t2 h.t3) (some_kid ks)
-        only = subst (Alone k) (sym kid_is) (alone k (sym kid_is ∙ one ∙ sum_is) (omega (arith, some, kid_is)))
+        only = subst (Alone k) (sym kid_is) (alone k (one-sum (lead h.t0) (lead h.t1) (lead h.t2) (lead h.t3) (sym count-is ∙ one)) (omega (arith, lone-some, kid_is)))
 
         nonzero : some_kid ks ≡ some_kid ks - 1 + 1
-        nonzero = omega (arith, some)
+        nonzero = omega (arith, lone-some)
 
         pub lone-child : (0 < some_kid ks) × InSlots (some_kid ks - 1) m
         lone-child = (
-          some,
+          lone-some,
           lead_each (λ j. InSlots j m) (k only.r) (some_kid ks - 1) (only.is ∙ nonzero)
               (each_child h.t0 h.t1 h.t2 h.t3 e.slot (λ j. InSlots j m) (reach-each at i h.level c t h.cell u h.way (λ j. InSlots j m) lent) only.r),
         )
@@ -172,7 +195,7 @@ module _ (at : List Float) (m : List ℕ) (q : Quadtree) (i : ℕ) (t : Tree ℕ
         lone-inner n = stays (omega (arith, only.total, go (k only.r) only.is st (fruit_child e.slot h.t0 h.t1 h.t2 h.t3 fruit only.r)))
           where
             go : (v : Tree ℕ) → lead v ≡ some_kid ks → Stored m v → Fruitful v → 2 ≤ nodes v
-            go none w s f = absurd (omega (arith, some))
+            go none w s f = absurd (omega (arith, lone-some))
             go (leaf z is) w s f = let y : z ≡ some_kid ks - 1 = omega arith in absurd (omega (arith, s.tag, n, ap (λ (j : ℕ). word m j 0) y))
             go (node z v0 v1 v2 v3) w s f = omega (arith, f.0, leaves-nodes v0, leaves-nodes v1, leaves-nodes v2, leaves-nodes v3)
 
@@ -180,7 +203,7 @@ module _ (at : List Float) (m : List ℕ) (q : Quadtree) (i : ℕ) (t : Tree ℕ
         lone-fold n = go (k only.r) refl only.is st
           where
             go : (v : Tree ℕ) → pick h.t0 h.t1 h.t2 h.t3 only.r ≡ v → lead v ≡ some_kid ks → Stored m v → FoldsAt at q.extent t i e.slot (some_kid ks - 1)
-            go none y w s = absurd (omega (arith, some))
+            go none y w s = absurd (omega (arith, lone-some))
             go (node z v0 v1 v2 v3) y w s = let x : some_kid ks - 1 ≡ z = omega arith in absurd (n (ap (λ (j : ℕ). word m j 0) x ∙ s.0.tag))
             go (leaf z js) y w s =
                 let x : z ≡ some_kid ks - 1 = omega arith in

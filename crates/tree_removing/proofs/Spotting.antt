@@ -5,6 +5,7 @@ use Prim.Native.Nat.{ℕ, suc, ◌+◌, ◌-◌, ◌≤◌, ◌<◌}
 use native.Mathlib.Omega.{arith}
 use lib.ListN.{get_or}
 use lib.Ieee.{Float}
+use Rattle.std.specs.Prelude.{Some, None}
 use Rattle.rules.specs.declared.Extent.{Extent}
 use Rattle.rules.specs.Cell.{quarter}
 use Rattle.rules.specs.Tree.{Tree, none, leaf, node}
@@ -38,12 +39,12 @@ module _ (at : List Float) (is m : List ℕ) (q : Quadtree) (i : ℕ) (g : Finds
   pub root_there : InSlots (q.root - 1) m
   root_there = root_slot at is m q g.holds rooted
 
-  pub spot_root : (InternalIn m (q.root - 1) → ⊥) → Spotted at is m q i (record { leaf = q.root - 1; above = 0; quadrant = 0 })
+  pub spot_root : (InternalIn m (q.root - 1) → ⊥) → Spotted at is m q i (record { leaf = q.root - 1; above = None })
   spot_root n =
       let h = g.holds in
       let (s, js, z) = root_leaf m h.tree q.root h.root rooted n h.stored in
       let y : s ≡ q.root - 1 = omega (arith, h.root, ap lead z) in
-      record { holds = h; chain = js; root = λ _. z ∙ ap (λ (j : ℕ). leaf j js) y; below = λ n. absurd (n refl) }
+      record { holds = h; chain = js; root = λ _. z ∙ ap (λ (j : ℕ). leaf j js) y; below = λ e n. absurd cc }
 
   pub spot_tops : InternalIn m (q.root - 1) → Tops at m q i g.holds.tree
   spot_tops z =
@@ -88,15 +89,14 @@ module _ (at : List Float) (is m : List ℕ) (q : Quadtree) (i : ℕ) (g : Finds
       pub spot-child : 1 ≤ get_or ks e.quadrant 0
       spot-child = omega (arith, number)
 
-      pub spot-below : Spotted at is m q i (record { leaf = get_or ks e.quadrant 0 - 1; above = e.slot + 1; quadrant = e.quadrant })
+      pub spot-below : Spotted at is m q i (record { leaf = get_or ks e.quadrant 0 - 1; above = Some e })
       spot-below =
-          let (x, js, z) = leaf-there in
+          let (x, js, w) = leaf-there in
           let y : x ≡ get_or ks e.quadrant 0 - 1 = omega (arith, number) in
-          let s : e.slot ≡ e.slot + 1 - 1 = omega arith in
           record {
             holds = g.holds;
             chain = js;
-            root = λ z. absurd (omega (arith, z));
-            below = λ _. subst (λ (s : ℕ). Hangs at c t i s e.quadrant (get_or ks e.quadrant 0 - 1) js) s
-                (record { level = h.level; cell = h.cell; t0 = h.t0; t1 = h.t1; t2 = h.t2; t3 = h.t3; way = h.way; quadrant = h.quadrant; child = z ∙ ap (λ (j : ℕ). leaf j js) y });
+            root = λ z. absurd cc;
+            below = λ d z. subst (λ (d : Edge). Hangs at c t i d.slot d.quadrant (get_or ks e.quadrant 0 - 1) js) (let f : e ≡ d = cc in f)
+                (record { level = h.level; cell = h.cell; t0 = h.t0; t1 = h.t1; t2 = h.t2; t3 = h.t3; way = h.way; quadrant = h.quadrant; child = w ∙ ap (λ (j : ℕ). leaf j js) y });
           }

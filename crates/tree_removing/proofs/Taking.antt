@@ -8,6 +8,7 @@ use lib.Dec.{eqb}
 use lib.ListN.{length, set}
 use lib.Ieee.{Float}
 use borrow.Author.Tests.{eqb-true}
+use Rattle.std.specs.Prelude.{Option, Some, None}
 use Rattle.rules.specs.declared.Extent.{Extent}
 use Rattle.rules.specs.Plain.{branch, others}
 use Rattle.rules.specs.Refusal.{most_particles}
@@ -33,6 +34,7 @@ use Rattle.tree_placing.proofs.AddHold.{holds_levels, holds_few, reached, leaf-c
 use Rattle.tree_removing.specs.Remove.{gather, Occupies, Hollow, Filled, with_less, Tidies, Tidied}
 use Rattle.tree_removing.specs.Take.{Finds, Hangs, Spotted}
 use Rattle.tree_removing.specs.declared.take.Spot.{Spot}
+use Rattle.tree_removing.specs.declared.way.Edge.{Edge}
 use Rattle.tree_removing.proofs.Plug.{plug-less}
 use Rattle.tree_removing.proofs.Replace.{hollowed, cut}
 use Rattle.tree_removing.proofs.Gather.{gather-down, gather_none, without-down, plug-down}
@@ -122,11 +124,11 @@ module _ (at : List Float) (is m : List ℕ) (q : Quadtree) (i : ℕ) (g : Finds
     way : (l : ℕ) × (d : Extent) × Reaches at i l q.extent h.holds.tree d (leaf r.leaf h.chain)
     way = go r.above refl
       where
-        go : (a : ℕ) → r.above ≡ a → (l : ℕ) × (d : Extent) × Reaches at i l q.extent h.holds.tree d (leaf r.leaf h.chain)
-        go zero e = (0, q.extent, (refl, h.root e))
-        go (suc a) e =
-            let b = h.below (λ z. omega (arith, e, z)) in
-            (suc b.level, quarter r.quadrant b.cell, hang_way at q.extent h.holds.tree i (r.above - 1) r.quadrant r.leaf h.chain b)
+        go : (a : Option Edge) → r.above ≡ a → (l : ℕ) × (d : Extent) × Reaches at i l q.extent h.holds.tree d (leaf r.leaf h.chain)
+        go None z = (0, q.extent, (refl, h.root z))
+        go (Some e) z =
+            let b = h.below e z in
+            (suc b.level, quarter e.quadrant b.cell, hang_way at q.extent h.holds.tree i e.slot e.quadrant r.leaf h.chain b)
 
     -- its chain is that of the point of i
     chain-is : h.chain ≡ at_point at is i
@@ -175,13 +177,13 @@ module _ (at : List Float) (is m : List ℕ) (q : Quadtree) (i : ℕ) (g : Finds
       bare = ap (others i) chain-is ∙ gone
 
       -- it was the root
-      pub cut-root : r.above ≡ 0 → Holds at (others i is) m (record { extent = q.extent; root = 0; nodes = 0; deepest = 0 })
-      cut-root e =
+      pub cut-root : r.above ≡ None → Holds at (others i is) m (record { extent = q.extent; root = 0; nodes = 0; deepest = 0 })
+      cut-root z =
           record {
             tree = none;
             root = refl;
             stored = tt;
-            cells = sym (ap (chained c) bare) ∙ sym (without-leaf at i c c js) ∙ ap (λ (u : Tree ℕ). without at i c (in_cells c u)) (sym (h.root e)) ∙ without-rest h.holds;
+            cells = sym (ap (chained c) bare) ∙ sym (without-leaf at i c c js) ∙ ap (λ (u : Tree ℕ). without at i c (in_cells c u)) (sym (h.root z)) ∙ without-rest h.holds;
             deepest = omega arith;
             shallow = omega arith;
             count = refl;
@@ -190,44 +192,44 @@ module _ (at : List Float) (is m : List ℕ) (q : Quadtree) (i : ℕ) (g : Finds
             room = omega arith;
           }
 
-      module _ (ne : r.above ≡ 0 → ⊥) where
-        hang : Hangs at q.extent h.holds.tree i (r.above - 1) r.quadrant r.leaf h.chain
-        hang = h.below ne
+      module _ (e : Edge) (z : r.above ≡ Some e) where
+        hang : Hangs at q.extent h.holds.tree i e.slot e.quadrant r.leaf h.chain
+        hang = h.below e z
 
         abbrev s : ℕ
-        s = r.above - 1
+        s = e.slot
 
         abbrev k : ℕ → Tree ℕ
         k = pick hang.t0 hang.t1 hang.t2 hang.t3
 
         abbrev u : Tree ℕ
-        u = node (r.above - 1) hang.t0 hang.t1 hang.t2 hang.t3
+        u = node e.slot hang.t0 hang.t1 hang.t2 hang.t3
 
-        slots-below : EachSlot (λ j. j < q.nodes) (node (r.above - 1) hang.t0 hang.t1 hang.t2 hang.t3)
+        slots-below : EachSlot (λ j. j < q.nodes) (node e.slot hang.t0 hang.t1 hang.t2 hang.t3)
         slots-below = reach-each at i hang.level c t hang.cell u hang.way (λ j. j < q.nodes) h.holds.below
 
         child-below : r.leaf < q.nodes
-        child-below = subst (EachSlot (λ j. j < q.nodes)) hang.child (each_child hang.t0 hang.t1 hang.t2 hang.t3 s (λ j. j < q.nodes) slots-below r.quadrant)
+        child-below = subst (EachSlot (λ j. j < q.nodes)) hang.child (each_child hang.t0 hang.t1 hang.t2 hang.t3 s (λ j. j < q.nodes) slots-below e.quadrant)
 
-        quadrant-less : r.quadrant < 4
+        quadrant-less : e.quadrant < 4
         quadrant-less = subst (λ (j : ℕ). j < 4) (sym hang.quadrant) (side_lt at i hang.cell)
 
-        pub cut-slot : InSlots (r.above - 1) m × (r.quadrant < 4) × (0 < q.nodes)
+        pub cut-slot : InSlots e.slot m × (e.quadrant < 4) × (0 < q.nodes)
         cut-slot = (omega (arith, slots-below.0, h.holds.room), quadrant-less, omega (arith, child-below))
 
-        two : 2 ≤ leaves (node (r.above - 1) hang.t0 hang.t1 hang.t2 hang.t3)
+        two : 2 ≤ leaves (node e.slot hang.t0 hang.t1 hang.t2 hang.t3)
         two = (reach-all at i Two (λ s t0 t1 t2 t3 h. two_child s t0 t1 t2 t3 h) hang.level c t hang.cell u hang.way (known_two at is m q h.holds)).0
 
         after : Tree ℕ
-        after = plug at i hang.level q.extent h.holds.tree (over (r.above - 1) (upd (pick hang.t0 hang.t1 hang.t2 hang.t3) r.quadrant none))
+        after = plug at i hang.level q.extent h.holds.tree (over e.slot (upd (pick hang.t0 hang.t1 hang.t2 hang.t3) e.quadrant none))
 
-        occupies-after : Occupies at (put_internal m (r.above - 1) (set (kids m (r.above - 1)) r.quadrant 0)) q.extent q.root (q.nodes - 1) (λ j. (j < q.nodes) × (j ≡ r.leaf → ⊥)) after
+        occupies-after : Occupies at (put_internal m e.slot (set (kids m e.slot) e.quadrant 0)) q.extent q.root (q.nodes - 1) (λ j. (j < q.nodes) × (j ≡ r.leaf → ⊥)) after
         unfolding after
         occupies-after =
             let one : q.nodes ≡ suc (q.nodes - 1) = omega (arith, child-below) in
             cut at i m c q.root (q.nodes - 1) (λ j. j < q.nodes) t
             (subst (λ (n : ℕ). Occupies at m c q.root n (λ j. j < q.nodes) t) one (known-packed at is m q h.holds (λ j n. ((g.points j n).2, (g.points j n).1))))
-            hang.level hang.cell s hang.t0 hang.t1 hang.t2 hang.t3 hang.way r.quadrant quadrant-less x js hang.child q.nodes (omega (arith, few)) h.holds.below cut-slot.0 two
+            hang.level hang.cell s hang.t0 hang.t1 hang.t2 hang.t3 hang.way e.quadrant quadrant-less x js hang.child q.nodes (omega (arith, few)) h.holds.below cut-slot.0 two
 
         -- what is then gathered is the tree without i
         gathers : gather at i q.extent (in_cells q.extent after) ≡ without at i q.extent (in_cells q.extent h.holds.tree)
@@ -235,7 +237,7 @@ module _ (at : List Float) (is m : List ℕ) (q : Quadtree) (i : ℕ) (g : Finds
         gathers =
             let d : Extent = hang.cell in
             let o : ℕ = side at i d in
-            plug-down at i (gather at i) (without at i) (gather-down at i) (without-down at i) hang.level c t d u (over s (upd k r.quadrant none)) hang.way
+            plug-down at i (gather at i) (without at i) (gather-down at i) (without-down at i) hang.level c t d u (over s (upd k e.quadrant none)) hang.way
             (subst (λ (j : ℕ). gather at i d (in_cells d (over s (upd k j none))) ≡ without at i d (in_cells d u)) (sym hang.quadrant)
             (plug-down at i (gather at i) (without at i) (gather-down at i) (without-down at i) 1 d u (quarter o d) (k o) none (refl, refl)
             (gather_none at i (quarter o d) ∙ sym (empty (quarter o d) (k o) (ap k (sym hang.quadrant) ∙ hang.child)))))
@@ -243,11 +245,11 @@ module _ (at : List Float) (is m : List ℕ) (q : Quadtree) (i : ℕ) (g : Finds
             empty : (d : Extent) (v : Tree ℕ) → v ≡ leaf r.leaf h.chain → without at i d (in_cells d v) ≡ none
             empty d v y = ap (λ (v : Tree ℕ). without at i d (in_cells d v)) y ∙ without-leaf at i d d h.chain ∙ ap (chained d) bare
 
-        module _ (ks : List ℕ) (ek : ks ≡ kids m (r.above - 1)) (w : List ℕ) (y : w ≡ put_internal m (r.above - 1) (set ks r.quadrant 0)) where
+        module _ (ks : List ℕ) (ek : ks ≡ kids m e.slot) (w : List ℕ) (y : w ≡ put_internal m e.slot (set ks e.quadrant 0)) where
           hollow : Hollow at w (with_less q) r.leaf after
           hollow =
-              let z : w ≡ put_internal m s (set (kids m s) r.quadrant 0) = y ∙ ap (λ (l : List ℕ). put_internal m s (set l r.quadrant 0)) ek in
-              hollowed at m w q x after child-below h.holds.room few (ap length z ∙ internal_length m s (set (kids m s) r.quadrant 0))
+              let z : w ≡ put_internal m s (set (kids m s) e.quadrant 0) = y ∙ ap (λ (l : List ℕ). put_internal m s (set l e.quadrant 0)) ek in
+              hollowed at m w q x after child-below h.holds.room few (ap length z ∙ internal_length m s (set (kids m s) e.quadrant 0))
               (subst (λ (w : List ℕ). Occupies at w q.extent q.root (q.nodes - 1) (λ j. (j < q.nodes) × (j ≡ r.leaf → ⊥)) after) (sym z) occupies-after)
 
           pub cut-hollow : (v : Tree ℕ) × Hollow at w (with_less q) r.leaf v

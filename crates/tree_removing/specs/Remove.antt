@@ -1,5 +1,5 @@
 -- A particle leaves a tree in slots. Definitions only.
-use Rattle.std.specs.Prelude.{◌≡◌, List, ◌⊎◌, ℕ, ◌+◌, ◌-◌, ◌*◌, ◌≤◌, ◌<◌, length, Float}
+use Rattle.std.specs.Prelude.{◌≡◌, List, ◌⊎◌, ℕ, ◌+◌, ◌-◌, ◌*◌, ◌≤◌, ◌<◌, length, Float, Option, Some, None}
 use Rattle.rules.specs.declared.Extent.{Extent}
 use Rattle.rules.specs.Plain.{branch}
 use Rattle.rules.specs.Cell.{quarter}
@@ -110,9 +110,9 @@ module _ (at : List Float) where
     pub gathered : gather at i cell (in_cells cell (node s t0 t1 t2 t3)) ≡ leaf cell chain
 
   -- Nothing is left to gather; or a node, and its one child.
-  pub record Folds (c : Extent) (t : Tree ℕ) (i : ℕ) (f : Fold) : Type 0 where
-    pub done : f.child ≡ 0 → gather at i c (in_cells c t) ≡ in_cells c t
-    pub more : (f.child ≡ 0 → ⊥) → FoldsAt c t i f.slot (f.child - 1)
+  abbrev pub Folds : Extent → Tree ℕ → ℕ → Option Fold → Type 0
+  Folds c t i None = gather at i c (in_cells c t) ≡ in_cells c t
+  Folds c t i (Some f) = FoldsAt c t i f.slot f.child
 
   -- gathered along the way of i
   pub record Tidied (m : List ℕ) (q r : Quadtree) (i : ℕ) (t : Tree ℕ) : Type 0 where

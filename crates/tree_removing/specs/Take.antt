@@ -1,5 +1,5 @@
 -- A particle leaves the rule's tree in the slots, and its chain. Definitions only.
-use Rattle.std.specs.Prelude.{◌≡◌, true, List, ℕ, ◌+◌, ◌-◌, ◌*◌, ◌≤◌, ◌<◌, length, Float}
+use Rattle.std.specs.Prelude.{◌≡◌, true, List, ℕ, ◌+◌, ◌*◌, ◌≤◌, ◌<◌, length, Float, Some, None}
 use Rattle.rules.specs.declared.Extent.{Extent}
 use Rattle.rules.specs.Refusal.{most_particles}
 use Rattle.rules.specs.Tree.{Tree, leaf, node, same}
@@ -10,6 +10,7 @@ use Rattle.tree_leaves.specs.Chain.{Linked}
 use Rattle.tree_leaves.specs.Leaf.{side}
 use Rattle.tree_placing.specs.Add.{Holds, pick, Reaches}
 use Rattle.tree_removing.specs.declared.take.Spot.{Spot}
+use Rattle.tree_removing.specs.declared.way.Edge.{Edge}
 
 -- a tree of points in ascending order, each with its place, and i is one of them
 pub record Finds (at : List Float) (is m : List ℕ) (q : Quadtree) (i : ℕ) : Type 0 where
@@ -34,8 +35,8 @@ pub record Hangs (at : List Float) (c : Extent) (t : Tree ℕ) (i s k x : ℕ) (
 pub record Spotted (at : List Float) (is m : List ℕ) (q : Quadtree) (i : ℕ) (r : Spot) : Type 0 where
   pub holds : Holds at is m q
   pub chain : List ℕ
-  pub root : r.above ≡ 0 → holds.tree ≡ leaf r.leaf chain
-  pub below : (r.above ≡ 0 → ⊥) → Hangs at q.extent holds.tree i (r.above - 1) r.quadrant r.leaf chain
+  pub root : r.above ≡ None → holds.tree ≡ leaf r.leaf chain
+  pub below : (e : Edge) → r.above ≡ Some e → Hangs at q.extent holds.tree i e.slot e.quadrant r.leaf chain
 
 -- The tree and the chains of points in ascending order, each with its place and its link, and i is one of them.
 pub record Removes (at : List Float) (is m next tail : List ℕ) (q : Quadtree) (i : ℕ) : Type 0 where

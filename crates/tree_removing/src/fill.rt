@@ -29,12 +29,9 @@ pub fn fill(m: &mut [u64], at: &[f64], q: Quadtree, h: usize) -> Quadtree
     }
     if q.root as usize == x + 1 {
         store::copy(m, x, h);
-        let extent = q.extent;
         return Quadtree {
-            extent: extent,
             root: (h + 1) as u32,
-            nodes: x,
-            deepest: q.deepest,
+            ..q
         };
     }
     let f = way::leaf_below(m, x);

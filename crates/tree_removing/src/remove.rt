@@ -25,8 +25,7 @@ pub fn remove(
     let first = (tag - 1) as usize;
     let link = leave(next, tail, first, i);
     if link != 0 {
-        let remaining = link - 1;
-        store::put_leaf(m, spot.leaf, remaining);
+        store::put_leaf(m, spot.leaf, link - 1);
         return q;
     }
     take::cut(m, at, q, i, spot)

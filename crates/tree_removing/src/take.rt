@@ -6,15 +6,15 @@ ghost use Rattle.tree_placing.specs.Add.{Holds};
 ghost use Rattle.tree_removing.specs.Take.{Finds, Spotted};
 
 use crate::fill::fill;
+use crate::way::Edge;
 use crate::{tidy, way};
 use tree_slots::{Quadtree, store};
 
-// Where a leaf stands: its slot, and as a number the node above it, 0 for none, with the leaf's quadrant there.
+// Where a leaf stands: its slot, and the node above it, if there is one, with the leaf's quadrant there.
 #[derive(Clone, Copy)]
 pub struct Spot {
     pub leaf: usize,
-    pub above: usize,
-    pub quadrant: usize,
+    pub above: Option<Edge>,
 }
 
 // The leaf of i.
@@ -26,18 +26,14 @@ pub fn leaf_of(m: &[u64], at: &[f64], q: Quadtree, i: usize) -> Spot
     if store::tag(m, root) != 0 {
         return Spot {
             leaf: root,
-            above: 0,
-            quadrant: 0,
+            above: None,
         };
     }
     let edge = way::inner(m, at, q, i);
-    let k = edge.quadrant;
     let children = store::children(m, edge.slot);
-    let child = children[k] as usize;
     Spot {
-        leaf: child - 1,
-        above: edge.slot + 1,
-        quadrant: k,
+        leaf: children[edge.quadrant] as usize - 1,
+        above: Some(edge),
     }
 }
 
@@ -47,20 +43,17 @@ pub fn cut(m: &mut [u64], at: &[f64], q: Quadtree, i: usize, spot: Spot) -> Quad
     ensures { (is : List ℕ) → Finds at.now is m.old q i → Spotted at.now is m.old q i spot → others i (at_point at.now is i) ≡ []
         → Holds at.now (others i is) m.new result × (result.extent ≡ q.extent) }
 {
-    let s = spot.above;
-    if s == 0 {
-        let extent = q.extent;
+    let Some(edge) = spot.above else {
         return Quadtree {
-            extent: extent,
             root: 0,
             nodes: 0,
             deepest: 0,
+            ..q
         };
-    }
-    let k = spot.quadrant;
-    let mut children = store::children(m, s - 1);
-    children[k] = 0;
-    store::put_internal(m, s - 1, children);
+    };
+    let mut children = store::children(m, edge.slot);
+    children[edge.quadrant] = 0;
+    store::put_internal(m, edge.slot, children);
     let filled = fill(m, at, tidy::fewer(q), spot.leaf);
     tidy::tidy(m, at, filled, i)
 }

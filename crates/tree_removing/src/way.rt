@@ -1,7 +1,7 @@
-// The ways down a tree that removing takes, by reading alone. `l` is how far down a way is: it ends within the greatest level.
-ghost use Rattle.std.specs.Prelude.{◌≡◌, ℕ};
+// The ways down a tree that removing takes, by reading alone.
+ghost use Rattle.std.specs.Prelude.{◌≡◌, ℕ, ◌<◌, not, ◌==◌, count_by, MatchOption};
 ghost use Rattle.rules.specs.Tree.{Tree};
-ghost use Rattle.tree_removing.specs.Ways.{first_of, some_kid, StandsFrom, Under, Above, Tops, Innermost};
+ghost use Rattle.tree_removing.specs.Ways.{some_kid, StandsFrom, Under, Above, Tops, Innermost};
 ghost use Rattle.tree_removing.specs.Remove.{LeafOf};
 
 use tree_cells::indexer::Indexer;
@@ -15,23 +15,18 @@ pub struct Edge {
     pub quadrant: usize,
 }
 
-// a, or b where a is 0.
-fn first_of(a: u32, b: u32) -> u32
-    ensures { result ≡ first_of a b }
+// The first child that there is, as its number.
+pub fn some_child(children: [u32; 4]) -> Option<u32>
+    ensures { MatchOption result (some_kid children ≡ 0) (λ child. (child ≡ some_kid children) × (0 < child)) }
 {
-    if a != 0 {
-        return a;
-    }
-    b
+    children.iter().copied().find(|child| *child != 0)
 }
 
-// The first child that there is, as its number.
-pub fn some_child(children: [u32; 4]) -> u32
-    ensures { result ≡ some_kid children }
+// How many children there are.
+pub fn child_count(children: [u32; 4]) -> usize
+    ensures { result ≡ count_by (λ child. not (child == 0)) children }
 {
-    let last = first_of(children[2], children[3]);
-    let later = first_of(children[1], last);
-    first_of(children[0], later)
+    children.iter().filter(|child| **child != 0).count()
 }
 
 // The first particle of a leaf below slot s.
@@ -40,15 +35,14 @@ pub fn leaf_below(m: &[u64], s: usize) -> usize
     ensures { (t : Tree ℕ) → StandsFrom m.now s t → LeafOf result t }
 {
     let mut x = s;
-    let mut l: usize = 0;
     loop {
         let tag = store::tag(m, x);
         if tag != 0 {
             return (tag - 1) as usize;
         }
-        let child = some_child(store::children(m, x));
+        // An internal node has a child.
+        let child = some_child(store::children(m, x)).unwrap();
         x = child as usize - 1;
-        l += 1;
     }
 }
 
@@ -59,23 +53,18 @@ pub fn parent(m: &[u64], at: &[f64], q: Quadtree, x: usize, f: usize) -> Edge
 {
     let u = point::x_at(at, f);
     let v = point::y_at(at, f);
-    let mut s = q.root as usize - 1;
+    let mut slot = q.root as usize - 1;
     let mut ix = Indexer::with_extent(q.extent);
-    let mut l: usize = 0;
     loop {
         let way = ix.get_and_descend(u, v);
-        let k = way.quadrant;
-        let children = store::children(m, s);
-        let child = children[k] as usize;
+        let quadrant = way.quadrant;
+        let children = store::children(m, slot);
+        let child = children[quadrant] as usize;
         if child == x + 1 {
-            return Edge {
-                slot: s,
-                quadrant: k,
-            };
+            return Edge { slot, quadrant };
         }
-        s = child - 1;
+        slot = child - 1;
         ix = way.indexer;
-        l += 1;
     }
 }
 
@@ -86,28 +75,17 @@ pub fn inner(m: &[u64], at: &[f64], q: Quadtree, i: usize) -> Edge
 {
     let x = point::x_at(at, i);
     let y = point::y_at(at, i);
-    let mut s = q.root as usize - 1;
+    let mut slot = q.root as usize - 1;
     let mut ix = Indexer::with_extent(q.extent);
-    let mut l: usize = 0;
     loop {
         let way = ix.get_and_descend(x, y);
-        let k = way.quadrant;
-        let children = store::children(m, s);
-        let child = children[k] as usize;
-        if child == 0 {
-            return Edge {
-                slot: s,
-                quadrant: k,
-            };
+        let quadrant = way.quadrant;
+        let children = store::children(m, slot);
+        let child = children[quadrant] as usize;
+        if child == 0 || store::tag(m, child - 1) != 0 {
+            return Edge { slot, quadrant };
         }
-        if store::tag(m, child - 1) != 0 {
-            return Edge {
-                slot: s,
-                quadrant: k,
-            };
-        }
-        s = child - 1;
+        slot = child - 1;
         ix = way.indexer;
-        l += 1;
     }
 }
