@@ -1,5 +1,5 @@
--- What one link does, from the code's numbers to the rule.
-use mathlib.Core.Path.{◌≡◌, refl, sym, ap, ◌∙◌}
+-- Strengths, the links one after the other, and how the force ends. Assumes nothing.
+use mathlib.Core.Path.{◌≡◌, refl, sym, ◌∙◌}
 use mathlib.Core.List.{List, [], ◌∷◌}
 use Prim.Native.Nat.{ℕ, ◌+◌, ◌/◌, ◌≤◌, ◌<◌}
 use lib.ListN.{length}
@@ -19,7 +19,7 @@ use Rattle.std.specs.Prelude.{Result, Ok, Err}
 use Rattle.link.specs.Links.{pull_each}
 use Rattle.link_tally.specs.Tally.{strength_or}
 use Rattle.list_checks.specs.Checks.{ends_at}
-use Rattle.list_checks.proofs.Scans.{ends_left, ends-first, ends-left, ends-none}
+use Rattle.list_checks.proofs.Scans.{ends_left, ends-left, ends-none}
 
 -- ---- strengths
 
@@ -34,9 +34,6 @@ module _ (at : List Float) (links : List ℕ) (ss ds : List Float) (alpha : Floa
   -- what is left to pull from number k on
   abbrev pub pull_left : ℕ → Flow → Outcome Flow
   pull_left k σ = pull_from at (ends_of links) ss ds alpha k (ends_left links k) σ
-
-  pub pull-first : (σ : Flow) → pull_from at (ends_of links) ss ds alpha 0 (ends_of links) σ ≡ pull_left 0 σ
-  pull-first σ = ap (λ (l : List Ends). pull_from at (ends_of links) ss ds alpha 0 l σ) (ends-first links)
 
   pull_next : (k : ℕ) (σ : Flow) → k < length links / 2
       → pull_left k σ ≡ pull at (ends_of links) ss ds alpha k (ends_at links k) σ >>= λ σ. pull_left (k + 1) σ
