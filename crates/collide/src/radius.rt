@@ -17,7 +17,7 @@ fn greater(a: f64, b: f64) -> f64
 }
 
 // The greatest of a node's children.
-#[tactic(auto, using(crate::proofs::RadiusLaws::radii_of_kids))]
+#[tactic(auto, using(tree_walk::proofs::WalkAfter::values_of_kids))]
 fn greatest_below(m: &[u64], s: usize) -> f64
     requires { (s * slot_words + slot_words ≤ length m.now) × KidsIn m.now s }
     ensures { result ≡ Collide.node_radius (kid_values radius_in m.now s) }

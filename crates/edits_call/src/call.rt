@@ -1,7 +1,8 @@
 // The call, with memory of its own for points, flags, links and tails.
-ghost use Rattle.std.specs.Prelude.{◌≡◌, length};
+ghost use Rattle.std.specs.Prelude.{◌≡◌, ◌≤◌, length};
 ghost use Rattle.rules.specs.Outcome.{fine};
-ghost use Rattle.rules.specs.Edits.{edit_input_check};
+ghost use Rattle.rules.specs.Refusal.{most_edits};
+ghost use Rattle.rules.specs.Edits.{edits_of, insertions, edit_input_check};
 ghost use Rattle.edits_call.specs.Call.{lent, AfterEdits, EditsReady};
 
 use crate::check::input_check;
@@ -31,7 +32,8 @@ fn edits_with(
 
 // Edits that passed every check.
 fn edits_passed(edits: &[u64], rows: &mut [u32], chains: &mut [u32], work: &mut [u64]) -> TreeAnswer
-    requires { edit_input_check (lent edits.now rows.old chains.old work.old) ≡ fine }
+    requires passed { edit_input_check (lent edits.now rows.old chains.old work.old) ≡ fine }
+    requires few { insertions (edits_of edits.now) ≤ most_edits }
     ensures { AfterEdits (lent edits.now rows.old chains.old work.old) result rows.new chains.new work.new }
 {
     let made = insertions(edits);
@@ -55,10 +57,8 @@ fn edits_passed(edits: &[u64], rows: &mut [u32], chains: &mut [u32], work: &mut 
 pub fn edits(edits: &[u64], rows: &mut [u32], chains: &mut [u32], work: &mut [u64]) -> TreeAnswer
     ensures { AfterEdits (lent edits.now rows.old chains.old work.old) result rows.new chains.new work.new }
 {
-    let bad = input_check(edits, rows, chains, work);
-    let number = bad.number;
-    if number != 0 {
-        return refuse(work, bad);
+    match input_check(edits, rows, chains, work) {
+        Err(refusal) => refuse(work, refusal),
+        Ok(()) => edits_passed(edits, rows, chains, work),
     }
-    edits_passed(edits, rows, chains, work)
 }

@@ -7,12 +7,10 @@ use native.Mathlib.Omega.{arith}
 use lib.ListN.{length, get_or}
 use Rattle.rules.specs.Plain.{all}
 use Rattle.rules.specs.Number.{within, place_range, x_at, y_at}
-use Rattle.rules.specs.Outcome.{fine, require, ◌then◌, check_from, check_each}
+use Rattle.rules.specs.Outcome.{fine, require, check_from, check_each}
 use Rattle.rules.specs.Refusal.{place_check}
 use Rattle.rules.specs.Edits.{Edit, insertion, removal, unknown, edit_of, edits_of, points_of, insertions, point_check, known, edit_words}
 use Rattle.rules.proofs.OutcomeLaws.{place_both}
-use Rattle.rules.proofs.RefusalLaws.{Refuses, of_done, of_each, of_all, ◌then·◌}
-use Rattle.rules.proofs.RefusalNumbers.{Early, five, place_early}
 use Rattle.sheet.proofs.Checked.{all_ranged}
 use Rattle.list_checks.proofs.Checks.{bind_both, require_true}
 
@@ -71,13 +69,3 @@ kinds_from i (a ∷ b ∷ c ∷ w) h (suc k) l =
 -- edits that pass are of a known kind
 pub kinds_known : (w : List ℕ) → check_each (λ k e. require (known e) 5 k) (edits_of w) ≡ fine → (k : ℕ) → k * edit_words + edit_words ≤ length w → get_or w (k * edit_words) 0 < 2
 kinds_known w h = kinds_from 0 w h
-
--- ---- the checks refuse by 4 and 5
-
-pub point_early : (k : ℕ) (e : Edit) → Refuses Early (point_check k e)
-point_early k (insertion x y) = place_early k x y
-point_early k (removal i) = of_done
-point_early k unknown = of_done
-
-pub words_early : (es : List Edit) → Refuses Early (check_each point_check es then check_each (λ k e. require (known e) 5 k) es)
-words_early es = of_each point_early es then· of_all known 5 five es

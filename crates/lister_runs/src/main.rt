@@ -44,7 +44,7 @@ const NAN: u64 = 0x7ff8_0000_0000_0000;
 fn show(name: &[u8], kept: &[u8], total: usize)
     requires { length kept.now ≡ min total kept_bytes }
 {
-    let mut out = [0u8; LISTING_BYTES];
+    let mut out = [0; LISTING_BYTES];
     io::write_all(1, name);
     let size = lister_text::list_sheet(kept, total, &mut out);
     io::write_all(1, &out[..size]);
@@ -68,30 +68,26 @@ fn put_two(sheet: &mut [u8], at: usize, first: u64, second: u64)
 fn show_two(name: &[u8], total: usize, at: usize, first: u64, second: u64)
     requires { (total ≤ kept_bytes) × (at + pair_size ≤ kept_bytes) }
 {
-    let mut sheet = [0u8; KEPT_BYTES];
+    let mut sheet = [0; KEPT_BYTES];
     put_two(&mut sheet, at, first, second);
     show_first(name, &sheet, total);
 }
 
-// (4i, 0) and (4i, 2^-50) for i below 22: each pair takes some fifty nodes of its own.
-fn put_pairs(sheet: &mut [u8])
-    requires { length sheet.old ≡ kept_bytes }
-{
+// (4i, 0) and (4i, 2^-50) for each pair of records: it takes some fifty nodes of its own.
+fn put_pairs(pairs: &mut [u8]) {
     let mut x = 0.0;
-    let mut i: usize = 0;
-    while i < 22 {
+    for pair in pairs.chunks_exact_mut(TWO) {
         let bits = bits_of(x);
-        put_two(sheet, TWO * i, bits, 0);
-        put_two(sheet, TWO * i + RECORD_SIZE, bits, TWO_TO_MINUS_50);
-        x = x + 4.0;
-        i += 1;
+        put_two(pair, 0, bits, 0);
+        put_two(pair, RECORD_SIZE, bits, TWO_TO_MINUS_50);
+        x += 4.0;
     }
 }
 
 fn show_limits() {
-    let mut sheet = [0u8; KEPT_BYTES];
+    let mut sheet = [0; KEPT_BYTES];
     show(b"513 records\n", &sheet, CROWD);
-    put_pairs(&mut sheet);
+    put_pairs(&mut sheet[..PAIRS]);
     show_first(b"too many nodes\n", &sheet, PAIRS);
 }
 

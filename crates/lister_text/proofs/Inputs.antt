@@ -1,12 +1,11 @@
 -- The lister's text from what its parts answer: the lent memory has the right lengths, and what is kept is enough. Assumes nothing.
 use mathlib.Core.Path.{◌≡◌, refl, sym, ap, ◌∙◌, subst}
 use mathlib.Core.List.{List, [], ◌∷◌, ◌++◌}
-use Prim.Native.Nat.{ℕ, ◌+◌, ◌*◌, ◌/◌, ◌%◌, ◌≤◌, ◌<◌, min}
-use native.Mathlib.Nat.{min-le_right}
+use Prim.Native.Nat.{ℕ, ◌*◌, ◌/◌, ◌%◌, ◌≤◌, ◌<◌}
 use native.Mathlib.Omega.{arith}
 use borrow.Author.Tests.{eq-eqb}
-use lib.ListN.{length, take, drop, replicate, length-replicate, length-append}
-use lib.Seq.{take_all, length-take-le}
+use lib.ListN.{length, take}
+use lib.Seq.{take_all}
 use Rattle.rules.specs.declared.Extent.{Extent}
 use Rattle.rules.specs.declared.TreeAnswer.{TreeAnswer}
 use Rattle.rules.specs.Outcome.{Outcome, done, refused, fine, refusal_of}
@@ -14,7 +13,7 @@ use Rattle.rules.specs.Sheet.{record_size, count_of}
 use Rattle.rules.specs.Tree.{Tree, rows_of, row_numbers, chains_of}
 use Rattle.rules.specs.Calls.{slot_words, slots_of, cover_sheet, TreeInput, tree_lengths, tree_result, tree_answer}
 use Rattle.rules.specs.Listing.{ascii, decimal, line, extent_line, row_lines, most_listed, lister_slots, lister}
-use Rattle.tree_call.specs.Tree.{AfterTree}
+use Rattle.tree_call.specs.Tree.{AfterTree, lent}
 use Rattle.lister_text.specs.Text.{TextWritten}
 use Rattle.lister_text.specs.Told.{SomeTree}
 use Rattle.lister_text.specs.Input.{kept_bytes}
@@ -27,6 +26,9 @@ pub record Lent (l : TreeInput) : Type 0 where
   pub rows : length l.rows ≡ row_numbers * lister_slots
   pub chains : length l.chains ≡ count_of l.sheet
   pub work : length l.work ≡ slot_words * lister_slots
+
+pub lent_right : (sheet rows chains work : List ℕ) → (length rows ≡ row_numbers * lister_slots) × (length chains ≡ count_of sheet) × (length work ≡ slot_words * lister_slots) → Lent (lent sheet rows chains work)
+lent_right sheet rows chains work h = record { rows = h.0; chains = h.1; work = h.2 }
 
 module _ {l : TreeInput} (h : Lent l) where
   slots : slots_of l.work ≡ lister_slots
@@ -74,10 +76,6 @@ module _ {l : TreeInput} (h : Lent l) where
             let n : q.number ≡ 0 = sym (number ∙ ap (λ (o : Outcome (Tree Extent)). (refusal_of o).number) e) ∙ none in
             absurd (omega (arith, n, (number_is most_listed l q e).0))
 
--- a part of the list for chains
-pub first-chains : (n : ℕ) → n ≤ most_listed → length (take n (replicate {A = ℕ} most_listed 0)) ≡ n
-first-chains n h = length-take-le n (replicate {A = ℕ} most_listed 0) (omega (arith, length-replicate {A = ℕ} most_listed 0))
-
 -- ---- an input of `total` bytes
 
 module _ (sheet : List ℕ) {total : ℕ} (n : length sheet ≡ total) where
@@ -92,11 +90,6 @@ module _ (sheet : List ℕ) {total : ℕ} (n : length sheet ≡ total) where
     pub kept-input : total / record_size ≤ most_listed → (kept : List ℕ) → take kept_bytes sheet ≡ kept → sheet ≡ kept
     kept-input few kept e = sym (take_all kept_bytes sheet (omega arith)) ∙ e
 
-pub kept-few : (kept : List ℕ) (total : ℕ) → length kept ≡ min total kept_bytes → count_of kept ≤ most_listed
-kept-few kept total e = let h = min-le_right total kept_bytes in omega arith
-
--- what was written lies within the list
-pub within : (l t k : List ℕ) (r : ℕ) → TextWritten l 0 t k r → r ≤ length k
-within l t k r w =
-    let n : length k ≡ length t + length (drop (0 + length t) l) = ap (λ (m : List ℕ). length m) w.list ∙ length-append t (drop (0 + length t) l) in
-    omega (arith, n, w.next)
+-- the line of a number is that of an equal one
+pub refused_by : {l k : List ℕ} {r n m : ℕ} → n ≡ m → TextWritten l 0 (line (ascii "refused" ∷ decimal n ∷ [])) k r → TextWritten l 0 (line (ascii "refused" ∷ decimal m ∷ [])) k r
+refused_by {l} {k} {r} e w = subst (λ (n : ℕ). TextWritten l 0 (line (ascii "refused" ∷ decimal n ∷ [])) k r) e w

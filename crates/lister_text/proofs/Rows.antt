@@ -10,7 +10,7 @@ use Rattle.rules.specs.Tree.{Row, row, row_numbers}
 use Rattle.rules.specs.Listing.{decimal, row_letter, line, row_lines}
 use Rattle.lister_text.specs.Text.{TextWritten}
 use Rattle.lister_text.specs.Told.{rows_at, chained}
-use Rattle.lister_text.proofs.Writing.{Left, Next, left_as, left-none, left-next}
+use Rattle.lister_text.proofs.Writing.{Left, Next, left-next}
 
 -- the rows from i on
 abbrev pub rows_from : ℕ → List ℕ → ℕ → List Row
@@ -44,15 +44,6 @@ module _ (nodes : ℕ) (rows chains out₀ : List ℕ) (at : ℕ) where
     pub chain : from + chained (rows_from nodes rows i) ≤ length chains
     pub most : i ≤ nodes
 
-  pub going_start : chained (rows_at nodes rows) ≤ length chains → at + length (row_lines (rows_at nodes rows) chains) ≤ length out₀ → Going out₀ at 0 0
-  going_start h r =
-      let e : nodes ≡ nodes - 0 = omega arith in
-      record {
-        left = left_as out₀ at (row_lines (rows_at nodes rows) chains) (row_lines (rows_from nodes rows 0) chains) (ap (λ (n : ℕ). row_lines (rows_at n rows) chains) e) r;
-        chain = let f : chained (rows_at nodes rows) ≡ chained (rows_from nodes rows 0) = ap (λ (n : ℕ). chained (rows_at n rows)) e in omega arith;
-        most = omega arith;
-      }
-
   module _ (out : List ℕ) (next from i : ℕ) (g : Going out next from i) where
     module _ (h : i < nodes) where
       chain_more : from + get_or rows (row_numbers * i + 3) 0 + chained (rows_from nodes rows (i + 1)) ≤ length chains
@@ -73,8 +64,3 @@ module _ (nodes : ℕ) (rows chains out₀ : List ℕ) (at : ℕ) where
 
       pub going_next : (k : List ℕ) (q : ℕ) → TextWritten out next (row_line (row_at rows i) (take (from + get_or rows (row_numbers * i + 3) 0 - from) (drop from chains))) k q → Going k q (from + get_or rows (row_numbers * i + 3) 0) (i + 1)
       going_next k q w = record { left = going-row.after w; chain = chain_more; most = omega arith }
-
-    pub going_end : nodes ≤ i → TextWritten out₀ at (row_lines (rows_at nodes rows) chains) out next
-    going_end h =
-        let e : nodes - i ≡ 0 = omega arith in
-        left-none (subst (λ (n : ℕ). Left out₀ at (row_lines (rows_at nodes rows) chains) out next (row_lines (rows_at n (drop (row_numbers * i) rows)) (drop from chains))) e g.left)

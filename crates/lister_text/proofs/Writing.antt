@@ -1,12 +1,12 @@
 -- Text written behind text: what is written already, and what is left to write. Assumes nothing.
 use mathlib.Core.Path.{◌≡◌, refl, sym, ap, ap₂, ◌∙◌, subst}
 use mathlib.Core.List.{List, [], ◌∷◌, ◌++◌}
-use Prim.Native.Nat.{ℕ, suc, ◌+◌, ◌≤◌, ◌<◌}
+use Prim.Native.Nat.{ℕ, ◌+◌, ◌≤◌, ◌<◌}
 use native.Mathlib.Nat.{add-zero, add_assoc}
 use native.Mathlib.Numerals.{add-one}
 use native.Mathlib.Omega.{arith}
-use lib.ListN.{length, take, drop, get_or, set, length-append}
-use lib.Seq.{drop-cons, set_split, append_snoc}
+use lib.ListN.{length, drop, get_or, length-append}
+use lib.Seq.{drop-cons}
 use Rattle.rules.specs.Plain.{overwritten}
 use Rattle.lister_text.specs.Text.{TextWritten}
 use Rattle.sheet.proofs.Lists.{overwritten-length, overwritten-next, overwritten-none}
@@ -14,13 +14,6 @@ use Rattle.sheet.proofs.Lists.{overwritten-length, overwritten-next, overwritten
 -- from an index on: the element there, then the rest
 pub from_index : (l : List ℕ) (i : ℕ) → i < length l → drop i l ≡ get_or l i 0 ∷ drop (i + 1) l
 from_index l i h = drop-cons l i 0 h ∙ ap (λ (n : ℕ). get_or l i 0 ∷ drop n l) (sym (add-one i))
-
--- one byte
-pub wrote_byte : (l : List ℕ) (at b : ℕ) → at < length l → TextWritten l at (b ∷ []) (set l at b) (at + 1)
-wrote_byte l at b h = record {
-  list = set_split l at b h ∙ sym (append_snoc (take at l) b (drop (suc at) l)) ∙ ap (λ (n : ℕ). take at l ++ (b ∷ []) ++ drop n l) (sym (add-one at));
-  next = refl;
-}
 
 -- one text behind another
 pub wrote_both : (l : List ℕ) (at : ℕ) (s t k j : List ℕ) (r q : ℕ) → at + length s ≤ length l → TextWritten l at s k r → TextWritten k r t j q → TextWritten l at (s ++ t) j q

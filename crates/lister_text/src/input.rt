@@ -9,7 +9,7 @@ ghost use Rattle.lister_text.specs.Input.{kept_bytes, listing_bytes};
 
 use crate::lines::put_refused;
 use crate::list::write_listing;
-use rules::{RECORD_SIZE, ROW_NUMBERS, SLOT_WORDS};
+use rules::{RECORD_SIZE, ROW_NUMBERS, Reason, SLOT_WORDS};
 use tree_call::tree_within;
 
 // How many records are listed, and how many slots their tree is lent.
@@ -35,15 +35,13 @@ fn list_tree(
     requires listing_bytes_in_bounds { listing_bytes ≤ length out.old }
     ensures { TextWritten out.old 0 (lister records.now) out.new result }
 {
+    // The tree call answers as C sees it: number 0 where nothing is refused.
     let answer = tree_within(MOST_LISTED, records, rows, chains, work);
-    let refusal = answer.refusal;
-    let number = refusal.number;
+    let number = answer.refusal.number;
     if number != 0 {
         return put_refused(out, 0, number);
     }
-    let extent = answer.extent;
-    let nodes = answer.nodes;
-    write_listing(extent, nodes as usize, rows, chains, out)
+    write_listing(answer.extent, answer.nodes as usize, rows, chains, out)
 }
 
 // The same with memory of its own.
@@ -53,9 +51,9 @@ fn list_records(records: &[u8], out: &mut [u8]) -> usize
     ensures { TextWritten out.old 0 (lister records.now) out.new result }
 {
     let n = records.len() / RECORD_SIZE;
-    let mut rows = [0u32; ROW_NUMBERS * SLOTS];
-    let mut chains = [0u32; MOST_LISTED];
-    let mut work = [0u64; SLOT_WORDS * SLOTS];
+    let mut rows = [0; ROW_NUMBERS * SLOTS];
+    let mut chains = [0; MOST_LISTED];
+    let mut work = [0; SLOT_WORDS * SLOTS];
     list_tree(records, &mut rows, &mut chains[..n], &mut work, out)
 }
 
@@ -68,10 +66,10 @@ pub fn list_sheet(kept: &[u8], total: usize, out: &mut [u8]) -> usize
     ensures upper_bound { result ≤ length out.new }
 {
     if total % RECORD_SIZE != 0 {
-        return put_refused(out, 0, 10);
+        return put_refused(out, 0, u64::from(Reason::BadRecord));
     }
     if MOST_LISTED < total / RECORD_SIZE {
-        return put_refused(out, 0, 1);
+        return put_refused(out, 0, u64::from(Reason::TooMany));
     }
     list_records(kept, out)
 }

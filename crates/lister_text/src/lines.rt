@@ -18,7 +18,7 @@ fn put_number(out: &mut [u8], at: usize, n: u64) -> usize
     put_decimal(out, next, n)
 }
 
-// A space and an end of an extent.
+// A space and an end of an extent. One function with a closure for what follows the space would be no shorter than the two.
 fn put_end(out: &mut [u8], at: usize, x: f64) -> usize
     requires whole { IsWhole x }
     requires x_in_bounds { at + length (32 ∷ signed (integer x)) ≤ length out.old }
@@ -62,13 +62,11 @@ fn put_kind(out: &mut [u8], at: usize, kind: u32) -> usize
     requires { at + length (row_letter kind) ≤ length out.old }
     ensures { TextWritten out.old at (row_letter kind) out.new result }
 {
-    if kind == 0 {
-        return at;
+    match kind {
+        0 => at,
+        1 => put_byte(out, at, b'I'),
+        _ => put_byte(out, at, b'L'),
     }
-    if kind == 1 {
-        return put_byte(out, at, b'I');
-    }
-    put_byte(out, at, b'L')
 }
 
 // The particles of a chain, and the line's end.
@@ -77,10 +75,8 @@ fn put_chain(out: &mut [u8], at: usize, chain: &[u32]) -> usize
     ensures { TextWritten out.old at (other_words (map decimal chain.now)) out.new result }
 {
     let mut next = at;
-    let mut i: usize = 0;
-    while i < chain.len() {
-        next = put_number(out, next, chain[i] as u64);
-        i += 1;
+    for i in chain {
+        next = put_number(out, next, *i as u64);
     }
     put_byte(out, next, b'\n')
 }
@@ -105,9 +101,8 @@ pub fn put_rows(out: &mut [u8], at: usize, nodes: usize, rows: &[u32], chains: &
     ensures { TextWritten out.old at (row_lines (rows_at nodes rows.now) chains.now) out.new result }
 {
     let mut next = at;
-    let mut from: usize = 0;
-    let mut i: usize = 0;
-    while i < nodes {
+    let mut from = 0;
+    for i in 0..nodes {
         let k = ROW_NUMBERS * i;
         let to = from + rows[k + 3] as usize;
         next = put_row(
@@ -119,7 +114,6 @@ pub fn put_rows(out: &mut [u8], at: usize, nodes: usize, rows: &[u32], chains: &
             &chains[from..to],
         );
         from = to;
-        i += 1;
     }
     next
 }

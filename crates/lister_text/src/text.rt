@@ -16,13 +16,9 @@ pub fn put_text(out: &mut [u8], at: usize, text: &[u8]) -> usize
     requires { at + length text.now ≤ length out.old }
     ensures { TextWritten out.old at text.now out.new result }
 {
-    let mut next = at;
-    let mut i: usize = 0;
-    while i < text.len() {
-        next = put_byte(out, next, text[i]);
-        i += 1;
-    }
-    next
+    let end = at + text.len();
+    out[at..end].copy_from_slice(text);
+    end
 }
 
 // The digits of a number.
@@ -30,7 +26,7 @@ pub fn put_decimal(out: &mut [u8], at: usize, n: u64) -> usize
     requires { (n < 10 ^ 14) × (at + length (decimal n) ≤ length out.old) }
     ensures { TextWritten out.old at (decimal n) out.new result }
 {
-    let mut digits = [0u8; 20];
+    let mut digits = [0; 20];
     let size = io::decimal(n, &mut digits);
     put_text(out, at, &digits[..size])
 }

@@ -86,7 +86,7 @@ fn with_child(s: Sums, q: Charge) -> Sums
 }
 
 // The centre of the children, by weight.
-#[tactic(auto, using(crate::proofs::ChargeLaws::charges_of_kids), unfolding(rules::specs::ManyBody::node_charge))]
+#[tactic(auto, using(tree_walk::proofs::WalkAfter::values_of_kids), unfolding(rules::specs::ManyBody::node_charge))]
 fn node_charge(m: &[u64], s: usize) -> Charge
     requires { (s * slot_words + slot_words ≤ length m.now) × KidsIn m.now s }
     ensures { charge_of result ≡ node_charge (kid_values read_charge m.now s) }

@@ -1,4 +1,4 @@
-// Numbers after document 01: floor, bits, ranges and small helpers. Each function answers what a definition of `rules` says, but for `index` and `wide`, which only change a number's type.
+// Numbers after document 01: floor, bits, ranges and small helpers. Each function answers what a definition of `rules` says.
 #![tactic(auto)]
 
 mod bits;
@@ -7,6 +7,6 @@ mod range;
 mod whole;
 
 pub use bits::{bits_of, float_of};
-pub use plain::{abs, clamp, index, plain_zero, wide};
+pub use plain::{abs, clamp, plain_zero};
 pub use range::{distance_range, draw_range, is_finite, speed_range, within};
 pub use whole::{floor, try_floor};

@@ -1,17 +1,15 @@
-// Small helpers in place of Rust's methods.
+// Small helpers: Rust's methods, where there are such, promised in the rules' words.
 ghost use Rattle.std.specs.Prelude.{◌≡◌};
 ghost use Rattle.rules.specs.Number as Number;
 
-#[tactic(auto, unfolding(rules::specs::Number::abs))]
+#[tactic(auto, using(crate::proofs::Tests::abs_is))]
 pub fn abs(x: f64) -> f64
     ensures { result ≡ Number.abs x }
 {
-    if x < 0.0 {
-        return -x;
-    }
-    plain_zero(x)
+    x.abs()
 }
 
+// Unlike f64's method this asks nothing of lo and hi.
 #[tactic(auto, unfolding(rules::specs::Number::clamp))]
 pub fn clamp(x: f64, lo: f64, hi: f64) -> f64
     ensures { result ≡ Number.clamp x lo hi }
@@ -25,7 +23,7 @@ pub fn clamp(x: f64, lo: f64, hi: f64) -> f64
     x
 }
 
-// -0.0 equals 0.0, which is returned for both
+// -0.0 equals 0.0, which is returned for both: no method of f64 does this.
 #[tactic(auto, unfolding(rules::specs::Number::plain_zero))]
 pub fn plain_zero(x: f64) -> f64
     ensures { result ≡ Number.plain_zero x }
@@ -34,17 +32,4 @@ pub fn plain_zero(x: f64) -> f64
         return 0.0;
     }
     x
-}
-
-// A number as an index: a call asks no proof that it fits.
-pub fn index(x: u64) -> usize
-    ensures { result ≡ x }
-{
-    x as usize
-}
-
-pub fn wide(x: u32) -> usize
-    ensures { result ≡ x }
-{
-    x as usize
 }

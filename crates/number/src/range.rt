@@ -26,11 +26,11 @@ pub fn draw_range(x: f64) -> bool
     x >= -1.0 && x <= 1.0
 }
 
+#[tactic(auto, using(crate::proofs::Tests::finite_is))]
 pub fn is_finite(x: f64) -> bool
     ensures { result ≡ Number.finite x }
 {
-    let infinity = 1.0 / 0.0;
-    x > -infinity && x < infinity
+    x.is_finite()
 }
 
 // Of a velocity, on both axes.

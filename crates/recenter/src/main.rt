@@ -1,7 +1,7 @@
 // The program recenter: reads a sheet from standard input, runs as many ticks as its argument says with Center in force slot 0, and writes the sheet.
 #![tactic(auto)]
 
-ghost use Rattle.std.specs.Prelude.{◌≡◌, ◌≤◌, min, length};
+ghost use Rattle.std.specs.Prelude.{◌≡◌, min, length};
 ghost use Rattle.recenter_call.specs.Recentered.{kept_bytes};
 
 use recenter_call::{KEPT_BYTES, recenter, ticks_of};
@@ -35,13 +35,12 @@ fn say_refused(number: u64) {
 fn recenter_kept(kept: &mut [u8], total: usize, ticks: u64)
     requires { length kept.old ≡ min total kept_bytes }
 {
-    let r = recenter(kept, total, ticks);
-    let number = r.number;
-    if number != 0 {
-        say_refused(number);
-        return;
+    match recenter(kept, total, ticks) {
+        Ok(()) => {
+            io::write_all(STDOUT_FILENO, kept);
+        }
+        Err(refusal) => say_refused(refusal.number),
     }
-    io::write_all(STDOUT_FILENO, kept);
 }
 
 fn recenter_input(kept: &mut [u8], ticks: u64)
@@ -52,40 +51,29 @@ fn recenter_input(kept: &mut [u8], ticks: u64)
     recenter_kept(&mut kept[..n], total, ticks);
 }
 
-// Puts the first argument at the start of a buffer, and answers its length: 0 where it is missing or too long.
-fn first_argument(rt: &impl Env, argument: &mut [u8]) -> usize
-    ensures { result ≤ length argument.new }
-{
-    match rt.arg(1, argument) {
-        Ok(n) => n,
-        Err(_) => 0,
-    }
+// The first argument, which a buffer has room for: none where it is missing or too long.
+fn first_argument<'a>(rt: &impl Env, room: &'a mut [u8]) -> Option<&'a [u8]> {
+    let n = rt.arg(1, room).ok()?;
+    Some(&room[..n])
 }
 
 // No room is lent for it, so a second argument that isn't empty is too long.
 fn has_second_argument(rt: &impl Env) -> bool {
-    let mut none = [0u8; 0];
-    match rt.arg(2, &mut none) {
-        Err(FillError::NotPresent) => false,
-        _ => true,
-    }
+    !matches!(rt.arg(2, &mut []), Err(FillError::NotPresent))
 }
 
 // One argument and no more, beside the program's own name.
 fn recenter_asked(rt: &impl Env, argument: &mut [u8], kept: &mut [u8])
     requires { length kept.old ≡ kept_bytes }
 {
-    let n = first_argument(rt, argument);
-    let asked = ticks_of(&argument[..n]);
-    if asked.whole && !has_second_argument(rt) {
-        recenter_input(kept, asked.ticks);
-        return;
+    match first_argument(rt, argument).and_then(|text| ticks_of(text)) {
+        Some(ticks) if !has_second_argument(rt) => recenter_input(kept, ticks),
+        _ => say_usage(),
     }
-    say_usage();
 }
 
 fn main(rt: HostRuntime) {
-    let mut argument = [0u8; ARGUMENT_BYTES];
-    let mut kept = [0u8; KEPT_BYTES];
+    let mut argument = [0; ARGUMENT_BYTES];
+    let mut kept = [0; KEPT_BYTES];
     recenter_asked(&rt, &mut argument, &mut kept);
 }

@@ -1,22 +1,19 @@
 -- Digits read one after the other, with the number cut at each. Assumes nothing.
 use mathlib.Core.Path.{◌≡◌, refl, sym, ap, ◌∙◌}
-use mathlib.Core.Bool.{Bool, true, false, ◌&&◌, and-eq-true_iff}
+use mathlib.Core.Bool.{Bool, true, false, not, ◌&&◌}
+use Rattle.std.specs.Prelude.{None}
+use Rattle.std.specs.Bool.{then_some, ◌==◌}
 use mathlib.Core.Logic.{⊎_elim}
 use mathlib.Core.List.{List, [], ◌∷◌}
 use Prim.Native.Nat.{ℕ, ◌+◌, ◌≤◌, ◌<◌, min}
 use native.Mathlib.Nat.{le_refl, le_trans, min-eq_left, min-eq_right, min-le_right}
 use native.Mathlib.Omega.{arith}
-use borrow.Author.Tests.{leb-true, lt-ltb}
-use lib.Dec.{leb, ltb}
+use borrow.Author.Tests.{ne_eqb}
 use lib.ListN.{length, get_or, drop, drop_of_length-le}
 use Rattle.rules.specs.Plain.{all, foldl}
 use Rattle.rules.proofs.CoverCount.{lt_or_le}
 use Rattle.list_checks.proofs.Scans.{list_left}
-use Rattle.recenter_call.specs.Ticks.{is_digit, with_digit, value_of, most_asked, ticks_asked, ticks_of}
-
--- a digit is no less than that of 0
-pub digit-least : (b : ℕ) → is_digit b ≡ true → 48 ≤ b
-digit-least b e = leb-true 48 b ((and-eq-true_iff (leb 48 b) (leb b 57)).0 e).0
+use Rattle.recenter_call.specs.Ticks.{is_digit, with_digit, value_of, most_asked, ticks_of}
 
 -- a digit more makes no number less
 grows : (n : ℕ) (text : List ℕ) → n ≤ foldl with_digit n text
@@ -43,20 +40,17 @@ pub record Reading (text : List ℕ) (ticks i : ℕ) : Type 0 where
   pub digits : all is_digit text ≡ all is_digit (drop i text)
   pub value : min (value_of text) most_asked ≡ min (foldl with_digit ticks (drop i text)) most_asked
 
-pub reading-start : (text : List ℕ) → Reading text 0 0
-reading-start text = record { few = omega arith; inside = omega arith; digits = refl; value = refl }
-
 -- a text with a byte that is no digit
-none-asked : (text : List ℕ) → all is_digit text ≡ false → ticks_asked false 0 ≡ ticks_of text
+none-asked : (text : List ℕ) → all is_digit text ≡ false → None ≡ ticks_of text
 unfolding ticks_of
 none-asked [] e = refl
 none-asked (b ∷ text) e = rw e
 
 -- a text of digits
-all_asked : (text : List ℕ) (ticks : ℕ) → all is_digit text ≡ true → min (value_of text) most_asked ≡ ticks → ticks_asked (ltb 0 (length text)) ticks ≡ ticks_of text
+all_asked : (text : List ℕ) (ticks : ℕ) → all is_digit text ≡ true → min (value_of text) most_asked ≡ ticks → then_some (not (length text == 0)) ticks ≡ ticks_of text
 unfolding ticks_of
-all_asked [] ticks e v = ap (ticks_asked false) (sym v)
-all_asked (b ∷ text) ticks e v = rw (lt-ltb 0 (length (b ∷ text)) (omega arith), e, ← v)
+all_asked [] ticks e v = refl
+all_asked (b ∷ text) ticks e v = rw (ne_eqb (length (b ∷ text)) 0 (λ z. omega arith), e, ← v)
 
 module _ (text : List ℕ) (ticks i : ℕ) (r : Reading text ticks i) where
   module _ (h : i < length text) where
@@ -78,10 +72,10 @@ module _ (text : List ℕ) (ticks i : ℕ) (r : Reading text ticks i) where
           ∙ ap (λ (k : ℕ). min (foldl with_digit k (drop (i + 1) text)) most_asked) (sym e);
     }
 
-    pub reading-stop : is_digit (get_or text i 0) ≡ false → ticks_asked false 0 ≡ ticks_of text
+    pub reading-stop : is_digit (get_or text i 0) ≡ false → None ≡ ticks_of text
     reading-stop other = none-asked text (all_left false other)
 
-  pub reading_end : length text ≤ i → ticks_asked (ltb 0 (length text)) ticks ≡ ticks_of text
+  pub reading_end : length text ≤ i → then_some (not (length text == 0)) ticks ≡ ticks_of text
   reading_end h =
       let e : drop i text ≡ [] = drop_of_length-le text {i = i} h in
       all_asked text ticks (r.digits ∙ ap (all is_digit) e) (r.value ∙ ap (λ (l : List ℕ). min (foldl with_digit ticks l) most_asked) e ∙ min-eq_left r.few)

@@ -1,8 +1,7 @@
 -- How an argument says a number of ticks. Definitions only.
-use Rattle.std.specs.Prelude.{Bool, false, cond, ◌&&◌, List, [], ◌∷◌, ℕ, ◌+◌, ◌-◌, ◌*◌, min, leb}
+use Rattle.std.specs.Prelude.{Bool, false, cond, ◌&&◌, List, [], ◌∷◌, ℕ, ◌+◌, ◌-◌, ◌*◌, min, leb, Option, Some, None}
 use Rattle.rules.specs.Plain.{all, foldl}
 use Rattle.rules.specs.Refusal.{most_ticks}
-use Rattle.recenter_call.specs.declared.ticks.TicksAsked.{TicksAsked}
 
 -- '0' to '9'
 abbrev pub is_digit : ℕ → Bool
@@ -25,9 +24,6 @@ is_whole (b ∷ text) = all is_digit (b ∷ text)
 abbrev pub most_asked : ℕ
 most_asked = most_ticks + 1
 
-abbrev pub ticks_asked : Bool → ℕ → TicksAsked
-ticks_asked whole ticks = record { whole = whole; ticks = ticks }
-
--- whether a text is a whole number, and its value, cut; 0 where it is none
-unfoldable pub ticks_of : List ℕ → TicksAsked
-ticks_of text = ticks_asked (is_whole text) (cond (is_whole text) (min (value_of text) most_asked) 0)
+-- the value, cut, of a text that is a whole number
+unfoldable pub ticks_of : List ℕ → Option ℕ
+ticks_of text = cond (is_whole text) (Some (min (value_of text) most_asked)) None

@@ -6,4 +6,4 @@ mod run;
 mod ticks;
 
 pub use call::{KEPT_BYTES, recenter};
-pub use ticks::{TicksAsked, ticks_of};
+pub use ticks::ticks_of;

@@ -1,11 +1,11 @@
 // The ticks, run on a sheet with Center in force slot 0.
-ghost use Rattle.std.specs.Prelude.{◌≡◌, [], length};
+ghost use Rattle.std.specs.Prelude.{◌≡◌, length};
 ghost use Rattle.rules.specs.Outcome.{fine, ◌then◌};
 ghost use Rattle.rules.specs.Refusal.{count_check};
 ghost use Rattle.rules.specs.Sheet.{whole_records, count_of};
 ghost use Rattle.rules.specs.Tick.{step_answer, sheet_after_step};
 ghost use Rattle.rules.specs.Recenter.{most_recentered, center_words, recenter_input, recenter_settings, recenter_alpha_min};
-ghost use Rattle.recenter_call.specs.Recentered.{Recentered};
+ghost use Rattle.recenter_call.specs.Recentered.{check_of, Recentered};
 
 use rules::{FORCE_WORDS, Refusal};
 use step_call::step;
@@ -18,63 +18,55 @@ const ONE: u64 = 0x3ff0_0000_0000_0000;
 fn center_words() -> [u64; FORCE_WORDS]
     ensures { result ≡ center_words }
 {
-    let mut words = [0u64; FORCE_WORDS];
+    let mut words = [0; FORCE_WORDS];
     words[0] = 4;
     words[6] = ONE;
     words
 }
 
-// A step with these words, and with lists for what Center doesn't take.
-fn step_lent(
-    sheet: &mut [u8],
-    ticks: u64,
-    words: &[u64; FORCE_WORDS],
-    reals: &[f64],
-    links: &[u32],
-    work: &mut [u64],
-) -> Refusal
-    requires { (words.now ≡ center_words) × (reals.now ≡ []) × (links.now ≡ []) × (work.old ≡ []) }
-    ensures value { result ≡ (step_answer (recenter_input sheet.old) recenter_settings recenter_alpha_min ticks).refusal }
-    ensures sheet_after { sheet.new ≡ sheet_after_step (recenter_input sheet.old) recenter_settings recenter_alpha_min ticks }
+// A step's refusal as a check.
+fn check_of(refusal: Refusal) -> Result<(), Refusal>
+    ensures { result ≡ check_of refusal }
 {
-    let mut alpha = ONE;
-    let s = settings_of(0.0, 0.0228, 0.6);
-    let answer = step(
-        sheet, &mut alpha, words, reals, links, reals, s, -1.0, ticks, work,
-    );
-    answer.refusal
+    if refusal.number == 0 {
+        return Ok(());
+    }
+    Err(refusal)
 }
 
-// The same with empty lists.
-fn step_sheet(sheet: &mut [u8], ticks: u64) -> Refusal
-    ensures value { result ≡ (step_answer (recenter_input sheet.old) recenter_settings recenter_alpha_min ticks).refusal }
+// A step with these words and settings, and with empty lists for what Center doesn't take.
+fn step_sheet(sheet: &mut [u8], ticks: u64) -> Result<(), Refusal>
+    ensures value { result ≡ check_of (step_answer (recenter_input sheet.old) recenter_settings recenter_alpha_min ticks).refusal }
     ensures sheet_after { sheet.new ≡ sheet_after_step (recenter_input sheet.old) recenter_settings recenter_alpha_min ticks }
 {
     let words = center_words();
-    let reals = [0.0f64; 1];
-    let links = [0u32; 1];
-    let mut work = [0u64; 1];
-    step_lent(
+    let mut alpha = ONE;
+    let s = settings_of(0.0, 0.0228, 0.6);
+    let answer = step(
         sheet,
-        ticks,
+        &mut alpha,
         &words,
-        &reals[..0],
-        &links[..0],
-        &mut work[..0],
-    )
+        &[],
+        &[],
+        &[],
+        s,
+        -1.0,
+        ticks,
+        &mut [],
+    );
+    check_of(answer.refusal)
 }
 
 // A refused tick leaves what the ticks before it made of the sheet: so a copy is kept, and put back.
-pub fn step_or_put_back(sheet: &mut [u8], spare: &mut [u8], ticks: u64) -> Refusal
+pub fn step_or_put_back(sheet: &mut [u8], spare: &mut [u8], ticks: u64) -> Result<(), Refusal>
     requires sheet_value { (whole_records sheet.old then count_check most_recentered (count_of sheet.old)) ≡ fine }
     requires spare_len { length spare.old ≡ length sheet.old }
     ensures { Recentered sheet.old ticks result sheet.old sheet.new }
 {
     spare.copy_from_slice(sheet);
-    let r = step_sheet(sheet, ticks);
-    let number = r.number;
-    if number != 0 {
+    let ran = step_sheet(sheet, ticks);
+    if ran.is_err() {
         sheet.copy_from_slice(spare);
     }
-    r
+    ran
 }

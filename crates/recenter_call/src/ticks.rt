@@ -7,47 +7,25 @@ use rules::MOST_TICKS;
 // More ticks than these are refused alike, so a number is cut there and never wraps.
 const MOST_ASKED: u64 = MOST_TICKS as u64 + 1;
 
-// Whether an argument is a whole number, and how many ticks that is, cut; 0 where it is none.
-#[derive(Clone, Copy)]
-pub struct TicksAsked {
-    pub whole: bool,
-    pub ticks: u64,
-}
-
-fn is_digit(b: u8) -> bool
-    ensures { result ≡ is_digit b }
-{
-    b'0' <= b && b <= b'9'
-}
-
 // A number with one digit more, cut.
 fn with_digit(ticks: u64, b: u8) -> u64
     requires { (ticks ≤ most_asked) × (is_digit b ≡ true) }
     ensures { result ≡ min (with_digit ticks b) most_asked }
 {
-    let more = ticks * 10 + (b - b'0') as u64;
-    if more < MOST_ASKED {
-        return more;
-    }
-    MOST_ASKED
+    let more = ticks * 10 + u64::from(b - b'0');
+    more.min(MOST_ASKED)
 }
 
 // One or more decimal digits, and nothing else.
-pub fn ticks_of(text: &[u8]) -> TicksAsked
+pub fn ticks_of(text: &[u8]) -> Option<u64>
     ensures { result ≡ ticks_of text.now }
 {
-    let whole = 0 < text.len();
-    let mut ticks: u64 = 0;
-    let mut i: usize = 0;
-    while i < text.len() {
-        if !is_digit(text[i]) {
-            return TicksAsked {
-                whole: false,
-                ticks: 0,
-            };
+    let mut ticks = 0;
+    for b in text {
+        if !b.is_ascii_digit() {
+            return None;
         }
-        ticks = with_digit(ticks, text[i]);
-        i = i + 1;
+        ticks = with_digit(ticks, *b);
     }
-    TicksAsked { whole, ticks }
+    (!text.is_empty()).then_some(ticks)
 }

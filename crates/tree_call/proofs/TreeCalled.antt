@@ -1,10 +1,10 @@
 -- What a call that builds a tree answers and leaves, by what building came to.
 use mathlib.Core.Path.{◌≡◌, refl, sym, ap, ◌∙◌}
-use mathlib.Core.Bool.{Bool, true, false, cond, not}
+use mathlib.Core.Bool.{true}
 use mathlib.Core.List.{List}
 use Prim.Native.Nat.{ℕ, ◌/◌}
 use native.Mathlib.Omega.{arith}
-use borrow.Author.Tests.{ne_eqb, not-true, not-false}
+use borrow.Author.Tests.{ne_eqb}
 use lib.ListN.{length, replicate}
 use lib.Ieee.{Float}
 use Rattle.std.specs.Prelude.{Result, Ok, Err}
@@ -30,14 +30,6 @@ use Rattle.tree_slots.proofs.Trees.{lays_levels}
 use Rattle.tree_build.proofs.Refusals.{tree_clears}
 
 -- ---- which refusals clear the work slots
-
--- met is whether it was met on the way
-module _ (r : Refusal) (work : List ℕ) (met : Bool) (e : met ≡ on_the_way r) where
-  pub refusal_keeps : not met ≡ true → work ≡ refused_work r work
-  refusal_keeps z = ap (λ (b : Bool). cond b (zeros work) work) (sym (not-true met z) ∙ e)
-
-  pub refusal_clears : not met ≡ false → zeros work ≡ refused_work r work
-  refusal_clears z = ap (λ (b : Bool). cond b (zeros work) work) (sym (not-false met z) ∙ e)
 
 -- of what is cleared only the length matters
 pub work_cleared : {A : Type 0} (o : Outcome A) (m work : List ℕ) → Refuses (λ r. on_the_way r ≡ true) o → length m ≡ length work → work_after o m ≡ work_after o work

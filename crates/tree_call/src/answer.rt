@@ -1,7 +1,7 @@
 // What a call that builds a tree answers, and what it leaves of the lent lists.
 ghost use Rattle.std.specs.Prelude.{◌≡◌, length};
 ghost use Rattle.rules.specs.declared.Extent.{Extent};
-ghost use Rattle.rules.specs.Outcome.{Outcome, refusal, on_the_way};
+ghost use Rattle.rules.specs.Outcome.{Outcome, on_the_way};
 ghost use Rattle.rules.specs.Tree.{Tree};
 ghost use Rattle.tree_call.specs.Tree.{refused_tree, refused_work, Comes, Answers};
 
@@ -10,22 +10,21 @@ use tree_rows::list;
 use tree_slots::Quadtree;
 use tree_slots::store::clear;
 
-// Whether a refusal is met on the way, so that the work slots are cleared.
-fn on_the_way(number: u64) -> bool
-    ensures { result ≡ on_the_way (refusal number 0) }
+// Whether a refusal is met on the way, so that the work slots are cleared. It is told by its number, which is all that a refusal says.
+fn on_the_way(refusal: Refusal) -> bool
+    ensures { result ≡ on_the_way refusal }
 {
-    if number == 15 {
-        return true;
-    }
-    6 <= number && number <= 9
+    matches!(refusal.number, 6..=9 | 15)
 }
 
 // Counts zero and no extent; refusals that aren't met on the way leave the work slots as they were.
 pub fn refuse(work: &mut [u64], refusal: Refusal) -> TreeAnswer
     ensures { (result ≡ refused_tree refusal) × (work.new ≡ refused_work refusal work.old) }
 {
-    let number = refusal.number;
-    let answer = TreeAnswer {
+    if on_the_way(refusal) {
+        clear(work);
+    }
+    TreeAnswer {
         refusal,
         nodes: 0,
         extent: Extent {
@@ -34,12 +33,7 @@ pub fn refuse(work: &mut [u64], refusal: Refusal) -> TreeAnswer
             x1: 0.0,
             y1: 0.0,
         },
-    };
-    if !on_the_way(number) {
-        return answer;
     }
-    clear(work);
-    answer
 }
 
 // A tree that was built is listed, and the slots are cleared.

@@ -1,30 +1,32 @@
 // The tree call: every check in its order, then the tree is built in the lent slots and listed.
-ghost use Rattle.std.specs.Prelude.{◌≡◌, ◌&&◌, ◌*◌, ◌≤◌, ◌<◌, ◌^◌, eqb, length};
-ghost use Rattle.rules.specs.Outcome.{refusal_of, ◌then◌};
-ghost use Rattle.rules.specs.Refusal.{most_particles, count_check, lengths_check};
-ghost use Rattle.rules.specs.Calls.{tree_result};
-ghost use Rattle.rules.specs.Tree.{row_numbers};
+ghost use Rattle.std.specs.Prelude.{◌≡◌, ◌≤◌, length};
+ghost use Rattle.rules.specs.Outcome.{result_of};
+ghost use Rattle.rules.specs.Refusal.{most_particles};
+ghost use Rattle.rules.specs.Calls.{input_check, tree_lengths, tree_result};
 ghost use Rattle.tree_call.specs.Tree.{lent, AfterTree, Passed, built, TreeReady};
 
 use crate::answer::{answer, refuse};
-use list_checks::{count_check, first, lengths_check};
+use list_checks::{count_check, lengths_check};
 use rules::{MOST_PARTICLES, RECORD_SIZE, ROW_NUMBERS, Refusal, SLOT_WORDS, TreeAnswer};
 use sheet::{read_pairs, records_check, whole_records};
 use tree_build::build::build;
 
-// A row for each slot, a number for each particle.
-fn agree(rows: usize, slots: usize, chains: usize, n: usize) -> bool
-    requires { slots < 2 ^ 61 }
-    ensures { result ≡ (eqb rows (slots * row_numbers) && eqb chains n) }
+// What is lent, checked in its order: 10, 1 for more than `most` particles, 2 unless there is a row for each slot and a number for each particle, then record by record.
+fn input_check(
+    most: usize,
+    records: &[u8],
+    rows: &[u32],
+    chains: &[u32],
+    work: &[u64],
+) -> Result<(), Refusal>
+    ensures { result ≡ result_of (input_check most (tree_lengths (lent records.now rows.now chains.now work.now)) records.now) }
 {
-    rows == slots * ROW_NUMBERS && chains == n
-}
-
-// 1 for too many particles, then 2 for lengths that disagree.
-fn lent_check(most: usize, n: usize, agreed: bool) -> Refusal
-    ensures { result ≡ refusal_of (count_check most n then lengths_check agreed) }
-{
-    first(count_check(most, n), lengths_check(agreed))
+    whole_records(records)?;
+    let n = records.len() / RECORD_SIZE;
+    count_check(most, n)?;
+    let rows_wanted = work.len() / SLOT_WORDS * ROW_NUMBERS;
+    lengths_check(rows.len() == rows_wanted && chains.len() == n)?;
+    records_check(records)
 }
 
 // The tree is built in the slots and listed.
@@ -80,24 +82,10 @@ pub fn tree_within(
     ensures { let l = lent records.now rows.old chains.old work.old in
         AfterTree l (tree_result most l) result rows.new chains.new work.new }
 {
-    let bad = whole_records(records);
-    let number = bad.number;
-    if number != 0 {
-        return refuse(work, bad);
+    match input_check(most, records, rows, chains, work) {
+        Err(refusal) => refuse(work, refusal),
+        Ok(()) => tree_passed(records, rows, chains, work),
     }
-    let n = records.len() / RECORD_SIZE;
-    let agreed = agree(rows.len(), work.len() / SLOT_WORDS, chains.len(), n);
-    let bad = lent_check(most, n, agreed);
-    let number = bad.number;
-    if number != 0 {
-        return refuse(work, bad);
-    }
-    let bad = records_check(records);
-    let number = bad.number;
-    if number != 0 {
-        return refuse(work, bad);
-    }
-    tree_passed(records, rows, chains, work)
 }
 
 pub fn tree(records: &[u8], rows: &mut [u32], chains: &mut [u32], work: &mut [u64]) -> TreeAnswer

@@ -39,17 +39,6 @@ module _ (at : List Float) (m : List ℕ) (q less : Quadtree) (i : ℕ) (t : Tre
   pub tidies_of : Tidies at m less i d.tree
   tidies_of = record { packed = d.packed; room = omega (arith, d.few); few = omega (arith, d.few); place = place }
 
-  pub tidy-done : ((u : Tree ℕ) → Tidies at m less i u → Folds at less.extent u i None) → Tidied at m q less i t
-  tidy-done h =
-      record {
-        tree = d.tree;
-        packed = d.packed;
-        cells = sym (subst (λ (c : Extent). gather at i c (in_cells c d.tree) ≡ in_cells c d.tree) d.extent (h d.tree tidies_of)) ∙ d.same;
-        extent = d.extent;
-        deepest = d.deepest;
-        few = d.few;
-      }
-
   module _ (f : Fold) (h : (u : Tree ℕ) → Tidies at m less i u → Folds at less.extent u i (Some f)) where
     at-fold : FoldsAt at less.extent d.tree i f.slot f.child
     at-fold = h d.tree tidies_of
