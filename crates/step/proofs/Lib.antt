@@ -1,3 +1,3 @@
-mod Keeping
-mod Stepping
 pub mod Accepted
+pub mod Keeping
+pub mod Stepping

@@ -11,7 +11,7 @@ ghost use Rattle.step.specs.Step.{start, Steps};
 
 use rules::{FORCE_WORDS, Progress, Settings};
 use tick::{Turn, tick_on};
-use tick_close::{Stepped, copy_from, copy_to};
+use tick_close::Stepped;
 
 // What a step is set to: how its ticks are, where alpha begins and where it is to stop, and how many ticks there may be.
 #[derive(Clone, Copy)]
@@ -27,9 +27,9 @@ fn keep(places: &[f64], speeds: &[f64], kept: &mut [f64])
     requires { length kept.old ≡ length places.now + length speeds.now }
     ensures { kept.new ≡ places.now ++ speeds.now }
 {
-    let n = places.len();
-    copy_to(places, kept, 0);
-    copy_to(speeds, kept, n);
+    let (kept_places, kept_speeds) = kept.split_at_mut(places.len());
+    kept_places.copy_from_slice(places);
+    kept_speeds.copy_from_slice(speeds);
 }
 
 fn put_back(kept: &[f64], places: &mut [f64], speeds: &mut [f64])
@@ -37,9 +37,9 @@ fn put_back(kept: &[f64], places: &mut [f64], speeds: &mut [f64])
     ensures { (places.new ≡ take (length places.old) kept.now)
         × (speeds.new ≡ take (length speeds.old) (drop (length places.old) kept.now)) }
 {
-    let n = places.len();
-    copy_from(kept, 0, places);
-    copy_from(kept, n, speeds);
+    let (kept_places, kept_speeds) = kept.split_at(places.len());
+    places.copy_from_slice(kept_places);
+    speeds.copy_from_slice(kept_speeds);
 }
 
 // No draw is used and no node handed out before it. A refused tick leaves what the ticks before it left. Held axes return to their places at each tick's entry.
@@ -63,38 +63,39 @@ pub fn step_on(
         (ticks_from plan.settings plan.alpha_min (forces_from (length flags.now) (entries_of words.now) numbers.now links.now)
         (slots_of work.old) plan.budget 0 (state_of (columns places.old speeds.old flags.now) draws.now (start plan.alpha))) }
 {
-    let settings = plan.settings;
-    let alpha_min = plan.alpha_min;
-    let budget = plan.budget;
     let n = places.len();
-    let mut p = Progress {
-        alpha: plan.alpha,
-        used: 0,
-        visits: 0,
-    };
-    let mut t: u64 = 0;
-    while t < budget && alpha_min < p.alpha {
-        keep(places, speeds, kept);
-        let turn = Turn {
-            settings,
-            progress: p,
-        };
-        let home = &kept[..n];
-        let r = tick_on(
-            words, numbers, links, home, places, speeds, flags, turn, draws, next, tail, work,
-        );
-        let refusal = r.refusal;
-        let number = refusal.number;
-        if number != 0 {
-            put_back(kept, places, speeds);
+    let mut p = Progress::begin(plan.alpha);
+    for ticks in 0..plan.budget {
+        // Low, or one of them is NaN.
+        if !(plan.alpha_min < p.alpha) {
             return Stepped {
-                ticks: t,
-                refusal,
+                ticks,
+                end: Ok(()),
                 progress: p,
             };
         }
-        p = r.progress;
-        t = t + 1;
+        keep(places, speeds, kept);
+        let home = &kept[..n];
+        let turn = Turn {
+            settings: plan.settings,
+            progress: p,
+        };
+        let ran = tick_on(
+            words, numbers, links, home, places, speeds, flags, turn, draws, next, tail, work,
+        );
+        if ran.refusal.number != 0 {
+            put_back(kept, places, speeds);
+            return Stepped {
+                ticks,
+                end: Err(ran.refusal),
+                progress: p,
+            };
+        }
+        p = ran.progress;
     }
-    Stepped::unrefused(t, p)
+    Stepped {
+        ticks: plan.budget,
+        end: Ok(()),
+        progress: p,
+    }
 }

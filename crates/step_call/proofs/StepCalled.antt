@@ -1,15 +1,16 @@
 -- A step called on a sheet: how it ends where it is refused before it begins, and where its ticks have run.
 use mathlib.Core.Path.{◌≡◌, sym, ap, ◌∙◌}
 use mathlib.Core.List.{List, [], ◌∷◌, ◌++◌}
-use Prim.Native.Nat.{ℕ}
+use Prim.Native.Nat.{ℕ, ◌*◌, ◌≤◌}
+use native.Mathlib.Omega.{arith}
 use lib.ListN.{length}
 use lib.Ieee.{Float}
 use Rattle.rules.specs.declared.Refusal.{Refusal}
 use Rattle.rules.specs.declared.Settings.{Settings}
 use Rattle.rules.specs.declared.StepAnswer.{StepAnswer}
-use Rattle.rules.specs.Outcome.{Check, done, refused, fine, ◌>>=◌}
+use Rattle.rules.specs.Outcome.{Check, done, refused, fine, ◌>>=◌, refusal_in}
 use Rattle.rules.specs.Number.{float_of}
-use Rattle.rules.specs.Refusal.{most_ticks, count_check}
+use Rattle.rules.specs.Refusal.{most_particles, most_ticks, count_check}
 use Rattle.rules.specs.Calls.{slots_of}
 use Rattle.rules.specs.Tick.{SheetInput, ticks_done, count, entries, forces, forces_from, sheet_check, entry_state, tick_settings, ticks_from, step_result, step_answer, sheet_after_step, alpha_after_step, work_after_step}
 use Rattle.rules.proofs.RefusalNumbers.{count-early}
@@ -20,7 +21,17 @@ use Rattle.step.specs.Step.{start, Steps}
 use Rattle.tick_columns.specs.Columns.{Read}
 use Rattle.tick_close.specs.Settled.{no_ticks, StepSettled}
 use Rattle.step_call.specs.Step.{AfterStep}
-use Rattle.tick_columns.proofs.Begun.{entry-is, spent}
+use Rattle.tick_columns.proofs.Begun.{checked, entry-is, spent}
+
+-- what is let pass has few particles
+pub few : (l : SheetInput) (budget : ℕ) (settings : List Float) → sheet_check l (count_check most_ticks budget) settings ≡ fine → count l ≤ most_particles
+few l budget settings h = (checked l budget settings h).fits.few
+
+pub few-numbers : (l : SheetInput) (budget : ℕ) (settings : List Float) → sheet_check l (count_check most_ticks budget) settings ≡ fine → count l * 2 ≤ 2 * most_particles
+few-numbers l budget settings h = omega (arith, few l budget settings h)
+
+pub few-kept : (l : SheetInput) (budget : ℕ) (settings : List Float) → sheet_check l (count_check most_ticks budget) settings ≡ fine → count l * 4 ≤ 4 * most_particles
+few-kept l budget settings h = omega (arith, few l budget settings h)
 
 module _ (l : SheetInput) (s : Settings) (alpha_min : Float) (budget : ℕ) where
   -- refused before it begins: nothing changes
@@ -33,7 +44,7 @@ module _ (l : SheetInput) (s : Settings) (alpha_min : Float) (budget : ℕ) wher
       (r : Read l.sheet places speeds flags) (n : length flags ≡ count l) (ea : a ≡ float_of l.alpha)
       (k : Steps (columns at vs flags) l.draws budget t
       (ticks_from s alpha_min (forces_from (length flags) (entries l) l.numbers l.links) (slots_of l.work) budget 0 (state_of (columns places speeds flags) l.draws (start a)))) where
-    result-is : step_result l s alpha_min budget ≡ done (ticks_done t.ticks t.refusal (state_of (columns at vs flags) l.draws t.progress))
+    result-is : step_result l s alpha_min budget ≡ done (ticks_done t.ticks (refusal_in t.end) (state_of (columns at vs flags) l.draws t.progress))
     unfolding step_result
     result-is =
         ap (λ (d : Check). d >>= λ _. done (ticks_from s alpha_min (forces l) (slots_of l.work) budget 0 (entry_state l))) c

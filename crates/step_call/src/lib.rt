@@ -115,27 +115,16 @@ pub fn step(
     ensures { let l = lent_sheet sheet.old alpha.old words.now numbers.now links.now draws.now work.old in
         AfterStep l s alpha_min budget result sheet.new alpha.new work.new }
 {
-    let first_alpha = float_of(*alpha);
-    let r = step_check(
-        sheet,
-        words,
-        numbers,
-        links,
-        draws,
-        first_alpha,
-        s,
-        alpha_min,
-        budget,
-    );
-    let number = r.number;
-    if number != 0 {
-        return refused_step(r);
-    }
     let plan = Plan {
         settings: s,
-        alpha: first_alpha,
+        alpha: float_of(*alpha),
         alpha_min,
         budget,
     };
-    with_lists(sheet, alpha, words, numbers, links, draws, plan, work)
+    match step_check(
+        sheet, words, numbers, links, draws, plan.alpha, s, alpha_min, budget,
+    ) {
+        Err(refusal) => refused_step(refusal),
+        Ok(()) => with_lists(sheet, alpha, words, numbers, links, draws, plan, work),
+    }
 }

@@ -11,7 +11,7 @@ ghost use Rattle.tick.specs.Tick.{cooled};
 
 use force::Ran;
 use number::within;
-use rules::{FORCE_WORDS, Progress, Refusal, Settings};
+use rules::{FORCE_WORDS, Progress, Reason, Refusal, Settings};
 use tick_close::{close, next_alpha};
 use tick_forces::run_forces;
 
@@ -48,14 +48,12 @@ pub fn tick_on(
 {
     let s = turn.settings;
     let p = turn.progress;
-    let alpha = next_alpha(s, p.alpha);
     let cooled = Progress {
-        alpha,
-        used: p.used,
-        visits: p.visits,
+        alpha: next_alpha(s, p.alpha),
+        ..p
     };
-    if !within(alpha) {
-        return Ran::refused(Refusal::at(9, 0), cooled);
+    if !within(cooled.alpha) {
+        return Ran::refused(Refusal::new(Reason::BadResult, 0), cooled);
     }
     let ran = run_forces(
         words, numbers, links, places, speeds, flags, s.tuning, draws, cooled, next, tail, work,

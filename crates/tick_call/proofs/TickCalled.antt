@@ -2,7 +2,8 @@
 use mathlib.Core.Path.{◌≡◌, refl, sym, ap, ◌∙◌}
 use mathlib.Core.Bool.{true}
 use mathlib.Core.List.{List, []}
-use Prim.Native.Nat.{ℕ, ◌≤◌}
+use Prim.Native.Nat.{ℕ, ◌*◌, ◌≤◌}
+use native.Mathlib.Omega.{arith}
 use lib.ListN.{length}
 use lib.Ieee.{Float}
 use Rattle.rules.specs.declared.Refusal.{Refusal}
@@ -11,7 +12,7 @@ use Rattle.rules.specs.declared.Progress.{Progress}
 use Rattle.rules.specs.declared.Settings.{Settings}
 use Rattle.rules.specs.Outcome.{Check, done, refused, fine, ◌>>=◌, ◌then◌, on_the_way, zeroes_work}
 use Rattle.rules.specs.Number.{float_of}
-use Rattle.rules.specs.Refusal.{result_check}
+use Rattle.rules.specs.Refusal.{most_particles, result_check}
 use Rattle.rules.specs.Sheet.{particles_of, places_of}
 use Rattle.rules.specs.Calls.{slots_of}
 use Rattle.rules.specs.Tick.{SheetInput, count, entries, forces, forces_from, sheet_check, tick_home, tick, entry_state, tick_settings, tick_result, tick_answer, sheet_after_tick, alpha_after_tick, work_after_tick}
@@ -24,7 +25,7 @@ use Rattle.force_call.specs.Calls.{no_counts}
 use Rattle.tick_checks.proofs.Whole.{keeps_slots}
 use Rattle.tick_columns.specs.Stage.{Columns, columns, state_of, staged_of, Stages}
 use Rattle.tick_columns.specs.Columns.{Read}
-use Rattle.tick_columns.proofs.Begun.{entry-is, spent}
+use Rattle.tick_columns.proofs.Begun.{checked, entry-is, spent}
 use Rattle.tick_close.specs.Settled.{TickSettled}
 use Rattle.tick.specs.Tick.{cooled}
 use Rattle.tick_call.specs.Tick.{AfterTick}
@@ -36,6 +37,13 @@ stands_met t h q e = late_met t [] [] h q (ap (λ (c : Check). c then result_che
 -- nothing is counted yet
 abbrev pub start : Float → Progress
 start a = record { alpha = a; used = 0; visits = 0 }
+
+-- what is let pass has few particles
+pub few : (l : SheetInput) (settings : List Float) → sheet_check l fine settings ≡ fine → count l ≤ most_particles
+few l settings h = (checked l 0 settings h).fits.few
+
+pub few-numbers : (l : SheetInput) (settings : List Float) → sheet_check l fine settings ≡ fine → count l * 2 ≤ 2 * most_particles
+few-numbers l settings h = omega (arith, few l settings h)
 
 module _ (l : SheetInput) (s : Settings) where
   -- ---- refused before it begins: nothing changes

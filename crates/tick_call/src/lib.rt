@@ -15,7 +15,6 @@ use number::float_of;
 use rules::{Counts, FORCE_WORDS, MOST_PARTICLES, Progress, RECORD_SIZE, Settings};
 use tick::{Turn, tick_on};
 use tick_checks::tick_check;
-use tick_close::copy_to;
 use tick_close::settle::settle_tick;
 use tick_columns::read_columns;
 
@@ -56,14 +55,10 @@ fn on_columns(
     let mut next = [0u32; MOST_PARTICLES];
     let mut tail = [0u32; MOST_PARTICLES];
     read_columns(sheet, places, speeds, flags);
-    copy_to(places, home, 0);
+    home.copy_from_slice(places);
     let turn = Turn {
         settings: s,
-        progress: Progress {
-            alpha: float_of(*alpha),
-            used: 0,
-            visits: 0,
-        },
+        progress: Progress::begin(float_of(*alpha)),
     };
     let ran = tick_on(
         words,
@@ -134,10 +129,8 @@ pub fn tick(
     ensures { let l = lent_sheet sheet.old alpha.old words.now numbers.now links.now draws.now work.old in
         AfterTick l s result sheet.new alpha.new work.new }
 {
-    let r = tick_check(sheet, words, numbers, links, draws, float_of(*alpha), s);
-    let number = r.number;
-    if number != 0 {
-        return refused(r);
+    match tick_check(sheet, words, numbers, links, draws, float_of(*alpha), s) {
+        Err(refusal) => refused(refusal),
+        Ok(()) => with_lists(sheet, alpha, words, numbers, links, draws, s, work),
     }
-    with_lists(sheet, alpha, words, numbers, links, draws, s, work)
 }

@@ -3,7 +3,7 @@ use Rattle.std.specs.Prelude.{◌≡◌, cond, List, ℕ, Float}
 use Rattle.std.specs.Float.Ieee.{le}
 use Rattle.rules.specs.declared.Counts.{Counts}
 use Rattle.rules.specs.Plain.{zeros}
-use Rattle.rules.specs.Outcome.{Check, if_done}
+use Rattle.rules.specs.Outcome.{Check, if_done, refusal_in}
 use Rattle.rules.specs.Number.{bits_of}
 use Rattle.force_call.specs.Calls.{counts_after}
 use Rattle.force.specs.declared.Ran.{Ran}
@@ -27,7 +27,7 @@ no_ticks q = record { refusal = q; ticks = 0; finished = 0; visits = 0; draws = 
 abbrev pub some_ticks : Stepped → Float → StepAnswer
 some_ticks t alpha_min =
     let p = t.progress in
-    record { refusal = t.refusal; ticks = t.ticks; finished = cond (le p.alpha alpha_min) 1 0; visits = p.visits; draws = p.used }
+    record { refusal = refusal_in t.end; ticks = t.ticks; finished = cond (le p.alpha alpha_min) 1 0; visits = p.visits; draws = p.used }
 
 -- What is answered and left when ticks have run on columns: what they left is written in any case, also where one that was refused ended them.
 pub record StepSettled (t : Stepped) (alpha_min : Float) (places speeds : List Float) (sheet work : List ℕ) (r : StepAnswer) (sheet' : List ℕ) (alpha' : ℕ) (work' : List ℕ) : Type 0 where

@@ -1,5 +1,5 @@
 // What a call of a tick or a step answers and leaves once its ticks have run by columns.
-ghost use Rattle.std.specs.Prelude.{◌≡◌, cond};
+ghost use Rattle.std.specs.Prelude.{◌≡◌};
 ghost use Rattle.force.specs.Ran.{ran_check};
 ghost use Rattle.tick_columns.specs.Columns.{Writable};
 ghost use Rattle.tick_close.specs.Settled.{TickSettled, no_ticks, StepSettled};
@@ -25,15 +25,12 @@ pub fn settle_tick(
         result sheet.new alpha.new work.new }
 {
     tree_slots::store::clear(work);
-    let refusal = ran.refusal;
-    let number = refusal.number;
-    if number != 0 {
-        return refused(refusal);
+    if ran.refusal.number != 0 {
+        return refused(ran.refusal);
     }
     write_columns(sheet, places, speeds);
-    let p = ran.progress;
-    *alpha = bits_of(p.alpha);
-    counted(p)
+    *alpha = bits_of(ran.progress.alpha);
+    counted(ran.progress)
 }
 
 // A refusal's answer: no tick, and all counts zero.
@@ -47,16 +44,6 @@ pub fn refused_step(refusal: Refusal) -> StepAnswer
         visits: 0,
         draws: 0,
     }
-}
-
-// A test as a number.
-fn one_if(test: bool) -> u64
-    ensures { result ≡ cond test 1 0 }
-{
-    if test {
-        return 1;
-    }
-    0
 }
 
 // What the ticks left is written, also where one that was refused ended them. The work slots are zero in any case.
@@ -76,13 +63,11 @@ pub fn settle_step(
     tree_slots::store::clear(work);
     write_columns(sheet, places, speeds);
     let p = stepped.progress;
-    let last_alpha = p.alpha;
-    *alpha = bits_of(last_alpha);
-    let refusal = stepped.refusal;
+    *alpha = bits_of(p.alpha);
     StepAnswer {
-        refusal,
+        refusal: Refusal::from(stepped.end),
         ticks: stepped.ticks,
-        finished: one_if(last_alpha <= alpha_min),
+        finished: u64::from(p.alpha <= alpha_min),
         visits: p.visits,
         draws: p.used as u64,
     }
