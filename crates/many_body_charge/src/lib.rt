@@ -11,7 +11,6 @@ ghost use Rattle.many_body_chains.specs.Chain.{Chain};
 ghost use Rattle.many_body_charge.specs.Charge.{charge_of, sums_of, read_charge, put_charge, Charged};
 
 use many_body_chains::chain_strength;
-use number::abs;
 use tree_slots::{Quadtree, store};
 use tree_walk::Path;
 
@@ -72,11 +71,11 @@ fn weighed(c: f64, x: f64) -> f64
 }
 
 // A child is added, of weight |strength|.
-#[tactic(auto, unfolding(rules::specs::ManyBody::with_child))]
+#[tactic(auto, using(number::proofs::Tests::abs_is), unfolding(rules::specs::ManyBody::with_child))]
 fn with_child(s: Sums, q: Charge) -> Sums
     ensures { sums_of result ≡ with_child (sums_of s) (charge_of q) }
 {
-    let c = abs(q.strength);
+    let c = q.strength.abs();
     Sums {
         x: s.x + weighed(c, q.x),
         y: s.y + weighed(c, q.y),
