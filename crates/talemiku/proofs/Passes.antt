@@ -1,26 +1,20 @@
 -- Passes over a list of particles: checks that stop at the first refusal, sums, and a list that is changed from the front.
-use mathlib.Core.Path.{◌≡◌, refl, sym, ap, ◌∙◌}
+use mathlib.Core.Path.{◌≡◌, refl, ap, ◌∙◌}
 use mathlib.Core.Bool.{Bool, true, false, ◌&&◌}
 use mathlib.Core.List.{List, [], ◌∷◌, map}
-use Prim.Native.Nat.{ℕ, zero, suc, ◌+◌, ◌<◌}
-use native.Mathlib.Numerals.{add-one}
-use native.Mathlib.Omega.{arith}
-use lib.ListN.{length, get_or, set, drop, length-set, length-map, drop_of_length-le}
-use lib.Seq.{drop-cons}
+use Prim.Native.Nat.{ℕ, ◌+◌}
+use lib.ListN.{length, length-map}
 use lib.Ieee.{Float, nan}
 use Rattle.rules.specs.declared.Particle.{Particle}
-use Rattle.rules.specs.declared.Refusal.{Refusal}
 use Rattle.rules.specs.Plain.{all, foldl}
 use Rattle.rules.specs.Number.{◌⊕◌, 0·, within, finite}
-use Rattle.rules.specs.Outcome.{refused, Check, fine, require, ◌>>=◌, refusal_of, check_from, check_each}
-use Rattle.rules.specs.Refusal.{count_check, settings_check, result_check}
+use Rattle.rules.specs.Outcome.{Check, require, ◌>>=◌, check_from, check_each}
+use Rattle.rules.specs.Refusal.{result_check}
 use Rattle.rules.specs.Sheet.{particle, places_of, speeds_of}
 use Rattle.rules.specs.Particle.{offset, shifted, centered, closing}
-use Rattle.rules.proofs.RefusalNumbers.{count-early, settings-early}
-use Rattle.list_checks.proofs.Scans.{passes}
 use Rattle.center.specs.declared.Pair.{Pair}
 use Rattle.center.specs.Pairs.{pair, offsets_of}
-use Rattle.talemiku.specs.Pass.{result_of, moved_alone, added_to}
+use Rattle.talemiku.specs.Pass.{result_of, moved_alone}
 
 -- what stands past a list's end: no pass looks there
 abbrev pub none : Particle

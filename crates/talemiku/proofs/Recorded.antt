@@ -1,5 +1,5 @@
 -- The outcomes of the writer and of the reader of records, check by check: what each answers, and what it leaves.
-use mathlib.Core.Path.{◌≡◌, ◌∙◌}
+use mathlib.Core.Path.{◌≡◌}
 use mathlib.Core.List.{List}
 use Prim.Native.Nat.{ℕ, ◌*◌, ◌≤◌}
 use borrow.Author.Tests.{leb-true}
@@ -7,7 +7,7 @@ use lib.Dec.{leb}
 use lib.ListN.{length}
 use Rattle.rules.specs.declared.Refusal.{Refusal}
 use Rattle.rules.specs.Plain.{overwritten}
-use Rattle.rules.specs.Outcome.{Check, refused, no_refusal, fine, ◌then◌, refusal_of, check_each}
+use Rattle.rules.specs.Outcome.{Check, refused, no_refusal, fine, ◌then◌, check_each}
 use Rattle.rules.specs.Refusal.{most_particles, count_check, lengths_check}
 use Rattle.rules.specs.Sheet.{record_size, count_of, particles_of, sheet_of, whole_records, record_check, records_check}
 use Rattle.rules.specs.Records.{room_check, read_check, RecordsInput, write_result, write_answer, sheet_after_write, read_result, read_answer, particles_after_read}
