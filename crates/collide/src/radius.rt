@@ -17,7 +17,7 @@ fn greater(a: f64, b: f64) -> f64
 }
 
 // The greatest of a node's children.
-#[tactic(auto, using(crate::proofs::RadiusLaws::radii_of_kids))]
+#[tactic(auto, using(tree_walk::proofs::WalkAfter::values_of_kids))]
 fn greatest_below(m: &[u64], s: usize) -> f64
     requires { (s * slot_words + slot_words ≤ length m.now) × KidsIn m.now s }
     ensures { result ≡ Collide.node_radius (kid_values radius_in m.now s) }
@@ -39,12 +39,11 @@ pub fn prepare(q: Quadtree, radii: &[f64], m: &mut [u64])
     let mut path = Path::begin(q.root);
     while let Some(slot) = path.next(m) {
         let tag = store::tag(m, slot);
-        if tag == 0 {
-            let radius = greatest_below(m, slot);
-            store::put_value(m, slot, 0, radius);
+        let radius = if tag == 0 {
+            greatest_below(m, slot)
         } else {
-            let radius = radius_of(radii, (tag - 1) as usize);
-            store::put_value(m, slot, 0, radius);
-        }
+            radius_of(radii, (tag - 1) as usize)
+        };
+        store::put_value(m, slot, 0, radius);
     }
 }

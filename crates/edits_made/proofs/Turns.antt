@@ -12,11 +12,10 @@ use Rattle.rules.specs.declared.Extent.{Extent}
 use Rattle.rules.specs.declared.Refusal.{Refusal}
 use Rattle.rules.specs.Plain.{foldl}
 use Rattle.rules.specs.Outcome.{Check, fine, refused, ◌>>=◌}
-use Rattle.rules.specs.Cell.{nowhere}
 use Rattle.rules.specs.Tree.{chains_of, tree_in}
 use Rattle.rules.specs.Edits.{Edit, insertion, removal, unknown, edit_of, edits_of, insertions, Present, present, edited, present_after, extent_now, tree_now, edit_check, edits_from, edit_words}
 use Rattle.tree_slots.specs.declared.Quadtree.{Quadtree}
-use Rattle.tree_build.specs.Build.{particles}
+use Rattle.tree_build.specs.Build.{particles, no_tree}
 use Rattle.rules.proofs.CellRule.{tree-whole, chains_in_lem, chains-length}
 use Rattle.rules.specs.Calls.{slots_of}
 use Rattle.tree_slots.specs.Trees.{Lays}
@@ -81,7 +80,7 @@ module _ (words : List ℕ) (at : List Float) (slots : ℕ) where
     pub count : insertions es ≡ made + insertions (rest k)
 
   -- before the first edit
-  pub edit_start : (there m next tail : List ℕ) → Editing there m next tail (record { extent = nowhere; root = 0; nodes = 0; deepest = 0 }) 0 0
+  pub edit_start : (there m next tail : List ℕ) → Editing there m next tail no_tree 0 0
   unfolding extent_now
   edit_start there m next tail =
       record {

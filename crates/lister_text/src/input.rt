@@ -35,6 +35,7 @@ fn list_tree(
     requires listing_bytes_in_bounds { listing_bytes ≤ length out.old }
     ensures { TextWritten out.old 0 (lister records.now) out.new result }
 {
+    // The tree call answers as C sees it: number 0 where nothing is refused.
     let answer = tree_within(MOST_LISTED, records, rows, chains, work);
     let number = answer.refusal.number;
     if number != 0 {

@@ -15,7 +15,6 @@ ghost use Rattle.many_body.specs.ManyBody.{pulled_for, pulled_all};
 use force::{Draws, Ran};
 use many_body_charge::charges;
 use many_body_node::many_body_step;
-use number::float_of;
 use rules::{Progress, Refusal, Tuning, Visit};
 use tree_build::build::build;
 use tree_slots::{Quadtree, store};
@@ -25,11 +24,10 @@ use tree_walk::Walk;
 pub fn standard() -> Tuning
     ensures { result ≡ Rule.standard }
 {
-    let infinite = float_of(0x7ff0_0000_0000_0000);
     Tuning {
         theta2: 0.9 * 0.9,
         least2: 1.0 * 1.0,
-        greatest2: infinite * infinite,
+        greatest2: f64::INFINITY * f64::INFINITY,
     }
 }
 

@@ -1,6 +1,6 @@
 -- Charges of leaves and nodes as the code sums them, and that they can be laid in a slot. Assumes nothing.
 use mathlib.Core.Path.{◌≡◌, refl}
-use mathlib.Core.List.{List, [], ◌∷◌, ◌++◌, append_assoc, append-nil}
+use mathlib.Core.List.{List, [], ◌∷◌}
 use Prim.Native.Nat.{ℕ}
 use lib.Dec.{T}
 use lib.ListN.{get_or}
@@ -10,8 +10,6 @@ use lib.Ieee.Fits.{nan-fits, add-fits, div-fits}
 use Rattle.rules.specs.Plain.{foldl}
 use Rattle.rules.specs.Number.{x_at, y_at}
 use Rattle.rules.specs.ManyBody.{Charge, charge, Sums, with_child, node_charge, leaf_charge}
-use Rattle.tree_slots.specs.Trees.{kids}
-use Rattle.tree_walk.specs.WalkAfter.{values_at, kid_values}
 use Rattle.tree_walk.proofs.WalkValues.{Writes, three_values}
 use Rattle.many_body_chains.specs.Chain.{Few, Chain}
 use Rattle.many_body_chains.proofs.Chains.{rest_of, chain-whole}
@@ -21,15 +19,6 @@ use Rattle.many_body_charge.specs.Charge.{read_charge, put_charge}
 module _ {next : List ℕ} {n f : ℕ} (h : Chain next n f) (strengths : List Float) where
   pub leaf_charge_lem : (at : List Float) (s : Float) → s ≡ (leaf_charge strengths strengths h.members).strength → charge (x_at at f) (y_at at f) s ≡ leaf_charge at strengths h.members
   leaf_charge_lem at s e = rw (e, leaf_of strengths strengths h.members f (rest_of h.members) (chain-whole h), leaf_of at strengths h.members f (rest_of h.members) (chain-whole h))
-
--- the charges to which numbers of children lead
-abbrev pub charges_of : List ℕ → List ℕ → List Charge
-charges_of m [] = []
-charges_of m (p ∷ ps) = values_at read_charge m p ++ charges_of m ps
-
-pub charges_of_kids : (m : List ℕ) (s : ℕ) → charges_of m (kids m s) ≡ kid_values read_charge m s
-unfolding kid_values
-charges_of_kids m s = simp (append_assoc, append-nil)
 
 -- ---- they can be laid in a slot
 

@@ -11,7 +11,6 @@ ghost use Rattle.many_body_chains.specs.Chain.{Chain};
 ghost use Rattle.many_body_charge.specs.Charge.{charge_of, sums_of, read_charge, put_charge, Charged};
 
 use many_body_chains::chain_strength;
-use number::abs;
 use tree_slots::{Quadtree, store};
 use tree_walk::Path;
 
@@ -72,11 +71,11 @@ fn weighed(c: f64, x: f64) -> f64
 }
 
 // A child is added, of weight |strength|.
-#[tactic(auto, unfolding(rules::specs::ManyBody::with_child))]
+#[tactic(auto, using(number::proofs::Tests::abs_is), unfolding(rules::specs::ManyBody::with_child))]
 fn with_child(s: Sums, q: Charge) -> Sums
     ensures { sums_of result ≡ with_child (sums_of s) (charge_of q) }
 {
-    let c = abs(q.strength);
+    let c = q.strength.abs();
     Sums {
         x: s.x + weighed(c, q.x),
         y: s.y + weighed(c, q.y),
@@ -86,7 +85,7 @@ fn with_child(s: Sums, q: Charge) -> Sums
 }
 
 // The centre of the children, by weight.
-#[tactic(auto, using(crate::proofs::ChargeLaws::charges_of_kids), unfolding(rules::specs::ManyBody::node_charge))]
+#[tactic(auto, using(tree_walk::proofs::WalkAfter::values_of_kids), unfolding(rules::specs::ManyBody::node_charge))]
 fn node_charge(m: &[u64], s: usize) -> Charge
     requires { (s * slot_words + slot_words ≤ length m.now) × KidsIn m.now s }
     ensures { charge_of result ≡ node_charge (kid_values read_charge m.now s) }

@@ -1,6 +1,6 @@
 -- Digits read one after the other, with the number cut at each. Assumes nothing.
 use mathlib.Core.Path.{◌≡◌, refl, sym, ap, ◌∙◌}
-use mathlib.Core.Bool.{Bool, true, false, not, ◌&&◌, and-eq-true_iff}
+use mathlib.Core.Bool.{Bool, true, false, not, ◌&&◌}
 use Rattle.std.specs.Prelude.{None}
 use Rattle.std.specs.Bool.{then_some, ◌==◌}
 use mathlib.Core.Logic.{⊎_elim}
@@ -9,7 +9,6 @@ use Prim.Native.Nat.{ℕ, ◌+◌, ◌≤◌, ◌<◌, min}
 use native.Mathlib.Nat.{le_refl, le_trans, min-eq_left, min-eq_right, min-le_right}
 use native.Mathlib.Omega.{arith}
 use borrow.Author.Tests.{ne_eqb}
-use lib.Dec.{leb, ltb}
 use lib.ListN.{length, get_or, drop, drop_of_length-le}
 use Rattle.rules.specs.Plain.{all, foldl}
 use Rattle.rules.proofs.CoverCount.{lt_or_le}

@@ -18,7 +18,7 @@ use Rattle.rules.specs.Sheet.{whole_records, count_of, sheet_of}
 use Rattle.rules.specs.Tick.{TicksDone, step_result, step_answer, sheet_after_step}
 use Rattle.rules.specs.Recenter.{most_recentered, one_bits, center_words, recenter_input, recenter_settings, recenter_alpha_min, unless_stopped, recentered}
 use Rattle.rules.proofs.RefusalNumbers.{Stop, unrefused, ended}
-use Rattle.rules.proofs.Places.{early_numbered, late_numbered, step-early, step_stop}
+use Rattle.rules.proofs.Places.{early_numbered, late_numbered, step-early}
 use Rattle.tick_checks.specs.Input.{lent_sheet}
 use Rattle.step_call.specs.Step.{AfterStep}
 use Rattle.recenter_call.specs.Recentered.{check_of, Recentered}

@@ -30,7 +30,7 @@ use Rattle.tree_slots.specs.Trees.{in_cells, Follows, Lays, Stands, lead}
 use Rattle.tree_cells.specs.Cover.{square_of, Reachable, Near, CoveredTo}
 use Rattle.tree_leaves.specs.Chain.{Linked}
 use Rattle.tree_placing.specs.Add.{Holds, Ranged, Puts, more_check, Placed}
-use Rattle.tree_build.specs.Build.{particles, Builds, ComesNext, Extends}
+use Rattle.tree_build.specs.Build.{particles, no_tree, Builds, ComesNext, Extends}
 use Rattle.tree_cells.proofs.CoverLaws as Laws
 use Rattle.tree_cells.proofs.Prefix.{member_less}
 use Rattle.tree_slots.proofs.Links.{rises_up_to, in_up_to}
@@ -141,18 +141,18 @@ module _ (at : List Float) where
     pub extent : q.extent ≡ extent_of (cover_first at p)
     pub check : tree_check at (particles at) slots ≡ left (particles at) slots p
 
-  no_tree : none ≡ tree_in at nowhere []
+  none_grown : none ≡ tree_in at nowhere []
   unfolding tree_in
-  no_tree = sym (grow-none at 66 nowhere)
+  none_grown = sym (grow-none at 66 nowhere)
 
   pub no_extent : nowhere ≡ extent_of (cover_first at 0)
   unfolding extent_of cover_all
   no_extent = refl
 
-  pub holds_none : (m : List ℕ) → Holds at [] m (record { extent = nowhere; root = 0; nodes = 0; deepest = 0 })
-  holds_none m = record { tree = none; root = refl; stored = tt; cells = no_tree; deepest = omega arith; shallow = omega arith; count = refl; below = tt; once = tt; room = omega arith }
+  pub holds_none : (m : List ℕ) → Holds at [] m no_tree
+  holds_none m = record { tree = none; root = refl; stored = tt; cells = none_grown; deepest = omega arith; shallow = omega arith; count = refl; below = tt; once = tt; room = omega arith }
 
-  pub build_start : (m next tail : List ℕ) → Building (slots_of m) m next tail (record { extent = nowhere; root = 0; nodes = 0; deepest = 0 }) 0
+  pub build_start : (m next tail : List ℕ) → Building (slots_of m) m next tail no_tree 0
   build_start m next tail =
       record {
         holds = holds_none m;

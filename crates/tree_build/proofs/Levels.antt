@@ -26,25 +26,11 @@ pub below_more : (t : Tree ℕ) (n : ℕ) → below t (n + 1) ≡ max (below t n
 below_more t n = rw add-one
 
 module _ (m : List ℕ) (p level : ℕ) where
-  -- 0 leads to no tree
-  pub goes_none : (t : Tree ℕ) → Goes m p level t → p ≡ 0 → depth t ≡ 0
-  goes_none none g z = refl
-  goes_none (leaf s is) g z = absurd (omega (arith, g.leads))
-  goes_none (node s t0 t1 t2 t3) g z = absurd (omega (arith, g.leads))
-
   -- any other number to a node, whose slot is there
   pub goes_some : (t : Tree ℕ) → Goes m p level t → (p ≡ 0 → ⊥) → InSlots (p - 1) m × (level ≤ 64)
   goes_some none g n = absurd (n g.leads)
   goes_some (leaf s is) g n = (omega (arith, g.leads, g.slots), omega (arith, g.levels))
   goes_some (node s t0 t1 t2 t3) g n = (omega (arith, g.leads, g.slots.0), omega (arith, g.levels))
-
-  -- a leaf
-  pub goes_leaf : (t : Tree ℕ) → Goes m p level t → (p ≡ 0 → ⊥) → (InternalIn m (p - 1) → ⊥) → depth t ≡ 1
-  goes_leaf none g n w = absurd (n g.leads)
-  goes_leaf (leaf s is) g n w = refl
-  goes_leaf (node s t0 t1 t2 t3) g n w =
-      let e : p - 1 ≡ s = omega (arith, g.leads) in
-      absurd (w (ap (λ (i : ℕ). word m i 0) e ∙ g.stored.0.tag))
 
   -- an internal node: its children lead to trees one level down
   pub goes_child : (ks : List ℕ) (t : Tree ℕ) → Goes m p level t → (p ≡ 0 → ⊥) → InternalIn m (p - 1) → ks ≡ kids m (p - 1) → (n : ℕ) → n < 4 → Goes m (get_or ks n 0) (level + 1) (child t n)
@@ -73,8 +59,3 @@ module _ (m : List ℕ) (p level : ℕ) where
       let e : p - 1 ≡ s = omega (arith, g.leads) in
       absurd (omega (arith, ap (λ (i : ℕ). word m i 0) e, g.stored.tag))
   below_all (node s t0 t1 t2 t3) g z w = omega arith
-
-  pub goes_positive : (t : Tree ℕ) → Goes m p level t → 0 < p → 0 < depth t
-  goes_positive none g l = absurd (omega (arith, g.leads))
-  goes_positive (leaf s is) g l = omega arith
-  goes_positive (node s t0 t1 t2 t3) g l = omega arith

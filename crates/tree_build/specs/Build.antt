@@ -1,6 +1,7 @@
 -- Building the tree of all particles. Definitions only.
 use Rattle.std.specs.Prelude.{◌≡◌, List, ℕ, ◌+◌, ◌*◌, ◌/◌, ◌≤◌, ◌<◌, length, Float, Result}
 use Rattle.rules.specs.declared.Refusal.{Refusal}
+use Rattle.rules.specs.Cell.{nowhere}
 use Rattle.rules.specs.Cover.{cover_first, extent_of}
 use Rattle.rules.specs.Outcome.{outcome_of, DoneUnless}
 use Rattle.rules.specs.Refusal.{most_particles}
@@ -21,6 +22,10 @@ pub record Lent (at : List Float) (next tail : List ℕ) : Type 0 where
   pub few : particles at ≤ most_particles
   pub links : length next ≡ particles at
   pub tails : length tail ≡ particles at
+
+-- the tree of no particles
+abbrev pub no_tree : Quadtree
+no_tree = record { extent = nowhere; root = 0; nodes = 0; deepest = 0 }
 
 -- It is refused as the rules refuse it: the earliest particle whose prefix breaks 6 or 7, 6 if both; otherwise the slots hold the tree of all particles, in the extent reached by covering them in order.
 abbrev pub Builds : List Float → List ℕ → List ℕ → Result Quadtree Refusal → Type 0

@@ -1,8 +1,8 @@
 // mod.rs: the tree of all particles, one after the other. The earliest whose prefix passes the greatest level or wants more slots than are lent is refused.
-ghost use Rattle.std.specs.Prelude.{List, ℕ, ◌+◌};
+ghost use Rattle.std.specs.Prelude.{◌≡◌, List, ℕ, ◌+◌};
 ghost use Rattle.rules.specs.Cover.{cover_first, extent_of};
 ghost use Rattle.tree_placing.specs.Add.{Puts, Placed};
-ghost use Rattle.tree_build.specs.Build.{Lent, Builds, ComesNext, Extends};
+ghost use Rattle.tree_build.specs.Build.{Lent, no_tree, Builds, ComesNext, Extends};
 
 use crate::add;
 use rules::{Extent, Reason, Refusal};
@@ -44,6 +44,23 @@ pub fn add_next(
     add::insert(m, at, next, tail, q, covered, p)
 }
 
+// The tree of no particles.
+pub fn no_tree() -> Quadtree
+    ensures { result ≡ no_tree }
+{
+    Quadtree {
+        extent: Extent {
+            x0: 0.0,
+            y0: 0.0,
+            x1: 0.0,
+            y1: 0.0,
+        },
+        root: 0,
+        nodes: 0,
+        deepest: 0,
+    }
+}
+
 // The tree, or refusal 6 or 7 with the particle's number as its place.
 pub fn build(
     at: &[f64],
@@ -54,18 +71,7 @@ pub fn build(
     requires { Lent at.now next.old tail.old }
     ensures { Builds at.now m.new next.new result }
 {
-    let nowhere = Extent {
-        x0: 0.0,
-        y0: 0.0,
-        x1: 0.0,
-        y1: 0.0,
-    };
-    let mut q = Quadtree {
-        extent: nowhere,
-        root: 0,
-        nodes: 0,
-        deepest: 0,
-    };
+    let mut q = no_tree();
     for p in 0..at.len() / 2 {
         q = add_next(at, next, tail, m, q, p).map_err(|reason| Refusal::new(reason, p as u64))?;
     }

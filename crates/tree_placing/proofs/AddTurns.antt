@@ -1,5 +1,5 @@
 -- The turns of the loops that find a particle's way, count the levels that two share, and split a leaf.
-use mathlib.Core.Path.{◌≡◌, refl, sym, ap, ◌∙◌, subst}
+use mathlib.Core.Path.{◌≡◌, sym, ap, ◌∙◌, subst}
 use mathlib.Core.List.{List, [], ◌∷◌}
 use Prim.Native.Nat.{ℕ, ◌+◌, ◌-◌, ◌≤◌, ◌<◌}
 use native.Mathlib.Omega.{arith}
@@ -21,12 +21,9 @@ use Rattle.tree_placing.proofs.AddHold.{reached, node-level}
 module _ (at : List Float) (p : ℕ) where
   -- ---- the way down
 
-  -- the slot s stands l levels down on the way of p, for any tree that begins in slot r of the cell b
-  abbrev pub Way : List ℕ → ℕ → Extent → ℕ → Extent → ℕ → Type 0
-  Way m r b s c l = (is : List ℕ) (q : Quadtree) (h : Holds at is m q) → q.root ≡ r + 1 → q.extent ≡ b → (u : Tree ℕ) × Reaches at p l q.extent h.tree c u × (lead u ≡ s + 1)
-
-  pub way-start : (m : List ℕ) (r : ℕ) (b : Extent) → Way m r b r b 0
-  way-start m r b is q h e f = (h.tree, (f, refl), sym h.root ∙ e)
+  -- the slot s stands l levels down on the way of p
+  abbrev pub Way : (is m : List ℕ) (q : Quadtree) → Holds at is m q → ℕ → Extent → ℕ → Type 0
+  Way is m q h s c l = (u : Tree ℕ) × Reaches at p l q.extent h.tree c u × (lead u ≡ s + 1)
 
   module _ (is m : List ℕ) (q : Quadtree) (h : Holds at is m q) (s l : ℕ) (c : Extent) (u : Tree ℕ) (r : Reaches at p l q.extent h.tree c u) (e : lead u ≡ s + 1) where
     pub way_slot : InSlots s m

@@ -14,12 +14,22 @@ use tree_slots::{Quadtree, store};
 // Where a point's way down the tree ends.
 #[derive(Clone, Copy)]
 pub enum Stop {
-    // A leaf: its slot, its level, its first particle and its cell.
-    Leaf(usize, usize, usize, Extent),
-    // An internal node with no child in the point's quadrant: its slot, the quadrant and its level.
-    Hole(usize, usize, usize),
+    // A leaf, whose chain begins with this particle.
+    Leaf {
+        slot: usize,
+        level: usize,
+        first: usize,
+        cell: Extent,
+    },
+    // An internal node with no child in the point's quadrant.
+    Hole {
+        slot: usize,
+        quadrant: usize,
+        level: usize,
+    },
 }
 
+#[tactic(auto, using(tree_cells::proofs::Quadrant::quadrant_lt))]
 // Where the way of p ends.
 fn find(m: &[u64], at: &[f64], q: Quadtree, p: usize) -> Stop
     requires { (is : List ℕ) × Seeks at.now is m.now q p × (0 < q.root) }
@@ -27,24 +37,33 @@ fn find(m: &[u64], at: &[f64], q: Quadtree, p: usize) -> Stop
 {
     let x = point::x_at(at, p);
     let y = point::y_at(at, p);
-    let mut s = q.root as usize - 1;
+    let mut slot = q.root as usize - 1;
     let mut ix = Indexer::with_extent(q.extent);
-    let mut l: usize = 0;
+    let mut level = 0;
     loop {
-        let tag = store::tag(m, s);
+        let tag = store::tag(m, slot);
         if tag != 0 {
-            return Stop::Leaf(s, l, (tag - 1) as usize, ix.cell());
+            return Stop::Leaf {
+                slot,
+                level,
+                first: (tag - 1) as usize,
+                cell: ix.cell(),
+            };
         }
         let way = ix.get_and_descend(x, y);
-        let k = way.quadrant;
-        let children = store::children(m, s);
-        let child = children[k];
+        let quadrant = way.quadrant;
+        let children = store::children(m, slot);
+        let child = children[quadrant];
         if child == 0 {
-            return Stop::Hole(s, k, l);
+            return Stop::Hole {
+                slot,
+                quadrant,
+                level,
+            };
         }
-        s = child as usize - 1;
+        slot = child as usize - 1;
         ix = way.indexer;
-        l += 1;
+        level += 1;
     }
 }
 
@@ -101,19 +120,28 @@ pub fn place(
         → Placed at.now is m.new next.new tail.new q.extent p result }
 {
     match find(m, at, q, p) {
-        Stop::Leaf(s, l, f, cell) => {
-            if point::same(at, f, p) {
-                chain::join(next, tail, f, p);
+        Stop::Leaf {
+            slot,
+            level,
+            first,
+            cell,
+        } => {
+            if point::same(at, first, p) {
+                chain::join(next, tail, first, p);
                 return Ok(q);
             }
-            at_leaf(m, at, q, s, l, f, cell, p)
+            at_leaf(m, at, q, slot, level, first, cell, p)
         }
-        Stop::Hole(s, k, l) => {
+        Stop::Hole {
+            slot,
+            quadrant,
+            level,
+        } => {
             if store::slots(m) == q.nodes {
                 return Err(Reason::NoSlotLeft);
             }
-            leaf::hang(m, s, k, q.nodes, p);
-            Ok(more(q, 1, l + 1))
+            leaf::hang(m, slot, quadrant, q.nodes, p);
+            Ok(more(q, 1, level + 1))
         }
     }
 }

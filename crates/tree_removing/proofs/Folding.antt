@@ -124,9 +124,6 @@ module _ (at : List Float) (m : List ℕ) (q : Quadtree) (i : ℕ) (t : Tree ℕ
   pub lone_tops : (q.root ≡ 0 → ⊥) → InternalIn m (q.root - 1) → Tops at m q i t
   lone_tops n e = record { leads = g.packed.leads; rooted = omega (arith, n); internal = e; stored = g.packed.stored; lent = lent; levels = g.packed.most; place = g.place }
 
-  pub lone_root : (q.root ≡ 0 → ⊥) → InSlots (q.root - 1) m
-  lone_root n = lead_each (λ j. InSlots j m) t (q.root - 1) (sym g.packed.leads ∙ (let z : q.root ≡ q.root - 1 + 1 = omega (arith, n) in z)) lent
-
   module _ (e : Edge) (h : Innermost at q.extent t i e) where
     abbrev k : ℕ → Tree ℕ
     k = pick h.t0 h.t1 h.t2 h.t3

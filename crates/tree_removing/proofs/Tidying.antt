@@ -5,7 +5,7 @@ use Prim.Native.Nat.{ℕ, suc, ◌+◌, ◌-◌, ◌*◌, ◌≤◌, ◌<◌}
 use native.Mathlib.Omega.{arith}
 use lib.ListN.{length}
 use lib.Ieee.{Float}
-use Rattle.std.specs.Prelude.{Some, None}
+use Rattle.std.specs.Prelude.{Some}
 use Rattle.rules.specs.declared.Extent.{Extent}
 use Rattle.rules.specs.Tree.{Tree, leaf, node}
 use Rattle.rules.specs.Refusal.{most_particles}
@@ -18,7 +18,7 @@ use Rattle.tree_slots.specs.Trees.{first, EachSlot, in_cells, LeafIn}
 use Rattle.tree_placing.specs.Add.{Stored}
 use Rattle.tree_placing.proofs.SlotsTree.{each_child, stored_child, leaf_child}
 use Rattle.tree_placing.proofs.AddWay.{reach-each, reach-stored, reach-leaf, plug}
-use Rattle.tree_removing.specs.Remove.{gather, HasPlace, Occupies, Packed, Hollow, Filled, with_less, Tidies, FoldsAt, Folds, Tidied}
+use Rattle.tree_removing.specs.Remove.{gather, HasPlace, Occupies, Packed, Hollow, Filled, with_less, Tidies, FoldsAt, Folds}
 use Rattle.tree_removing.specs.declared.tidy.Fold.{Fold}
 use Rattle.tree_removing.proofs.Plug.{reach-nodes}
 use Rattle.tree_removing.proofs.Replace.{hollowed, fold}
@@ -38,17 +38,6 @@ pub record Tidying (at : List Float) (m : List ℕ) (q less : Quadtree) (i : ℕ
 module _ (at : List Float) (m : List ℕ) (q less : Quadtree) (i : ℕ) (t : Tree ℕ) (d : Tidying at m q less i t) (room : q.nodes * slot_words ≤ length m) (few : q.nodes ≤ most_nodes most_particles) (place : i * 2 + 2 ≤ length at) where
   pub tidies_of : Tidies at m less i d.tree
   tidies_of = record { packed = d.packed; room = omega (arith, d.few); few = omega (arith, d.few); place = place }
-
-  pub tidy-done : ((u : Tree ℕ) → Tidies at m less i u → Folds at less.extent u i None) → Tidied at m q less i t
-  tidy-done h =
-      record {
-        tree = d.tree;
-        packed = d.packed;
-        cells = sym (subst (λ (c : Extent). gather at i c (in_cells c d.tree) ≡ in_cells c d.tree) d.extent (h d.tree tidies_of)) ∙ d.same;
-        extent = d.extent;
-        deepest = d.deepest;
-        few = d.few;
-      }
 
   module _ (f : Fold) (h : (u : Tree ℕ) → Tidies at m less i u → Folds at less.extent u i (Some f)) where
     at-fold : FoldsAt at less.extent d.tree i f.slot f.child

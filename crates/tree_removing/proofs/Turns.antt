@@ -21,7 +21,7 @@ use Rattle.tree_placing.proofs.Roots.{root_node}
 use Rattle.tree_placing.proofs.AddWay.{side_lt, reach-each, reach-stored, reach-depth, reach-down}
 use Rattle.tree_slots.specs.Trees.{lead, InternalIn, SlotsLent}
 use Rattle.tree_removing.specs.Remove.{LeafOf}
-use Rattle.tree_removing.specs.Ways.{first_of, some_kid, StandsFrom, Under, Outer}
+use Rattle.tree_removing.specs.Ways.{first_of, some_kid, Under, Outer}
 use Rattle.tree_removing.proofs.Plug.{fruit_child}
 use Rattle.tree_removing.proofs.Count.{leaf_in}
 
@@ -67,9 +67,6 @@ pub record Deeper (m : List ℕ) (t : Tree ℕ) (x : ℕ) : Type 0 where
   pub levels : depth sub ≤ 65
   pub up : (f : ℕ) → LeafOf f sub → LeafOf f t
 
-pub deeper-start : (m : List ℕ) (s : ℕ) (t : Tree ℕ) → StandsFrom m s t → Deeper m t s
-deeper-start m s t g = record { sub = t; top = g.top; stored = g.stored; lent = g.lent; fruitful = g.fruitful; levels = g.levels; up = λ f e. e }
-
 pub some-kid : (s : ℕ) (k : ℕ → Tree ℕ) → 0 < leaves (over s k) → (r : ℕ) × (r < 4) × (some_kid (leads k) ≡ lead (k r)) × (0 < some_kid (leads k))
 some-kid s k l = go (lead (k 0)) (lead (k 1)) (lead (k 2)) (lead (k 3)) refl refl refl refl
   where
@@ -82,9 +79,6 @@ some-kid s k l = go (lead (k 0)) (lead (k 1)) (lead (k 2)) (lead (k 3)) refl ref
     go zero zero zero zero e0 e1 e2 e3 = absurd (omega (arith, l, ap leaves (lead-none (k 0) e0), ap leaves (lead-none (k 1) e1), ap leaves (lead-none (k 2) e2), ap leaves (lead-none (k 3) e3)))
 
 module _ (m : List ℕ) (t : Tree ℕ) (x : ℕ) (d : Deeper m t x) where
-  pub deeper_slot : InSlots x m
-  deeper_slot = lead_each (λ j. InSlots j m) d.sub x d.top d.lent
-
   pub deeper_leaf : (InternalIn m x → ⊥) → LeafOf (word m x 0 - 1) t
   deeper_leaf n = d.up (word m x 0 - 1) (go d.sub d.top d.stored)
     where

@@ -1,5 +1,6 @@
 pub mod WalkTurns
 pub mod Visits
+pub mod Stacks
 pub mod Waits
 pub mod WalkStands
 pub mod WalkClimb

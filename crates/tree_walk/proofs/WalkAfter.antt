@@ -1,16 +1,18 @@
 -- What a walk parent last hands out, the values of a node's children, and a path and a tree after a write that they don't see. Assumes nothing.
 use mathlib.Core.Path.{◌≡◌, refl, ap, ◌∙◌}
-use mathlib.Core.List.{List, [], ◌∷◌, ◌++◌}
-use Prim.Native.Nat.{ℕ, suc, ◌+◌, ◌-◌}
+use mathlib.Core.List.{List, [], ◌∷◌, ◌++◌, append_assoc, append-nil}
+use Prim.Native.Nat.{ℕ, suc, ◌+◌, ◌-◌, ◌<◌}
+use native.Mathlib.Numerals.{add-one}
 use native.Mathlib.Omega.{arith}
-use lib.ListN.{length, get_or, length-append}
+use lib.ListN.{length, get_or, drop, length-append}
+use lib.Seq.{drop-cons}
 use Rattle.rules.specs.declared.Extent.{Extent}
 use Rattle.rules.specs.Plain.{foldl}
 use Rattle.rules.specs.Tree.{Tree, none, leaf, node, nodes}
 use Rattle.rules.specs.Walk.{Entry, internal, tip, parent_last}
 use Rattle.rules.proofs.CellList.{foldl-append}
 use Rattle.tree_slots.specs.declared.Quadtree.{Quadtree}
-use Rattle.tree_slots.specs.Trees.{kid, kids, Lays}
+use Rattle.tree_slots.specs.Trees.{kids, Lays}
 use Rattle.tree_walk.specs.Walk.{EachChain}
 use Rattle.tree_walk.specs.WalkAfter.{Step, Steps, Climbs, EachTip, values_at, kid_values}
 use Rattle.tree_walk.proofs.WalkValues.{Alike, leads-alike}
@@ -52,20 +54,25 @@ tips_last P (node s t0 t1 t2 t3) h =
 pub values_some : {B : Type 0} (read : List ℕ → ℕ → B) (m : List ℕ) (p : ℕ) → (p ≡ 0 → ⊥) → values_at read m p ≡ read m (p - 1) ∷ []
 values_some read m p n = let e : p ≡ suc (p - 1) = omega arith in ap (values_at read m) e
 
--- a fold over the children's values, one child after the other
-module _ {B S : Type 0} (read : List ℕ → ℕ → B) (f : S → B → S) (a : S) (m : List ℕ) (s : ℕ) where
-  fold-kids : foldl f a (kid_values read m s)
-      ≡ foldl f (foldl f (foldl f (foldl f a (values_at read m (kid m s 0))) (values_at read m (kid m s 1))) (values_at read m (kid m s 2))) (values_at read m (kid m s 3))
-  unfolding kid_values
-  fold-kids =
-      let v = values_at read m in
-      foldl-append f a (v (kid m s 0) ++ v (kid m s 1) ++ v (kid m s 2)) (v (kid m s 3))
-      ∙ ap (λ (x : S). foldl f x (v (kid m s 3))) (foldl-append f a (v (kid m s 0) ++ v (kid m s 1)) (v (kid m s 2))
-      ∙ ap (λ (x : S). foldl f x (v (kid m s 2))) (foldl-append f a (v (kid m s 0)) (v (kid m s 1))))
+-- the values to which numbers of children lead
+abbrev pub values_of : {B : Type 0} → (List ℕ → ℕ → B) → List ℕ → List ℕ → List B
+values_of read m [] = []
+values_of read m (p ∷ ps) = values_at read m p ++ values_of read m ps
 
-  pub fold_children : {ks : List ℕ} {a0 a1 a2 a3 : S} → ks ≡ kids m s → a0 ≡ foldl f a (values_at read m (get_or ks 0 0)) → a1 ≡ foldl f a0 (values_at read m (get_or ks 1 0))
-      → a2 ≡ foldl f a1 (values_at read m (get_or ks 2 0)) → a3 ≡ foldl f a2 (values_at read m (get_or ks 3 0)) → a3 ≡ foldl f a (kid_values read m s)
-  fold_children e e0 e1 e2 e3 = rw (fold-kids, e3, e2, e1, e0, e)
+pub values_of_kids : {B : Type 0} (read : List ℕ → ℕ → B) (m : List ℕ) (s : ℕ) → values_of read m (kids m s) ≡ kid_values read m s
+unfolding kid_values
+values_of_kids read m s = simp (append_assoc, append-nil)
+
+-- a fold over the values of the children ks from number k on, which leads to none, or to one
+module _ {B S : Type 0} (read : List ℕ → ℕ → B) (f : S → B → S) (m ks : List ℕ) (k : ℕ) (h : k < length ks) (a : S) where
+  fold-next : foldl f a (values_of read m (drop k ks)) ≡ foldl f (foldl f a (values_at read m (get_or ks k 0))) (values_of read m (drop (k + 1) ks))
+  fold-next = rw (drop-cons ks k 0 h, add-one k) (foldl-append f a (values_at read m (get_or ks k 0)) (values_of read m (drop (suc k) ks)))
+
+  pub fold-none : get_or ks k 0 ≡ 0 → foldl f a (values_of read m (drop k ks)) ≡ foldl f a (values_of read m (drop (k + 1) ks))
+  fold-none z = fold-next ∙ rw z
+
+  pub fold-some : (get_or ks k 0 ≡ 0 → ⊥) → foldl f a (values_of read m (drop k ks)) ≡ foldl f (f a (read m (get_or ks k 0 - 1))) (values_of read m (drop (k + 1) ks))
+  fold-some n = fold-next ∙ rw (values_some read m (get_or ks k 0) n)
 
 -- ---- a path after a write that a tree does not see
 

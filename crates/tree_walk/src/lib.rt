@@ -3,6 +3,7 @@
 
 mod parent_first;
 mod parent_last;
+mod stack;
 
 pub use parent_first::{Waiting, Walk};
 pub use parent_last::{Path, Step};

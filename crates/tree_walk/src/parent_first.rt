@@ -3,6 +3,7 @@ ghost use Rattle.std.specs.Prelude.{◌≡◌, [], ◌∷◌, ◌<◌, ◌≤◌
 ghost use Rattle.tree_slots.specs.Trees.{InSlots};
 ghost use Rattle.tree_walk.specs.Walk.{most_waiting, lay, lay_kids};
 
+use crate::stack::Stack;
 use rules::Extent;
 use std::marker::Model;
 use tree_cells::extent::quarter;
@@ -15,22 +16,19 @@ pub struct Waiting {
     pub extent: Extent,
 }
 
-// At most `Quadtree::MOST_WAITING` wait. Contracts see them as a list, the next one first.
+// Contracts see what waits as a list, the next one first.
 #[derive(Drop)]
 pub struct Walk {
-    waiting: [Waiting; Quadtree::MOST_WAITING],
-    height: usize,
+    waiting: Stack<Waiting, { Quadtree::MOST_WAITING }>,
 }
 
 impl Model for Walk {
-    ghost use Rattle.std.specs.Prelude.{◌≡◌, List, ◌≤◌, length, reverse, take};
-    ghost use Rattle.tree_walk.specs.Walk.{Waiting, most_waiting};
+    ghost use Rattle.std.specs.Prelude.{List};
+    ghost use Rattle.tree_walk.specs.Walk.{Waiting};
 
     ghost Value = { List Waiting };
 
-    ghost view = { λ w. reverse (take w.height w.waiting) };
-
-    ghost invariant = { λ w. (length w.waiting ≡ most_waiting) × (w.height ≤ most_waiting) };
+    ghost view = { λ w. w.waiting };
 }
 
 impl Walk {
@@ -44,28 +42,24 @@ impl Walk {
             x1: 0.0,
             y1: 0.0,
         };
-        let none = Waiting {
-            slot: 0,
-            extent: nowhere,
-        };
         Walk {
-            waiting: [none; Quadtree::MOST_WAITING],
-            height: 0,
+            waiting: Stack::new(Waiting {
+                slot: 0,
+                extent: nowhere,
+            }),
         }
     }
 
     // The node that a number leads to waits on top, none for 0.
-    #[tactic(auto, using(crate::proofs::Waits::pushed))]
     fn push(&mut self, number: u32, extent: Extent)
         requires { length (lay number extent self.old) ≤ most_waiting }
         ensures { self.new ≡ lay number extent self.old }
     {
         if let Some(slot) = number.checked_sub(1) {
-            self.waiting[self.height] = Waiting {
+            self.waiting.push(Waiting {
                 slot: slot as usize,
                 extent,
-            };
-            self.height += 1;
+            });
         }
     }
 
@@ -73,7 +67,7 @@ impl Walk {
     pub fn begin(&mut self, root: u32, extent: Extent)
         ensures { self.new ≡ lay root extent [] }
     {
-        self.height = 0;
+        self.waiting.clear();
         self.push(root, extent);
     }
 
@@ -81,8 +75,7 @@ impl Walk {
     pub fn pop(&mut self) -> Option<Waiting>
         ensures { MatchOption result ((self.old ≡ []) × (self.new ≡ [])) (λ e. self.old ≡ e ∷ self.new) }
     {
-        self.height = self.height.checked_sub(1)?;
-        Some(self.waiting[self.height])
+        self.waiting.pop()
     }
 
     // The children of an internal node wait on top, child 0 before the others.

@@ -37,8 +37,8 @@ pub hang-requires : goal.hang-requires
 hang-requires c =
     hang-asks _ _ _ _ _ c.requires.1.seeks _ _ _ (c.in-Hole.ensures _ c.requires.1.seeks) (λ z. c.if-slots-q.false (c.slots.ensures ∙ z))
 
-pub overflow_add-l : goal.overflow_add-l
-overflow_add-l c =
+pub overflow_add-level : goal.overflow_add-level
+overflow_add-level c =
     let l = hole-most _ _ _ _ _ c.requires.1.seeks _ _ _ (c.in-Hole.ensures _ c.requires.1.seeks) in
     omega arith
 

@@ -12,7 +12,7 @@ loop-k-init c =
       ends = search rules;
       size = search rules;
       rest = search rules;
-      editing = rw (c.into_iter-k-iterator.ensures.into_iter_gives, c.enumerate-k-items.ensures.count) (edit_start _ _ _ _ _ _ _);
+      editing = rw (c.no_tree-q.ensures, c.into_iter-k-iterator.ensures.into_iter_gives, c.enumerate-k-items.ensures.count) (edit_start _ _ _ _ _ _ _);
     }
 
 -- ---- an insertion

@@ -9,7 +9,7 @@ use Rattle.tree_build.proofs.AddBuild.{build_start, build-follows, build-puts, b
 use Rattle.tree_build.proofs.build.build.Goals as goal
 
 pub loop-p-init : goal.loop-p-init
-loop-p-init c = build_start c.args.at.now c.args.m.now c.args.next.now c.args.tail.now
+loop-p-init c = rw c.no_tree-q.ensures (build_start c.args.at.now c.args.m.now c.args.next.now c.args.tail.now)
 
 pub add_next-requires : goal.add_next-requires
 add_next-requires c =

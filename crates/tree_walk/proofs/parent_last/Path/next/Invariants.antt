@@ -5,8 +5,8 @@ use Rattle.tree_walk.specs.WalkAfter.{Climbs}
 use Rattle.tree_walk.proofs.PathTurns.{turns_left}
 use Rattle.tree_walk.proofs.parent_last.Path.next.Given as goal
 
-abbrev pub invariant-loop-slot : goal.invariant-loop-slot
-invariant-loop-slot l = (next : List ℕ) (rest : List (Entry ℕ)) → Climbs l.m next l.initial.self rest → Climbs l.m next l.self rest
+abbrev pub invariant-loop-step : goal.invariant-loop-step
+invariant-loop-step l = (next : List ℕ) (rest : List (Entry ℕ)) → Climbs l.m next l.fn.self rest → Climbs l.m next l.self-inside.steps rest
 
-abbrev pub decreases-loop-slot : goal.decreases-loop-slot
-decreases-loop-slot l = turns_left l.self
+abbrev pub decreases-loop-step : goal.decreases-loop-step
+decreases-loop-step l = turns_left l.self-inside.steps
