@@ -39,12 +39,11 @@ pub fn prepare(q: Quadtree, radii: &[f64], m: &mut [u64])
     let mut path = Path::begin(q.root);
     while let Some(slot) = path.next(m) {
         let tag = store::tag(m, slot);
-        if tag == 0 {
-            let radius = greatest_below(m, slot);
-            store::put_value(m, slot, 0, radius);
+        let radius = if tag == 0 {
+            greatest_below(m, slot)
         } else {
-            let radius = radius_of(radii, (tag - 1) as usize);
-            store::put_value(m, slot, 0, radius);
-        }
+            radius_of(radii, (tag - 1) as usize)
+        };
+        store::put_value(m, slot, 0, radius);
     }
 }

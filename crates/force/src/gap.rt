@@ -14,14 +14,6 @@ pub struct Gap {
 pub fn lengthen(l: f64, x: f64, y: f64, a: f64, b: f64) -> f64
     ensures { result ≡ Flow.lengthened l (Flow.gap x y) (Flow.gap a b) }
 {
-    if x == 0.0 {
-        if y == 0.0 {
-            return l + a * a + b * b;
-        }
-        return l + a * a;
-    }
-    if y == 0.0 {
-        return l + b * b;
-    }
-    l
+    let l = if x == 0.0 { l + a * a } else { l };
+    if y == 0.0 { l + b * b } else { l }
 }

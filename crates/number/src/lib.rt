@@ -7,6 +7,6 @@ mod range;
 mod whole;
 
 pub use bits::{bits_of, float_of};
-pub use plain::{abs, clamp, plain_zero};
+pub use plain::{clamp, plain_zero};
 pub use range::{distance_range, draw_range, is_finite, speed_range, within};
 pub use whole::{floor, try_floor};

@@ -1,13 +1,6 @@
-// Small helpers: Rust's methods, where there are such, promised in the rules' words.
+// Small helpers beside f64's own methods.
 ghost use Rattle.std.specs.Prelude.{◌≡◌};
 ghost use Rattle.rules.specs.Number as Number;
-
-#[tactic(auto, using(crate::proofs::Tests::abs_is))]
-pub fn abs(x: f64) -> f64
-    ensures { result ≡ Number.abs x }
-{
-    x.abs()
-}
 
 // Unlike f64's method this asks nothing of lo and hi.
 #[tactic(auto, unfolding(rules::specs::Number::clamp))]

@@ -1,4 +1,4 @@
 mod Closing
-mod OutlineCalled
+pub mod OutlineCalled
 mod Steps
 mod Turns

@@ -4,7 +4,6 @@ pub mod RecordTheorems
 pub mod Theorems
 pub mod Unique
 mod Accepted
-mod Answered
 mod EditSteps
 mod Inserts
 mod Laid

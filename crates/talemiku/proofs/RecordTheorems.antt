@@ -1,7 +1,7 @@
 -- What the writer and the reader of records are shown to do (document 02, R-1), from what the entries promise alone, `Written` and `ReadOut`. The words are those of rules/specs/Terms and specs/AfterRecords.
 use mathlib.Core.Path.{◌≡◌, refl, sym, ap, ◌∙◌, subst}
 use mathlib.Core.Logic.{◌≢◌}
-use mathlib.Core.Bool.{Bool, true, not, ◌&&◌, and-eq-true_iff}
+use mathlib.Core.Bool.{Bool, true, not, and-eq-true_iff}
 use mathlib.Core.List.{List, [], ◌∷◌, ◌++◌, append-nil}
 use Prim.Native.Nat.{ℕ, zero, suc, ◌+◌, ◌*◌, ◌/◌, ◌%◌, ◌≤◌, ◌<◌}
 use native.Mathlib.Nat.{lt_of_le_of_lt}
@@ -16,7 +16,7 @@ use denote.Floats.{is_true}
 use Rattle.rules.specs.declared.Particle.{Particle}
 use Rattle.rules.specs.declared.Refusal.{Refusal}
 use Rattle.rules.specs.Plain.{all, overwritten}
-use Rattle.rules.specs.Outcome.{Outcome, done, refused, refusal, no_refusal, Check, fine, ◌then◌, ◌>>=◌, refusal_of, check_from, check_each}
+use Rattle.rules.specs.Outcome.{done, refused, refusal, no_refusal, Check, fine, ◌then◌, ◌>>=◌, refusal_of, check_from, check_each}
 use Rattle.rules.specs.Number.{bits_of, within, finite}
 use Rattle.rules.specs.Refusal.{most_particles, count_check, lengths_check}
 use Rattle.rules.specs.Sheet.{record_size, velocity_start, flags_start, bytes_of, word_at, float_bytes, record_at, records_from, record_bytes, count_of, particles_of, sheet_of, whole_records, record_check, records_check, places_of, speeds_of}
@@ -31,7 +31,7 @@ use Rattle.sheet.proofs.Checked.{checks_split, within-number, finite_number, rec
 use Rattle.list_checks.proofs.Checks.{then_both, then_fine, require_true}
 use Rattle.list_checks.proofs.Scans.{passes}
 use Rattle.talemiku.specs.AfterRecords.{lent_records, Written, ReadOut}
-use Rattle.talemiku.proofs.Recorded.{room-reaches, read-reaches, writes, reads}
+use Rattle.talemiku.proofs.Recorded.{writes, reads}
 
 -- ==== what the theorems rest on
 

@@ -1,5 +1,5 @@
 -- The outcomes of the writer and of the reader of records, check by check: what each answers, and what it leaves.
-use mathlib.Core.Path.{◌≡◌, ◌∙◌}
+use mathlib.Core.Path.{◌≡◌}
 use mathlib.Core.List.{List}
 use Prim.Native.Nat.{ℕ, ◌*◌, ◌≤◌}
 use borrow.Author.Tests.{leb-true}
@@ -7,30 +7,22 @@ use lib.Dec.{leb}
 use lib.ListN.{length}
 use Rattle.rules.specs.declared.Refusal.{Refusal}
 use Rattle.rules.specs.Plain.{overwritten}
-use Rattle.rules.specs.Outcome.{Check, refused, no_refusal, fine, ◌then◌, refusal_of, check_each}
+use Rattle.rules.specs.Outcome.{Check, refused, no_refusal, fine, ◌then◌, check_each}
 use Rattle.rules.specs.Refusal.{most_particles, count_check, lengths_check}
 use Rattle.rules.specs.Sheet.{record_size, count_of, particles_of, sheet_of, whole_records, record_check, records_check}
 use Rattle.rules.specs.Records.{room_check, read_check, RecordsInput, write_result, write_answer, sheet_after_write, read_result, read_answer, particles_after_read}
-use Rattle.rules.proofs.RefusalNumbers.{room-early, read-early}
 use Rattle.list_checks.proofs.Checks.{then_both, require_true}
-use Rattle.list_checks.proofs.Scans.{passes}
 use Rattle.talemiku.specs.AfterRecords.{Written, ReadOut}
 
--- ---- number 0 is a check that is fine, and what that says
+-- ---- what a check that is fine says
 
 module _ (n bytes : ℕ) where
-  pub room-fine : (refusal_of (room_check n bytes)).number ≡ 0 → room_check n bytes ≡ fine
-  room-fine z = passes (room_check n bytes) (room-early n bytes) z
-
   pub room-reaches : room_check n bytes ≡ fine → n * record_size ≤ bytes
   room-reaches h = leb-true (n * record_size) bytes (require_true (leb (n * record_size) bytes) 2 0 (then_both (count_check most_particles n) (lengths_check (leb (n * record_size) bytes)) h).1)
 
 module _ (s : List ℕ) (room : ℕ) where
   abbrev lengths : Check
   lengths = lengths_check (leb (count_of s) room)
-
-  pub read-fine : (refusal_of (read_check s room)).number ≡ 0 → read_check s room ≡ fine
-  read-fine z = passes (read_check s room) (read-early s room) z
 
   pub read-reaches : read_check s room ≡ fine → count_of s ≤ room
   read-reaches h =

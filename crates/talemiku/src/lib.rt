@@ -4,6 +4,7 @@
 
 mod applying;
 mod centring;
+mod changing;
 mod check;
 mod reading;
 mod writing;
@@ -30,11 +31,18 @@ use tick_call::settings_of;
 pub use writing::talemiku_write;
 
 // The floor as a whole number, or refusal 4.
+#[tactic(auto, unfolding(rules::specs::Floor::floor_answer))]
 #[unsafe(no_mangle)]
 pub extern "C" fn talemiku_floor(x: f64) -> FloorAnswer
     ensures { result ≡ floor_answer x }
 {
-    number::try_floor(x)
+    match number::try_floor(x) {
+        Ok(value) => FloorAnswer {
+            refusal: Refusal::none(),
+            value,
+        },
+        Err(refusal) => FloorAnswer { refusal, value: 0 },
+    }
 }
 
 // The correctly rounded square root, from bits to bits.
@@ -170,7 +178,7 @@ pub extern "C" fn talemiku_step(
 pub extern "C" fn talemiku_unwrap(corners: &[i64], centre: i64, unwrapped: &mut [i64]) -> Refusal
     ensures { Unwrapped (lent_outline corners.now centre unwrapped.old) result unwrapped.new }
 {
-    outline::unwrap(corners, centre, unwrapped)
+    Refusal::from(outline::unwrap(corners, centre, unwrapped))
 }
 
 // The tree that a list of edits leaves: an edit is three words, 0 and the bits of a point to insert, or 1, the number of an earlier insertion to remove and a word that isn't looked at. `rows` and `work` are as for a tree, `chains` has one number for each insertion.

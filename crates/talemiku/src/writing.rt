@@ -1,34 +1,38 @@
 // Records from particles: a sheet is written out.
+ghost use Rattle.std.specs.Prelude.{◌≡◌, ◌*◌, ◌≤◌, length};
+ghost use Rattle.rules.specs.Plain.{overwritten};
+ghost use Rattle.rules.specs.Outcome.{refusal_in};
+ghost use Rattle.rules.specs.Sheet.{record_size, sheet_of};
 ghost use Rattle.talemiku.specs.AfterRecords.{lent_records, Written};
 
+use crate::check::records_check;
 use records::room_check;
 use rules::{Particle, RECORD_SIZE, Refusal};
-use sheet::{put_record, record_check};
+use sheet::put_record;
+
+// The first bytes of the sheet take the records.
+fn lay_records(particles: &[Particle], sheet: &mut [u8])
+    requires { length particles.now * record_size ≤ length sheet.old }
+    ensures { sheet.new ≡ overwritten sheet.old 0 (sheet_of particles.now) }
+{
+    for (i, p) in particles.iter().enumerate() {
+        put_record(sheet, i * RECORD_SIZE, *p);
+    }
+}
 
 // Every particle is tested before the first is written, so that a refusal changes nothing.
+fn write(particles: &[Particle], sheet: &mut [u8]) -> Result<(), Refusal>
+    ensures { Written (lent_records particles.now sheet.old) (refusal_in result) sheet.new }
+{
+    room_check(particles.len(), sheet.len())?;
+    records_check(particles)?;
+    lay_records(particles, sheet);
+    Ok(())
+}
+
 #[unsafe(no_mangle)]
 pub extern "C" fn talemiku_write(particles: &[Particle], sheet: &mut [u8]) -> Refusal
     ensures { Written (lent_records particles.now sheet.old) result sheet.new }
 {
-    let n = particles.len();
-    let mut refusal = room_check(n, sheet.len());
-    if refusal.number != 0 {
-        return refusal;
-    }
-    let mut i: usize = 0;
-    while i < n {
-        let p = particles[i];
-        refusal = record_check(i as u64, p);
-        if refusal.number != 0 {
-            return refusal;
-        }
-        i = i + 1;
-    }
-    i = 0;
-    while i < n {
-        let p = particles[i];
-        put_record(sheet, i * RECORD_SIZE, p);
-        i = i + 1;
-    }
-    refusal
+    Refusal::from(write(particles, sheet))
 }

@@ -71,7 +71,7 @@ fn plant(m: &mut [u64], extent: Extent, p: usize) -> Result<Quadtree, Reason>
     }
     store::put_leaf(m, 0, p);
     Ok(Quadtree {
-        extent: extent,
+        extent,
         root: 1,
         nodes: 1,
         deepest: 0,

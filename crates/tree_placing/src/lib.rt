@@ -29,6 +29,7 @@ pub enum Stop {
     },
 }
 
+#[tactic(auto, using(tree_cells::proofs::Quadrant::quadrant_lt))]
 // Where the way of p ends.
 fn find(m: &[u64], at: &[f64], q: Quadtree, p: usize) -> Stop
     requires { (is : List ℕ) × Seeks at.now is m.now q p × (0 < q.root) }

@@ -5,7 +5,7 @@ use Prim.Native.Nat.{ℕ, suc, ◌+◌, ◌-◌, ◌*◌, ◌≤◌, ◌<◌}
 use native.Mathlib.Omega.{arith}
 use lib.ListN.{length}
 use lib.Ieee.{Float}
-use Rattle.std.specs.Prelude.{Some, None}
+use Rattle.std.specs.Prelude.{Some}
 use Rattle.rules.specs.declared.Extent.{Extent}
 use Rattle.rules.specs.Tree.{Tree, leaf, node}
 use Rattle.rules.specs.Refusal.{most_particles}
@@ -18,7 +18,7 @@ use Rattle.tree_slots.specs.Trees.{first, EachSlot, in_cells, LeafIn}
 use Rattle.tree_placing.specs.Add.{Stored}
 use Rattle.tree_placing.proofs.SlotsTree.{each_child, stored_child, leaf_child}
 use Rattle.tree_placing.proofs.AddWay.{reach-each, reach-stored, reach-leaf, plug}
-use Rattle.tree_removing.specs.Remove.{gather, HasPlace, Occupies, Packed, Hollow, Filled, with_less, Tidies, FoldsAt, Folds, Tidied}
+use Rattle.tree_removing.specs.Remove.{gather, HasPlace, Occupies, Packed, Hollow, Filled, with_less, Tidies, FoldsAt, Folds}
 use Rattle.tree_removing.specs.declared.tidy.Fold.{Fold}
 use Rattle.tree_removing.proofs.Plug.{reach-nodes}
 use Rattle.tree_removing.proofs.Replace.{hollowed, fold}

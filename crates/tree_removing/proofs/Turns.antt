@@ -21,7 +21,7 @@ use Rattle.tree_placing.proofs.Roots.{root_node}
 use Rattle.tree_placing.proofs.AddWay.{side_lt, reach-each, reach-stored, reach-depth, reach-down}
 use Rattle.tree_slots.specs.Trees.{lead, InternalIn, SlotsLent}
 use Rattle.tree_removing.specs.Remove.{LeafOf}
-use Rattle.tree_removing.specs.Ways.{first_of, some_kid, StandsFrom, Under, Outer}
+use Rattle.tree_removing.specs.Ways.{first_of, some_kid, Under, Outer}
 use Rattle.tree_removing.proofs.Plug.{fruit_child}
 use Rattle.tree_removing.proofs.Count.{leaf_in}
 

@@ -46,6 +46,7 @@ pub fn leaf_below(m: &[u64], s: usize) -> usize
     }
 }
 
+#[tactic(auto, using(tree_cells::proofs::Quadrant::quadrant_lt))]
 // The node above slot x, on the way of f.
 pub fn parent(m: &[u64], at: &[f64], q: Quadtree, x: usize, f: usize) -> Edge
     requires { (t : Tree ℕ) × Under at.now m.now q x f t }
@@ -68,6 +69,7 @@ pub fn parent(m: &[u64], at: &[f64], q: Quadtree, x: usize, f: usize) -> Edge
     }
 }
 
+#[tactic(auto, using(tree_cells::proofs::Quadrant::quadrant_lt))]
 // The last internal node on the way of i.
 pub fn inner(m: &[u64], at: &[f64], q: Quadtree, i: usize) -> Edge
     requires { (t : Tree ℕ) × Tops at.now m.now q i t }

@@ -1,6 +1,6 @@
 -- `find` follows a point's way down the tree to the leaf or the missing child where it ends.
 use Rattle.std.proofs.Common.{List, ℕ, get_or, sym, ap, ◌∙◌, arith}
-use Rattle.tree_leaves.proofs.Turns.{step-side, step_less, step-own, step-cell}
+use Rattle.tree_leaves.proofs.Turns.{step-side, step-own, step-cell}
 use Rattle.tree_placing.proofs.AddTurns.{way_slot, way_leaf, way-inner, way-hole, way_down}
 use Rattle.tree_placing.proofs.find.Goals as goal
 
@@ -20,14 +20,6 @@ children-children-requires c =
     let h = c.requires.1.holds in
     let w = c.loop-ix.invariant.way _ h in
     way_slot _ _ _ _ _ h _ _ _ w.0 w.1 w.2
-
-pub offset_bounds-children-quadrant : goal.offset_bounds-children-quadrant
-offset_bounds-children-quadrant c =
-    let l = step_less c.args.at.now c.args.p _ _ _ _ c.get_and_descend-way.ensures c.x_at-x.ensures c.y_at-y.ensures in
-    omega arith
-
-pub bounds-children-quadrant : goal.bounds-children-quadrant
-bounds-children-quadrant c = step_less c.args.at.now c.args.p _ _ _ _ c.get_and_descend-way.ensures c.x_at-x.ensures c.y_at-y.ensures
 
 pub returns-then-child-eq0 : goal.returns-then-child-eq0
 returns-then-child-eq0 c is k =

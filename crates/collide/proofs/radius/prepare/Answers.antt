@@ -9,6 +9,7 @@ use Rattle.tree_walk.proofs.Laying.{start, climbing, reach, falls, kids-lent, ch
 use Rattle.collide.specs.Radius.{radius_in}
 use Rattle.collide.proofs.RadiusLaws.{leaf_fits, node_fits, chain-below, leaf_radius_lem}
 use Rattle.collide.proofs.radius.prepare.Goals as goal
+use Rattle.collide.proofs.radius.prepare.Goals.{then-tag-eq0, else-tag-eq0}
 
 abbrev write : List ℕ → ℕ → Float → List ℕ
 write m s x = put_value m s 0 x
@@ -24,46 +25,37 @@ next-requires c = climbing (c.loop-slot.invariant c.requires)
 pub tag-tag-requires : goal.tag-tag-requires
 tag-tag-requires c = reach (record { laying = c.loop-slot.invariant c.requires; went = c.in-Some.ensures })
 
--- ---- an internal node
-
 pub greatest_below-radius-requires : goal.greatest_below-radius-requires
 greatest_below-radius-requires c = (
   reach (record { laying = c.loop-slot.invariant c.requires; went = c.in-Some.ensures }),
   kids-lent (record { laying = c.loop-slot.invariant c.requires; went = c.in-Some.ensures }) (sym c.tag-tag.ensures ∙ c.if-tag-eq0.true),
 )
 
-pub put_value-requires : goal.put_value-requires
-put_value-requires c = (reach (record { laying = c.loop-slot.invariant c.requires; went = c.in-Some.ensures }), search rules)
-
-pub loop-slot-smaller-then-tag-eq0 : goal.loop-slot-smaller-then-tag-eq0
-loop-slot-smaller-then-tag-eq0 c =
-    falls (record { laying = c.loop-slot.invariant c.requires; went = c.in-Some.ensures }) one_value _ c.put_value.ensures
-
-pub loop-slot-preserved-then-tag-eq0 : goal.loop-slot-preserved-then-tag-eq0
-loop-slot-preserved-then-tag-eq0 c = λ s.
-    turn-node (record { laying = c.loop-slot.invariant s; went = c.in-Some.ensures }) (sym c.tag-tag.ensures ∙ c.if-tag-eq0.true) one_value c.put_value.new.m
-    (c.put_value.ensures ∙ ap (write c.loop-slot.m c.in-Some.slot) c.greatest_below-radius.ensures)
-
--- ---- a leaf
-
 pub radius_of-radius-requires : goal.radius_of-radius-requires
 radius_of-radius-requires c =
     let first = chain-below (chain (record { laying = c.loop-slot.invariant c.requires; went = c.in-Some.ensures }) (λ z. c.if-tag-eq0.false (c.tag-tag.ensures ∙ z))) in
     omega (arith, first, c.tag-tag.ensures)
 
-pub put_value-requires-else-tag-eq0 : goal.put_value-requires-else-tag-eq0
-put_value-requires-else-tag-eq0 c = (reach (record { laying = c.loop-slot.invariant c.requires; went = c.in-Some.ensures }), search rules)
+pub put_value-requires : goal.put_value-requires
+put_value-requires c = (reach (record { laying = c.loop-slot.invariant c.requires; went = c.in-Some.ensures }), search rules)
 
 pub loop-slot-smaller : goal.loop-slot-smaller
 loop-slot-smaller c =
-    falls (record { laying = c.loop-slot.invariant c.requires; went = c.in-Some.ensures }) one_value _ c.put_value-else-tag-eq0.ensures
+    falls (record { laying = c.loop-slot.invariant c.requires; went = c.in-Some.ensures }) one_value _ c.put_value.ensures
 
+-- an internal node's radius, or a leaf's, is the rule's
 pub loop-slot-preserved : goal.loop-slot-preserved
 loop-slot-preserved c = λ s.
-    turn-leaf (record { laying = c.loop-slot.invariant s; went = c.in-Some.ensures }) (λ z. c.if-tag-eq0.false (c.tag-tag.ensures ∙ z)) one_value c.put_value-else-tag-eq0.new.m
-    (λ is f b p.
-    c.put_value-else-tag-eq0.ensures
-    ∙ ap (write c.loop-slot.m c.in-Some.slot) (c.radius_of-radius.ensures ∙ rw c.tag-tag.ensures (leaf_radius_lem c.args.radii.now s.next is _ f b.tag)))
+    let lay = write c.loop-slot.m c.in-Some.slot in
+    elim c.if-tag-eq0.branch [
+      | then-tag-eq0 w ↦
+          turn-node (record { laying = c.loop-slot.invariant s; went = c.in-Some.ensures }) (sym c.tag-tag.ensures ∙ w.if-tag-eq0.true) one_value c.put_value.new.m
+          (c.put_value.ensures ∙ ap lay (w.radius-is ∙ w.greatest_below-radius.ensures))
+      | else-tag-eq0 w ↦
+          turn-leaf (record { laying = c.loop-slot.invariant s; went = c.in-Some.ensures }) (λ z. w.if-tag-eq0.false (c.tag-tag.ensures ∙ z)) one_value c.put_value.new.m
+          (λ is f b p.
+          c.put_value.ensures ∙ ap lay (w.radius-is ∙ w.radius_of-radius.ensures ∙ rw c.tag-tag.ensures (leaf_radius_lem c.args.radii.now s.next is _ f b.tag)))
+    ]
 
 -- ---- the end
 

@@ -2,7 +2,7 @@
 use Rattle.std.proofs.Common.{◌≡◌, ℕ, ◌-◌, sym, ap, ◌∙◌, subst, arith}
 use Rattle.rules.specs.Tree.{Tree, none, leaf, node}
 use Rattle.tree_cells.specs.Indexer.{cell_of}
-use Rattle.tree_leaves.proofs.Turns.{indexed, step-side, step_less, step-own, step-cell}
+use Rattle.tree_leaves.proofs.Turns.{indexed, step-side, step-own, step-cell}
 use Rattle.tree_slots.specs.Trees.{lead}
 use Rattle.tree_removing.specs.Ways.{Outer}
 use Rattle.tree_removing.proofs.Turns.{less-more, Come, come_root, come-slot, come-child, come-lower, child-slot, come-down, come-outer}
@@ -21,14 +21,6 @@ pub children-children-requires : goal.children-children-requires
 children-children-requires c =
     let g = c.requires.1 in
     come-slot _ _ _ _ _ g.stored g.lent g.levels _ _ (c.loop-way.invariant.come _ g)
-
-pub offset_bounds-children-quadrant : goal.offset_bounds-children-quadrant
-offset_bounds-children-quadrant c =
-    let l = step_less c.args.at.now c.args.i _ _ _ _ c.get_and_descend-way.ensures c.x_at-x.ensures c.y_at-y.ensures in
-    omega arith
-
-pub bounds-children-quadrant : goal.bounds-children-quadrant
-bounds-children-quadrant c = step_less c.args.at.now c.args.i _ _ _ _ c.get_and_descend-way.ensures c.x_at-x.ensures c.y_at-y.ensures
 
 pub tag-requires : goal.tag-requires
 tag-requires c =

@@ -21,14 +21,6 @@ children-children-requires c =
     let g = c.requires.1 in
     come-slot _ _ _ _ _ g.stored g.lent g.levels _ _ (c.loop-way.invariant.nears _ g).come
 
-pub offset_bounds-children-quadrant : goal.offset_bounds-children-quadrant
-offset_bounds-children-quadrant c =
-    let l = step_less c.args.at.now c.args.f _ _ _ _ c.get_and_descend-way.ensures c.x_at-u.ensures c.y_at-v.ensures in
-    omega arith
-
-pub bounds-children-quadrant : goal.bounds-children-quadrant
-bounds-children-quadrant c = step_less c.args.at.now c.args.f _ _ _ _ c.get_and_descend-way.ensures c.x_at-u.ensures c.y_at-v.ensures
-
 pub returns-then-child-x : goal.returns-then-child-x
 returns-then-child-x c t g =
     let n = (c.loop-way.invariant.nears t g).come in
