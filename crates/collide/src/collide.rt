@@ -1,5 +1,5 @@
 // collide.rs: particles whose circles overlap are pushed apart.
-ghost use Rattle.std.specs.Prelude.{◌≡◌, ◌+◌, ◌*◌, ◌≤◌, ◌<◌, ◌^◌, length, IfErr};
+ghost use Rattle.std.specs.Prelude.{◌≡◌, ◌+◌, ◌*◌, ◌≤◌, ◌<◌, ◌^◌, length, IfOk, IfErr};
 ghost use Rattle.rules.specs.Refusal.{most_iterations};
 ghost use Rattle.rules.specs.Tree.{nodes};
 ghost use Rattle.rules.specs.Walk.{counted};
@@ -15,7 +15,7 @@ ghost use Rattle.collide.specs.Collide.{walk_for, walk_all, walk_times};
 
 use crate::radius::prepare;
 use collide_contact::{meet_first, skips};
-use force::{Draws, Ran};
+use force::{Draws, ended};
 use rules::{Progress, Refusal};
 use tree_build::build::build;
 use tree_slots::{Quadtree, store};
@@ -146,11 +146,11 @@ pub fn collide(
     next: &mut [u32],
     tail: &mut [u32],
     m: &mut [u64],
-) -> Ran
+) -> Result<Progress, Refusal>
     requires { Lent at.now next.old tail.old × Spread at.now vs.old radii.now draws.now p.used × (iterations ≤ most_iterations) × (p.visits < 2 ^ 63) }
     ensures is { RanAs vs.new draws.now p result
         (Collide.run_collide at.now radii.now strength iterations (slots_of m.old) (flow_at vs.old draws.now p)) }
-    ensures few { result.progress.visits ≤ p.visits + most_force_visits }
+    ensures few { IfOk result (λ q. q.visits ≤ p.visits + most_force_visits) }
 {
     let mut draws = Draws::new(draws, p.used);
     let mut visits = p.visits;
@@ -166,5 +166,5 @@ pub fn collide(
         tail,
         m,
     );
-    Ran::ended(end, p, &draws, visits)
+    ended(end, p, &draws, visits)
 }

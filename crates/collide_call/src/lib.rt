@@ -11,7 +11,6 @@ ghost use Rattle.rules.specs.Refusal.{most_particles, most_iterations};
 ghost use Rattle.force_call.specs.Calls.{lent, Moved, AfterForce};
 
 use collide::collide::collide;
-use force::Ran;
 use force_call::{input_lengths, refused, run_alone};
 use list_checks::{
     count_check, distances_check, draws_check, lengths_check, points_check, setting_check,
@@ -69,7 +68,7 @@ fn moved(
     next: &mut [u32],
     tail: &mut [u32],
     work: &mut [u64],
-) -> Result<Ran, Refusal>
+) -> Result<Result<Progress, Refusal>, Refusal>
     requires lent { (length places.now ≡ length radii.now * 2) × (length radii.now ≤ most_particles) × (iterations ≤ most_iterations) }
     requires lists { (length speeds.old ≡ length places.now) × (length next.old ≡ length radii.now) × (length tail.old ≡ length radii.now) }
     ensures { Moved (Force.collide radii.now strength iterations) places.now draws.now no_alpha speeds.old work.old result speeds.new work.new }

@@ -6,32 +6,29 @@ use Prim.Native.Nat.{ℕ, suc, ◌+◌, ◌-◌, ◌≤◌, ◌<◌}
 use native.Mathlib.Nat.{sub-zero}
 use native.Mathlib.Omega.{arith}
 use borrow.Author.Tests.{ne_eqb}
-use lib.ListN.{length}
 use lib.Ieee.{Float}
-use Rattle.std.specs.Prelude.{Result, Ok, Err, IfErr}
+use Rattle.std.specs.Prelude.{IfOk, Result, Ok, Err, IfErr}
 use Rattle.rules.specs.Plain.{count_from, up_to}
 use Rattle.rules.specs.declared.Progress.{Progress}
 use Rattle.rules.specs.declared.Refusal.{Refusal}
-use Rattle.rules.specs.Outcome.{Outcome, done, refused, ◌>>=◌, fold_stages, zeroes_work}
+use Rattle.rules.specs.Outcome.{Outcome, done, ◌>>=◌, fold_stages, zeroes_work}
 use Rattle.rules.specs.Walk.{Counted, counted}
 use Rattle.rules.specs.Flow.{Flow, flow}
-use Rattle.force.specs.declared.Ran.{Ran}
 use Rattle.force.specs.Draws.{From}
 use Rattle.force.specs.declared.lent.Draws.{Draws}
 use Rattle.force.specs.Draws as Draws
 use Rattle.force.specs.Draws.{came_to, OnlyDry, Further}
-use Rattle.force.specs.Ran.{ended, ended_by, ran_check, ran_of, IsLate, RanAs}
+use Rattle.force.specs.Ran.{ended_by, IsLate, RanAs}
 
-module _ (vs draws : List Float) (r : Ran) where
-  pub ran_refused : (r.refusal.number ≡ 0 → ⊥) → ran_of vs draws r ≡ refused r.refusal
-  unfolding ran_of ran_check
-  ran_refused h = rw (ne_eqb _ _ h)
-
--- 8 is met on the way
-pub dry_late : {A : Type 0} (r : Result A Refusal) → OnlyDry r → IfErr r IsLate
+-- a refusal with a number that clears the slots is met on the way
+pub met : (r : Refusal) → (r.number ≡ 0 → ⊥) → zeroes_work r ≡ true → IsLate r
 unfolding zeroes_work
+met r n e = rw (ne_eqb r.number 0 n) at e
+
+-- the lack of a draw is
+pub dry_late : {A : Type 0} (r : Result A Refusal) → OnlyDry r → IfErr r IsLate
 dry_late (Ok a) d = tt
-dry_late (Err q) d = rw d ((λ z. absurd (omega (arith, z))), refl)
+dry_late (Err q) d = rw d
 
 -- a force that began at p, with the draws `old` of those lent, and answered r with the draws `new`
 module _ (vs draws : List Float) (p : Progress) (old new : Draws) (lent : old.lent.now ≡ draws) (begun : old.used ≡ p.used) (further : Further old new) where
@@ -39,17 +36,16 @@ module _ (vs draws : List Float) (p : Progress) (old new : Draws) (lent : old.le
   reach = let h = new.in_range in record { begun = omega (arith, further.begun); reach = rw (further.same, lent) at h }
 
   pub ran_ended_late : (visits : ℕ) (r : Result (Unit {0}) Refusal) {o : Outcome (Counted Flow)} → IfErr r IsLate → came_to r (λ _. counted (flow vs (Draws.left new)) visits) ≡ o → RanAs vs draws p (ended_by r p new visits) o
-  unfolding ran_of ran_check zeroes_work
-  ran_ended_late visits (Ok a) l e = record { is = rw (further.same, lent) at e; alpha = refl; draws = reach; late = refl }
-  ran_ended_late visits (Err q) l e = record { is = ran_refused vs draws (ended_by (Err q) p new visits) l.0 ∙ e; alpha = refl; draws = reach; late = l.1 }
+  ran_ended_late visits (Ok a) l e = record { is = rw (further.same, lent) at e; onward = record { alpha = refl; draws = reach }; late = tt }
+  ran_ended_late visits (Err q) l e = record { is = e; onward = tt; late = l }
 
   pub ran_ended : (visits : ℕ) (r : Result (Unit {0}) Refusal) {o : Outcome (Counted Flow)} → OnlyDry r → came_to r (λ _. counted (flow vs (Draws.left new)) visits) ≡ o → RanAs vs draws p (ended_by r p new visits) o
   ran_ended visits r d e = ran_ended_late visits r (dry_late r d) e
 
--- it is refused before it begins, by a number that is met on the way
-pub refused_at_once : (vs draws : List Float) (p : Progress) (r : Refusal) → p.used ≤ length draws → (r.number ≡ 0 → ⊥) → zeroes_work r ≡ true
-    → {o : Outcome (Counted Flow)} → refused r ≡ o → RanAs vs draws p (ended r p) o
-refused_at_once vs draws p r h n l e = record { is = ran_refused vs draws (ended r p) n ∙ e; alpha = refl; draws = record { begun = omega arith; reach = h }; late = l }
+-- its visits are those that it came to
+pub ended_few : (r : Result (Unit {0}) Refusal) (p : Progress) (draws : Draws) (visits : ℕ) {most : ℕ} → visits ≤ most → IfOk (ended_by r p draws visits) (λ q. q.visits ≤ most)
+ended_few (Ok a) p draws visits h = h
+ended_few (Err q) p draws visits h = tt
 
 -- ---- stages one after the other
 

@@ -6,12 +6,12 @@ use Prim.Native.Nat.{ℕ, ◌+◌, ◌-◌, ◌*◌, ◌/◌, ◌%◌, ◌≤◌
 use native.Mathlib.Omega.{arith}
 use borrow.Author.Tests.{eq-eqb, ne_eqb, le-leb, lt-leb, eqb-true, leb-true}
 use lib.Dec.{eqb, leb}
-use lib.ListN.{length, replicate, length-drop}
+use lib.ListN.{length, drop, replicate, length-drop}
 use lib.Ieee.{Float}
 use Rattle.rules.specs.declared.Refusal.{Refusal}
 use Rattle.rules.specs.declared.Counts.{Counts}
 use Rattle.rules.specs.Plain.{zeros}
-use Rattle.rules.specs.Outcome.{Outcome, done, refused, Check, fine, ◌then◌, ◌>>=◌, on_the_way, zeroes_work}
+use Rattle.rules.specs.Outcome.{Outcome, done, refused, Check, fine, require, ◌then◌, ◌>>=◌, result_of}
 use Rattle.rules.specs.Refusal.{most_particles, count_check, lengths_check, result_check}
 use Rattle.rules.specs.Sheet.{pair_size}
 use Rattle.rules.specs.Walk.{Counted, counted}
@@ -22,10 +22,14 @@ use Rattle.rules.specs.Calls.{ForceInput, slots_of, count, speeds, input_lengths
 use Rattle.rules.proofs.RefusalNumbers.{Early, early-stays}
 use Rattle.sheet.specs.Columns.{put_pairs}
 use Rattle.sheet.proofs.Columns.{put_beside}
-use Rattle.force.specs.declared.Ran.{Ran}
-use Rattle.force.specs.Ran.{flow_at, ran_check, ran_of}
-use Rattle.force_call.specs.Calls.{no_counts, counts_after, Settled, AfterForce}
-use Rattle.force.proofs.RanCheck.{late_met}
+use Rattle.std.proofs.Common.{Result, Ok, Err, IfOk}
+use Rattle.std.specs.Prelude.{IfErr}
+use Rattle.rules.specs.declared.Progress.{Progress}
+use Rattle.rules.specs.Plain.{all}
+use Rattle.rules.specs.Number.{within, finite}
+use Rattle.force.specs.Draws.{came_to}
+use Rattle.force.specs.Ran.{flow_at, IsLate}
+use Rattle.force_call.specs.Calls.{no_counts, counts_of, stands_as, Settled, AfterForce}
 use Rattle.list_checks.proofs.Checks.{then_both, require_true}
 
 -- ---- lengths
@@ -42,13 +46,13 @@ module _ (n m k start : ℕ) where
 
 -- ---- a force that has run
 
-module _ (c : Check) (ran : Ran) (vs : List Float) (start : ℕ) (buffer work : List ℕ) (r : Counts) (buffer' work' : List ℕ) (cleared : work' ≡ zeros work) where
-  pub settled_refused : (q : Refusal) → c ≡ refused q → r ≡ no_counts q → buffer' ≡ buffer → Settled c ran vs start buffer work r buffer' work'
+module _ (t : Result Progress Refusal) (vs : List Float) (start : ℕ) (buffer work : List ℕ) (r : Counts) (buffer' work' : List ℕ) (cleared : work' ≡ zeros work) where
+  pub settled_refused : (q : Refusal) → t ≡ Err q → r ≡ no_counts q → buffer' ≡ buffer → Settled t vs start buffer work r buffer' work'
   settled_refused q e er eb = record { answer = er ∙ rw e; bytes = eb ∙ rw e; slots = cleared }
 
-  pub settled_done : c ≡ fine → r ≡ counts_after fine ran.progress → buffer' ≡ put_pairs pair_size buffer start vs → length vs % 2 ≡ 0
-      → start + length vs / 2 * pair_size ≤ length buffer → Settled c ran vs start buffer work r buffer' work'
-  settled_done e er eb even room =
+  pub settled_done : (p : Progress) → t ≡ Ok p → r ≡ counts_of (Ok p) → buffer' ≡ put_pairs pair_size buffer start vs → length vs % 2 ≡ 0
+      → start + length vs / 2 * pair_size ≤ length buffer → Settled t vs start buffer work r buffer' work'
+  settled_done p e er eb even room =
       record {
         answer = er ∙ rw e;
         bytes = eb ∙ put_beside (length vs / 2) buffer start vs (omega arith) room ∙ rw e;
@@ -56,9 +60,27 @@ module _ (c : Check) (ran : Ran) (vs : List Float) (start : ℕ) (buffer work : 
       }
 
 -- a force that builds a tree hands on as many work slots as it was lent
-pub settled_slots : {c : Check} {ran : Ran} {vs : List Float} {start : ℕ} {buffer m work : List ℕ} {r : Counts} {buffer' work' : List ℕ} → length m ≡ length work
-    → Settled c ran vs start buffer m r buffer' work' → Settled c ran vs start buffer work r buffer' work'
+pub settled_slots : {t : Result Progress Refusal} {vs : List Float} {start : ℕ} {buffer m work : List ℕ} {r : Counts} {buffer' work' : List ℕ} → length m ≡ length work
+    → Settled t vs start buffer m r buffer' work' → Settled t vs start buffer work r buffer' work'
 settled_slots e s = record { answer = s.answer; bytes = s.bytes; slots = s.slots ∙ ap (λ (n : ℕ). replicate n 0) e }
+
+-- what is said of a force that ended so is said of it once 9 is tested
+pub stands_ok : (places vs : List Float) (ran : Result Progress Refusal) (P : Progress → Type 0) → IfOk ran P → IfOk (stands_as places vs ran) P
+stands_ok places vs (Ok p) P h = go (result_check places vs)
+  where
+    go : (c : Check) → IfOk (result_of (c >>= λ _. done p)) P
+    go (done t) = h
+    go (refused q) = tt
+stands_ok places vs (Err q) P h = tt
+
+pub stands_late : (places vs : List Float) (ran : Result Progress Refusal) → IfErr ran IsLate → IfErr (stands_as places vs ran) IsLate
+unfolding result_check
+stands_late places vs (Ok p) h = go (all within places && all finite vs)
+  where
+    go : (ok : Bool) → IfErr (result_of (require ok 9 0 >>= λ _. done p)) IsLate
+    go true = tt
+    go false = refl
+stands_late places vs (Err q) h = h
 
 -- ---- the outcome of a call, check by check
 
@@ -92,22 +114,24 @@ module _ (l : ForceInput) (f : Push) (w : Bool) (alpha : Float) where
     result-numbers q h = past-lent ∙ ap (λ (c : Check). c >>= λ _. rest l f alpha vs) h
 
     -- none of them: the force ran, and left the velocities vs'
-    pub result-ran : numbers_check l.places vs f l.draws alpha ≡ fine → (vs' : List Float) (ran : Ran)
-        → ran_of vs' l.draws ran ≡ run standard f l.places alpha (slots_of l.work) (counted (flow vs l.draws) 0)
-        → force_result l f w alpha
-        ≡ (ran_check ran then result_check l.places vs') >>= λ _. done (flow_at vs' l.draws ran.progress)
-    unfolding ran_of
+    pub result-ran : numbers_check l.places vs f l.draws alpha ≡ fine → (vs' : List Float) (ran : Result Progress Refusal)
+        → came_to ran (λ q. flow_at vs' l.draws q) ≡ run standard f l.places alpha (slots_of l.work) (counted (flow vs l.draws) 0)
+        → force_result l f w alpha ≡ came_to (stands_as l.places vs' ran) (λ q. flow_at vs' l.draws q)
     result-ran h vs' ran r =
         past-lent
         ∙ ap (λ (c : Check). c >>= λ _. rest l f alpha vs) h
         ∙ ap (λ (o : Outcome (Counted Flow)). o >>= λ m. result_check l.places m.state.speeds >>= λ _. done m) (sym r)
-        ∙ go (ran_check ran)
+        ∙ go ran
       where
-        go : (c : Check)
-            → (c >>= λ _. done (flow_at vs' l.draws ran.progress)) >>= (λ m. result_check l.places m.state.speeds >>= λ _. done m)
-            ≡ (c then result_check l.places vs') >>= λ _. done (flow_at vs' l.draws ran.progress)
-        go (done t) = refl
-        go (refused q) = refl
+        tested : (q : Progress) (c : Check) → (c >>= λ _. done (flow_at vs' l.draws q)) ≡ came_to (result_of (c >>= λ _. done q)) (λ q. flow_at vs' l.draws q)
+        tested q (done t) = refl
+        tested q (refused e) = refl
+
+        go : (ran : Result Progress Refusal)
+            → came_to ran (λ q. flow_at vs' l.draws q) >>= (λ m. result_check l.places m.state.speeds >>= λ _. done m)
+            ≡ came_to (stands_as l.places vs' ran) (λ q. flow_at vs' l.draws q)
+        go (Ok q) = tested q (result_check l.places vs')
+        go (Err q) = refl
 
 -- ---- answers
 
@@ -116,26 +140,15 @@ pub answered_refused : (l : ForceInput) (o : Outcome (Counted Flow)) (q : Refusa
 unfolding force_answer buffer_after
 answered_refused l o q r e h er = record { answer = er ∙ rw e; bytes = rw e; slots = rw (e, early-stays q h) }
 
-module _ (l : ForceInput) (o : Outcome (Counted Flow)) (ran : Ran) (vs : List Float) (r : Counts) (buffer' work' : List ℕ) where
-  answered_by : (m : Counted Flow) (c : Check) → o ≡ c >>= (λ _. done m) → ((q : Refusal) → c ≡ refused q → on_the_way q ≡ true)
-      → m.visits ≡ ran.progress.visits → m.state.speeds ≡ vs → length l.draws - length m.state.draws ≡ ran.progress.used → Settled c ran vs l.start l.buffer l.work r buffer' work' → AfterForce l o r buffer' work'
-  unfolding force_answer buffer_after
-  answered_by m (done t) e z ev es ed s =
-      record {
-        answer = s.answer ∙ rw (e, ← ev, ← ed);
-        bytes = s.bytes ∙ rw (e, ← es);
-        slots = s.slots ∙ rw e;
-      }
-  answered_by m (refused q) e z ev es ed s = record { answer = s.answer ∙ rw e; bytes = s.bytes ∙ rw e; slots = s.slots ∙ rw (e, z q refl) }
-
-  -- the force ran as `ran` says, and was settled
-  pub answered_ran : o ≡ (ran_check ran then result_check l.places vs) >>= (λ _. done (flow_at vs l.draws ran.progress))
-      → ran.progress.used ≤ length l.draws → zeroes_work ran.refusal ≡ true
-      → Settled (ran_check ran then result_check l.places vs) ran vs l.start l.buffer l.work r buffer' work'
-      → AfterForce l o r buffer' work'
-  answered_ran e h z s =
-      answered_by (flow_at vs l.draws ran.progress) (ran_check ran then result_check l.places vs) e
-      (late_met ran l.places vs z) refl refl (simp length-drop (omega arith)) s
+-- the force stands, or is refused, and was settled
+pub answered_ran : (l : ForceInput) (o : Outcome (Counted Flow)) (t : Result Progress Refusal) (vs : List Float) (r : Counts) (buffer' work' : List ℕ)
+    → o ≡ came_to t (λ q. flow_at vs l.draws q) → IfOk t (λ q. q.used ≤ length l.draws) → IfErr t IsLate
+    → Settled t vs l.start l.buffer l.work r buffer' work' → AfterForce l o r buffer' work'
+unfolding force_answer buffer_after
+answered_ran l o (Ok q) vs r buffer' work' e h z s =
+    let used : length l.draws - length (drop q.used l.draws) ≡ q.used = simp length-drop (omega arith) in
+    record { answer = s.answer ∙ rw (e, used); bytes = s.bytes ∙ rw e; slots = s.slots ∙ rw e }
+answered_ran l o (Err q) vs r buffer' work' e h z s = record { answer = s.answer ∙ rw e; bytes = s.bytes ∙ rw e; slots = s.slots ∙ rw (e, z) }
 
 -- ---- what 1, 2 and 3 let pass
 

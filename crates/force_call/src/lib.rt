@@ -1,18 +1,15 @@
 // What the calls of all forces share: the lengths of what is lent, and how a force is run by itself and answered.
 #![tactic(auto)]
 
-ghost use Rattle.std.specs.Prelude.{◌≡◌, List, ℕ, Bool, Float, [], ◌+◌, ◌*◌, ◌/◌, ◌%◌, ◌≤◌, length};
+ghost use Rattle.std.specs.Prelude.{◌≡◌, Ok, List, ℕ, Bool, Float, [], ◌+◌, ◌*◌, ◌/◌, ◌%◌, ◌≤◌, length};
 ghost use Rattle.std.specs.Borrow.{Bor, MutBor};
-ghost use Rattle.rules.specs.Outcome.{fine, ◌then◌};
-ghost use Rattle.rules.specs.Refusal.{most_particles, result_check};
+ghost use Rattle.rules.specs.Outcome.{fine};
+ghost use Rattle.rules.specs.Refusal.{most_particles};
 ghost use Rattle.rules.specs.Sheet.{pair_size};
 ghost use Rattle.rules.specs.Force.{Push};
 ghost use Rattle.rules.specs.Calls.{input_lengths, lent_check, force_result};
-ghost use Rattle.force.specs.declared.Ran.{Ran};
-ghost use Rattle.force.specs.Ran.{ran_check};
-ghost use Rattle.force_call.specs.Calls.{lent, no_counts, counts_after, Settled, Moved, AfterForce};
+ghost use Rattle.force_call.specs.Calls.{lent, no_counts, counts_of, stands_as, Settled, Moved, AfterForce};
 
-use force::Ran;
 use list_checks::result_check;
 use rules::{Counts, MOST_PARTICLES, PAIR_SIZE, Progress, Refusal};
 
@@ -38,7 +35,7 @@ pub fn refused(refusal: Refusal) -> Counts
 
 // What was counted up to p, nothing being refused.
 pub fn counted(p: Progress) -> Counts
-    ensures { result ≡ counts_after fine p }
+    ensures { result ≡ counts_of (Ok p) }
 {
     Counts {
         refusal: Refusal::none(),
@@ -47,32 +44,43 @@ pub fn counted(p: Progress) -> Counts
     }
 }
 
+// 9 is tested of what a force came to.
+fn stands(
+    places: &[f64],
+    speeds: &[f64],
+    ran: Result<Progress, Refusal>,
+) -> Result<Progress, Refusal>
+    ensures { result ≡ stands_as places.now speeds.now ran }
+{
+    let p = ran?;
+    result_check(places, speeds)?;
+    Ok(p)
+}
+
 // Tests 9, and writes the velocities over the buffer where nothing is refused. The work slots are zero in any case.
 fn settle(
     places: &[f64],
     buffer: &mut [u8],
     start: usize,
     speeds: &[f64],
-    ran: Ran,
+    ran: Result<Progress, Refusal>,
     work: &mut [u64],
 ) -> Counts
     requires { (length speeds.now % 2 ≡ 0) × (start + length speeds.now / 2 * pair_size ≤ length buffer.old) }
-    ensures { let c = ran_check ran then result_check places.now speeds.now in
-        Settled c ran speeds.now start buffer.old work.old result buffer.new work.new }
+    ensures { Settled (stands_as places.now speeds.now ran) speeds.now start buffer.old work.old result buffer.new work.new }
 {
     tree_slots::store::clear(work);
-    if ran.refusal.number != 0 {
-        return refused(ran.refusal);
+    match stands(places, speeds, ran) {
+        Err(refusal) => refused(refusal),
+        Ok(p) => {
+            sheet::write_pairs(buffer, PAIR_SIZE, start, speeds);
+            counted(p)
+        }
     }
-    if let Err(refusal) = result_check(places, speeds) {
-        return refused(refusal);
-    }
-    sheet::write_pairs(buffer, PAIR_SIZE, start, speeds);
-    counted(ran.progress)
 }
 
 // A force run by itself, once 1, 2 and 3 are past: the velocities are the pairs from `start` on, and `run` looks at the numbers and moves the velocities.
-pub fn run_alone<F: FnOnce(&mut [f64], &mut [u64]) -> Result<Ran, Refusal>>(
+pub fn run_alone<F: FnOnce(&mut [f64], &mut [u64]) -> Result<Result<Progress, Refusal>, Refusal>>(
     places: &[f64],
     buffer: &mut [u8],
     start: usize,

@@ -12,7 +12,7 @@ ghost use Rattle.force.specs.Ran.{flow_at, RanAs};
 ghost use Rattle.link.specs.Links.{EndsLent, NumbersLent, LinksReady, tallies, pull_at, pull_each, link_outcome};
 ghost use Rattle.list_checks.specs.Checks.{ends_at};
 
-use force::{Draws, Ran, push_back, push_on};
+use force::{Draws, ended, push_back, push_on};
 use link_tally::{bias, count_link, strength_at};
 use rules::{MOST_PARTICLES, Progress, Refusal};
 use square_root::root;
@@ -174,7 +174,7 @@ pub fn link(
     iterations: usize,
     draws: &[f64],
     p: Progress,
-) -> Ran
+) -> Result<Progress, Refusal>
     requires { EndsLent (length vs.old / 2) links.now × NumbersLent links.now strengths.now distances.now × (length at.now ≡ length vs.old)
         × (length vs.old % 2 ≡ 0) × (length vs.old ≤ 2 * most_particles) × (p.used ≤ length draws.now) }
     ensures { RanAs vs.new draws.now p result
@@ -194,5 +194,5 @@ pub fn link(
         p.alpha,
         &mut draws,
     );
-    Ran::ended(end, p, &draws, p.visits)
+    ended(end, p, &draws, p.visits)
 }

@@ -10,7 +10,6 @@ ghost use Rattle.rules.specs.Refusal.{most_particles};
 ghost use Rattle.link.specs.Links.{EndsLent, NumbersLent};
 ghost use Rattle.force_call.specs.Calls.{lent, Moved, AfterForce};
 
-use force::Ran;
 use force_call::{input_lengths, refused, run_alone};
 use link::link::link;
 use list_checks::{
@@ -98,7 +97,7 @@ fn moved(
     iterations: usize,
     alpha: f64,
     draws: &[f64],
-) -> Result<Ran, Refusal>
+) -> Result<Result<Progress, Refusal>, Refusal>
     requires lent { EndsLent (length places.now / 2) links.now × NumbersLent links.now strengths.now distances.now }
     requires lists { (length places.now % 2 ≡ 0) × (length places.now ≤ 2 * most_particles) × (length speeds.old ≡ length places.now) }
     ensures { (work : List ℕ) → Moved (Force.link (ends_of links.now) strengths.now distances.now iterations) places.now draws.now alpha speeds.old work result speeds.new work }

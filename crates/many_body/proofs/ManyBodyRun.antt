@@ -20,8 +20,9 @@ use Rattle.tree_slots.specs.declared.Quadtree.{Quadtree}
 use Rattle.tree_slots.specs.Trees.{Stands}
 use Rattle.tree_slots.proofs.Trees.{lays_levels, lays_nodes}
 use Rattle.tree_build.proofs.Refusals.{tree_clears}
-use Rattle.force.specs.Ran.{ended, RanAs}
-use Rattle.force.proofs.Stages.{refused_at_once}
+use Rattle.std.proofs.Common.{Err}
+use Rattle.force.specs.Ran.{RanAs}
+use Rattle.force.proofs.Stages.{met}
 use Rattle.many_body.specs.ManyBody.{pulled_all}
 
 -- ---- how many nodes are handed out
@@ -36,12 +37,12 @@ all_fit at n {q = q} s h =
 
 module _ (t : Tuning) (at strengths : List Float) (alpha : Float) (slots : ℕ) (m : Counted Flow) where
   -- the tree is refused
-  pub refused_runs : (vs ds : List Float) (p : Progress) (r : Refusal) → p.used ≤ length ds → tree_check at (length strengths) slots ≡ refused r
-      → RanAs vs ds p (ended r p) (run_many_body t at strengths alpha slots m)
+  pub refused_runs : (vs ds : List Float) (p : Progress) (r : Refusal) → tree_check at (length strengths) slots ≡ refused r
+      → RanAs vs ds p (Err r) (run_many_body t at strengths alpha slots m)
   unfolding run_many_body
-  refused_runs vs ds p r h e =
+  refused_runs vs ds p r e =
       let l = tree_clears at (length strengths) slots r e in
-      refused_at_once vs ds p r h l.0 l.1 (rw e)
+      record { is = rw e; onward = tt; late = met r l.0 l.1 }
 
   -- the tree stands
   pub stands_runs : tree_check at (length strengths) slots ≡ fine → pulled_all t at strengths alpha m ≡ run_many_body t at strengths alpha slots m

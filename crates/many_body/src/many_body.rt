@@ -1,5 +1,5 @@
 // many_body.rs: each particle is pulled by all others, far cells acting whole.
-ghost use Rattle.std.specs.Prelude.{◌≡◌, ◌+◌, ◌*◌, ◌≤◌, ◌<◌, ◌^◌, length};
+ghost use Rattle.std.specs.Prelude.{◌≡◌, ◌+◌, ◌*◌, ◌≤◌, ◌<◌, ◌^◌, length, IfOk};
 ghost use Rattle.rules.specs.ManyBody as Rule;
 ghost use Rattle.rules.specs.Calls.{slots_of};
 ghost use Rattle.rules.specs.Flow.{flow};
@@ -12,7 +12,7 @@ ghost use Rattle.many_body_charge.specs.Charge.{Charged};
 ghost use Rattle.many_body_node.specs.NodePull.{Bodies};
 ghost use Rattle.many_body.specs.ManyBody.{pulled_for, pulled_all};
 
-use force::{Draws, Ran};
+use force::{Draws, ended};
 use many_body_charge::charges;
 use many_body_node::many_body_step;
 use rules::{Progress, Refusal, Tuning, Visit};
@@ -120,12 +120,12 @@ pub fn many_body_on(
     p: Progress,
     next: &[u32],
     m: &mut [u64],
-) -> Ran
+) -> Result<Progress, Refusal>
     requires stands { Stands at.now (length strengths.now) m.old next.now q }
     requires bodies { Bodies at.now vs.old strengths.now next.now × (p.used ≤ length draws.now) × (p.visits < 2 ^ 63) }
     ensures runs { RanAs vs.new draws.now p result
         (pulled_all t at.now strengths.now p.alpha (flow_at vs.old draws.now p)) }
-    ensures count { result.progress.visits ≤ p.visits + 2 ^ 31 }
+    ensures count { IfOk result (λ q. q.visits ≤ p.visits + 2 ^ 31) }
 {
     charges(q, at, strengths, next, m);
     let mut draws = Draws::new(draws, p.used);
@@ -142,7 +142,7 @@ pub fn many_body_on(
         &mut draws,
         &mut visits,
     );
-    Ran::ended(end, p, &draws, visits)
+    ended(end, p, &draws, visits)
 }
 
 // The force: 6 and 7 where the tree is built, then all particles.
@@ -156,15 +156,13 @@ pub fn many_body(
     next: &mut [u32],
     tail: &mut [u32],
     m: &mut [u64],
-) -> Ran
+) -> Result<Progress, Refusal>
     requires lent { Build.Lent at.now next.old tail.old }
     requires at_len { (length at.now ≡ length strengths.now * 2) × (length vs.old ≡ length strengths.now * 2) × (p.used ≤ length draws.now) × (p.visits < 2 ^ 63) }
     ensures runs { RanAs vs.new draws.now p result
         (Rule.run_many_body t at.now strengths.now p.alpha (slots_of m.old) (flow_at vs.old draws.now p)) }
-    ensures count { result.progress.visits ≤ p.visits + 2 ^ 31 }
+    ensures count { IfOk result (λ q. q.visits ≤ p.visits + 2 ^ 31) }
 {
-    match build(at, next, tail, m) {
-        Err(refusal) => Ran::refused(refusal, p),
-        Ok(q) => many_body_on(q, t, at, vs, strengths, draws, p, next, m),
-    }
+    let q = build(at, next, tail, m)?;
+    many_body_on(q, t, at, vs, strengths, draws, p, next, m)
 }

@@ -8,7 +8,6 @@ ghost use Rattle.rules.specs.Calls.{no_ends, input_lengths, many_body_result, le
 ghost use Rattle.rules.specs.Refusal.{most_particles};
 ghost use Rattle.force_call.specs.Calls.{lent, Moved, AfterForce};
 
-use force::Ran;
 use force_call::{input_lengths, refused, run_alone};
 use list_checks::{
     count_check, draws_check, lengths_check, points_check, setting_check, strengths_check,
@@ -60,7 +59,7 @@ fn moved(
     next: &mut [u32],
     tail: &mut [u32],
     work: &mut [u64],
-) -> Result<Ran, Refusal>
+) -> Result<Result<Progress, Refusal>, Refusal>
     requires lent { (length places.now ≡ length strengths.now * 2) × (length strengths.now ≤ most_particles) }
     requires lists { (length speeds.old ≡ length places.now) × (length next.old ≡ length strengths.now) × (length tail.old ≡ length strengths.now) }
     ensures { Moved (many_body strengths.now) places.now draws.now alpha speeds.old work.old result speeds.new work.new }

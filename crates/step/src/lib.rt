@@ -80,18 +80,19 @@ pub fn step_on(
             settings: plan.settings,
             progress: p,
         };
-        let ran = tick_on(
+        match tick_on(
             words, numbers, links, home, places, speeds, flags, turn, draws, next, tail, work,
-        );
-        if ran.refusal.number != 0 {
-            put_back(kept, places, speeds);
-            return Stepped {
-                ticks,
-                end: Err(ran.refusal),
-                progress: p,
-            };
+        ) {
+            Ok(reached) => p = reached,
+            Err(refusal) => {
+                put_back(kept, places, speeds);
+                return Stepped {
+                    ticks,
+                    end: Err(refusal),
+                    progress: p,
+                };
+            }
         }
-        p = ran.progress;
     }
     Stepped {
         ticks: plan.budget,

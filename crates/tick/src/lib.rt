@@ -9,9 +9,8 @@ ghost use Rattle.tick_checks.specs.Fits.{Fits};
 ghost use Rattle.tick_columns.specs.Stage.{columns, ColumnsFit, Chains, state_of, Stages};
 ghost use Rattle.tick.specs.Tick.{cooled};
 
-use force::Ran;
 use number::within;
-use rules::{FORCE_WORDS, Progress, Reason, Refusal, Settings};
+use rules::{FORCE_WORDS, Progress, Reason, Refusal, Settings, require};
 use tick_close::{close, next_alpha};
 use tick_forces::run_forces;
 
@@ -36,7 +35,7 @@ pub fn tick_on(
     next: &mut [u32],
     tail: &mut [u32],
     work: &mut [u64],
-) -> Ran
+) -> Result<Progress, Refusal>
     requires fits { Fits (length flags.now) (entries_of words.now) numbers.now links.now × (length home.now ≡ length flags.now * 2) }
     requires columns_fit { ColumnsFit places.old speeds.old draws.now (length flags.now) turn.progress.used
         × Chains (length flags.now) next.old tail.old × (turn.progress.visits < 2 ^ 62) }
@@ -52,11 +51,9 @@ pub fn tick_on(
         alpha: next_alpha(s, p.alpha),
         ..p
     };
-    if !within(cooled.alpha) {
-        return Ran::refused(Refusal::new(Reason::BadResult, 0), cooled);
-    }
-    let ran = run_forces(
+    require(within(cooled.alpha), Reason::BadResult, 0)?;
+    let reached = run_forces(
         words, numbers, links, places, speeds, flags, s.tuning, draws, cooled, next, tail, work,
-    );
-    close(home, places, speeds, flags, s.velocity_decay, ran)
+    )?;
+    close(home, places, speeds, flags, s.velocity_decay, reached)
 }

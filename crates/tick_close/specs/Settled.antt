@@ -1,22 +1,22 @@
 -- How a tick and a step that have run are settled. Definitions only.
-use Rattle.std.specs.Prelude.{◌≡◌, cond, List, ℕ, Float}
+use Rattle.std.specs.Prelude.{◌≡◌, cond, List, ℕ, Float, Result}
 use Rattle.std.specs.Float.Ieee.{le}
 use Rattle.rules.specs.declared.Counts.{Counts}
 use Rattle.rules.specs.Plain.{zeros}
-use Rattle.rules.specs.Outcome.{Check, if_done, refusal_in}
+use Rattle.rules.specs.Outcome.{if_done, outcome_of, refusal_in}
 use Rattle.rules.specs.Number.{bits_of}
-use Rattle.force_call.specs.Calls.{counts_after}
-use Rattle.force.specs.declared.Ran.{Ran}
+use Rattle.force_call.specs.Calls.{counts_of}
+use Rattle.rules.specs.declared.Progress.{Progress}
 use Rattle.tick_columns.specs.Columns.{written}
 use Rattle.rules.specs.declared.Refusal.{Refusal}
 use Rattle.rules.specs.declared.StepAnswer.{StepAnswer}
 use Rattle.tick_close.specs.declared.Stepped.{Stepped}
 
--- What is answered and left when a tick t has run on columns and c says whether it stands: sheet and alpha are written only then, and the work slots are zero in any case.
-pub record TickSettled (c : Check) (t : Ran) (places speeds : List Float) (sheet : List ℕ) (alpha : ℕ) (work : List ℕ) (r : Counts) (sheet' : List ℕ) (alpha' : ℕ) (work' : List ℕ) : Type 0 where
-  pub answer : r ≡ counts_after c t.progress
-  pub bytes : sheet' ≡ if_done c (λ _. written sheet places speeds) sheet
-  pub alpha_left : alpha' ≡ if_done c (λ _. bits_of t.progress.alpha) alpha
+-- What is answered and left when a tick has run on columns and ended as t: sheet and alpha are written only where it is not refused, and the work slots are zero in any case.
+pub record TickSettled (t : Result Progress Refusal) (places speeds : List Float) (sheet : List ℕ) (alpha : ℕ) (work : List ℕ) (r : Counts) (sheet' : List ℕ) (alpha' : ℕ) (work' : List ℕ) : Type 0 where
+  pub answer : r ≡ counts_of t
+  pub bytes : sheet' ≡ if_done (outcome_of t) (λ _. written sheet places speeds) sheet
+  pub alpha_left : alpha' ≡ if_done (outcome_of t) (λ p. bits_of p.alpha) alpha
   pub slots : work' ≡ zeros work
 
 -- a refusal's answer

@@ -3,7 +3,7 @@
 
 pub mod settle;
 
-ghost use Rattle.std.specs.Prelude.{◌≡◌, List, ℕ, ◌*◌, length, Float};
+ghost use Rattle.std.specs.Prelude.{◌≡◌, Ok, List, ℕ, ◌*◌, length, Float};
 ghost use Rattle.rules.specs.Tick as Rule;
 ghost use Rattle.rules.specs.declared.Progress.{Progress};
 ghost use Rattle.rules.specs.Outcome.{Outcome};
@@ -11,7 +11,6 @@ ghost use Rattle.tick_columns.specs.Stage.{columns, Stages};
 ghost use Rattle.tick_close.specs.Close.{closed};
 
 use closing::close_all;
-use force::Ran;
 use rules::{Progress, Refusal, Settings};
 use tick_columns::ranged;
 
@@ -23,25 +22,22 @@ pub fn next_alpha(s: Settings, alpha: f64) -> f64
     alpha + (s.target - alpha) * s.alpha_decay
 }
 
-// The closing move after forces that ran, and 9 after it; none where they were refused. `home` are the places to which held axes return.
+// The closing move after what the forces came to, and 9 after it. `home` are the places to which held axes return.
 pub fn close(
     home: &[f64],
     places: &mut [f64],
     speeds: &mut [f64],
     flags: &[u64],
     decay: f64,
-    ran: Ran,
-) -> Ran
+    reached: Progress,
+) -> Result<Progress, Refusal>
     requires { (length home.now ≡ length flags.now * 2) × (length places.old ≡ length flags.now * 2) × (length speeds.old ≡ length flags.now * 2) }
     ensures { (ds : List Float) (p : Progress) (most : ℕ) (o : Outcome Rule.State)
-        → Stages (columns places.old speeds.old flags.now) ds p most ran o
+        → Stages (columns places.old speeds.old flags.now) ds p most (Ok reached) o
         → Stages (columns places.new speeds.new flags.now) ds p most result (closed decay home.now o) }
 {
-    if ran.refusal.number != 0 {
-        return ran;
-    }
     close_all(home, places, speeds, flags, decay);
-    ranged(places, speeds, ran)
+    ranged(places, speeds, reached)
 }
 
 // How a step ended: the ticks done, whether a tick that was refused ended it, and what the ticks left.

@@ -1,14 +1,12 @@
 // What a call of a tick or a step answers and leaves once its ticks have run by columns.
 ghost use Rattle.std.specs.Prelude.{◌≡◌};
-ghost use Rattle.force.specs.Ran.{ran_check};
 ghost use Rattle.tick_columns.specs.Columns.{Writable};
 ghost use Rattle.tick_close.specs.Settled.{TickSettled, no_ticks, StepSettled};
 
 use crate::Stepped;
-use force::Ran;
 use force_call::{counted, refused};
 use number::bits_of;
-use rules::{Counts, Refusal, StepAnswer};
+use rules::{Counts, Progress, Refusal, StepAnswer};
 use tick_columns::write_columns;
 
 // Sheet and alpha are written only where the tick is not refused. The work slots are zero in any case.
@@ -17,20 +15,22 @@ pub fn settle_tick(
     alpha: &mut u64,
     places: &[f64],
     speeds: &[f64],
-    ran: Ran,
+    ran: Result<Progress, Refusal>,
     work: &mut [u64],
 ) -> Counts
     requires { Writable sheet.old places.now speeds.now }
-    ensures { TickSettled (ran_check ran) ran places.now speeds.now sheet.old alpha.old work.old
+    ensures { TickSettled ran places.now speeds.now sheet.old alpha.old work.old
         result sheet.new alpha.new work.new }
 {
     tree_slots::store::clear(work);
-    if ran.refusal.number != 0 {
-        return refused(ran.refusal);
+    match ran {
+        Err(refusal) => refused(refusal),
+        Ok(p) => {
+            write_columns(sheet, places, speeds);
+            *alpha = bits_of(p.alpha);
+            counted(p)
+        }
     }
-    write_columns(sheet, places, speeds);
-    *alpha = bits_of(ran.progress.alpha);
-    counted(ran.progress)
 }
 
 // A refusal's answer: no tick, and all counts zero.

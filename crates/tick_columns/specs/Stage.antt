@@ -1,16 +1,16 @@
 -- A tick by columns: what a stage is lent, and how the code answers it. Definitions only.
-use Rattle.std.specs.Prelude.{◌≡◌, true, List, ℕ, ◌+◌, ◌*◌, ◌≤◌, length, drop, Float}
+use Rattle.std.specs.Prelude.{◌≡◌, true, List, ℕ, ◌+◌, ◌*◌, ◌≤◌, length, drop, Float, Result, IfOk, IfErr, OnOk}
+use Rattle.rules.specs.declared.Refusal.{Refusal}
 use Rattle.rules.specs.declared.ForceEntry.{ForceEntry}
 use Rattle.rules.specs.declared.Particle.{Particle}
 use Rattle.rules.specs.declared.Progress.{Progress}
 use Rattle.rules.specs.Plain.{all}
-use Rattle.rules.specs.Outcome.{Outcome, done, fine, ◌>>=◌, ◌then◌, refusal_of, zeroes_work}
+use Rattle.rules.specs.Outcome.{Outcome, done, fine, ◌>>=◌, result_of}
 use Rattle.rules.specs.Number.{within}
 use Rattle.rules.specs.Refusal.{most_particles, result_check}
 use Rattle.rules.specs.Tick.{State, state, entry_counts, strengths_right, numbers_needed, links_needed, force_of, force_ends}
-use Rattle.force.specs.declared.Ran.{Ran}
-use Rattle.force.specs.Draws.{From}
-use Rattle.force.specs.Ran.{most_force_visits, ended, ran_check}
+use Rattle.force.specs.Draws.{came_to}
+use Rattle.force.specs.Ran.{most_force_visits, Onward, IsLate}
 use Rattle.closing.specs.Columns.{particles_from}
 
 -- particles by columns: places and velocities in pairs, and flags
@@ -50,23 +50,18 @@ pub record EntryFits (n : ℕ) (e : ForceEntry) (xs : List Float) (ls : List ℕ
 abbrev pub state_of : Columns → List Float → Progress → State
 state_of k ds p = state (particles_in k) p.alpha (drop p.used ds) p.visits
 
--- what is answered where 9 is tested after a force
-abbrev pub ranged_ran : List Float → List Float → Ran → Ran
-ranged_ran places speeds r = ended (refusal_of (ran_check r then result_check places speeds)) r.progress
+-- what is answered where a stage has come to p and 9 is tested
+abbrev pub ranged_to : List Float → List Float → Progress → Result Progress Refusal
+ranged_to places speeds p = result_of (result_check places speeds >>= λ _. done p)
 
--- the refusal, or the state of the columns as they are now
-unfoldable pub staged_of : Columns → List Float → Ran → Outcome State
-staged_of k ds r = ran_check r >>= λ _. done (state_of k ds r.progress)
-
--- The stage began at p and ended as o; it keeps alpha, and where it refuses, the work slots are zeroed. Where it refuses nothing the visits come to `most` at most, and the places are in range.
-pub record Stages (k : Columns) (ds : List Float) (p : Progress) (most : ℕ) (r : Ran) (o : Outcome State) : Type 0 where
-  pub is : staged_of k ds r ≡ o
-  pub alpha : r.progress.alpha ≡ p.alpha
-  pub draws : From ds p.used r.progress.used
-  pub late : zeroes_work r.refusal ≡ true
-  pub few : r.refusal.number ≡ 0 → r.progress.visits ≤ most
-  pub ranged : r.refusal.number ≡ 0 → all within k.places ≡ true
+-- The stage began at p and ended as o, by the refusal or with the columns as they are now. Where it refuses, the work slots are zeroed; else alpha is kept, no draw is used twice, the visits come to `most` at most, and the places are in range.
+pub record Stages (k : Columns) (ds : List Float) (p : Progress) (most : ℕ) (r : Result Progress Refusal) (o : Outcome State) : Type 0 where
+  pub is : came_to r (λ q. state_of k ds q) ≡ o
+  pub onward : IfOk r (Onward ds p)
+  pub few : IfOk r (λ q. q.visits ≤ most)
+  pub ranged : OnOk r (all within k.places ≡ true)
+  pub late : IfErr r IsLate
 
 -- the stage f, from the columns k to k'
-abbrev pub StageBy : (State → Outcome State) → Columns → Columns → List Float → Progress → Ran → Type 0
+abbrev pub StageBy : (State → Outcome State) → Columns → Columns → List Float → Progress → Result Progress Refusal → Type 0
 StageBy f k k' ds p r = Stages k' ds p (p.visits + most_force_visits) r (f (state_of k ds p))

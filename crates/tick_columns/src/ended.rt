@@ -1,18 +1,14 @@
 // How a stage of a tick ends.
 ghost use Rattle.std.specs.Prelude.{◌≡◌};
-ghost use Rattle.tick_columns.specs.Stage.{ranged_ran};
+ghost use Rattle.tick_columns.specs.Stage.{ranged_to};
 
-use force::Ran;
 use list_checks::result_check;
-use rules::Refusal;
+use rules::{Progress, Refusal};
 
-// What a force answered, and after it 9.
-#[tactic(auto, unfolding(force::specs::Ran::ran_check))]
-pub fn ranged(places: &[f64], speeds: &[f64], ran: Ran) -> Ran
-    ensures { result ≡ ranged_ran places.now speeds.now ran }
+// 9 is tested where a stage has come to p.
+pub fn ranged(places: &[f64], speeds: &[f64], p: Progress) -> Result<Progress, Refusal>
+    ensures { result ≡ ranged_to places.now speeds.now p }
 {
-    if ran.refusal.number != 0 {
-        return ran;
-    }
-    Ran::refused(Refusal::from(result_check(places, speeds)), ran.progress)
+    result_check(places, speeds)?;
+    Ok(p)
 }

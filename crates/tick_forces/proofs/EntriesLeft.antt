@@ -12,20 +12,19 @@ use lib.Ieee.{Float}
 use Rattle.rules.specs.declared.ForceEntry.{ForceEntry}
 use Rattle.rules.specs.declared.Tuning.{Tuning}
 use Rattle.rules.specs.Plain.{all, sum}
-use Rattle.rules.specs.Outcome.{Outcome, Check, fine, no_refusal, zeroes_work, fold_stages, check_from, check_each}
+use Rattle.rules.specs.Outcome.{Outcome, Check, fine, fold_stages, check_from, check_each}
 use Rattle.rules.specs.Refusal.{most_links}
 use Rattle.rules.specs.Force.{kind_of}
 use Rattle.rules.specs.Tick.{force_slots, State, entries_of, entry_counts, strengths_right, numbers_needed, links_needed, force_of, forces_from, force_ends, force_stage}
 use Rattle.rules.proofs.OutcomeLaws.{check-any}
 use Rattle.rules.specs.declared.Progress.{Progress}
-use Rattle.force.specs.declared.Ran.{Ran}
-use Rattle.force.specs.Draws.{From}
-use Rattle.force.specs.Ran.{ended, ran_check, most_force_visits, most_tick_visits}
+use Rattle.std.proofs.Common.{Ok, Err}
+use Rattle.rules.specs.declared.Refusal.{Refusal}
+use Rattle.force.specs.Ran.{Onward, most_force_visits, most_tick_visits}
 use Rattle.list_checks.proofs.Checks.{then_both}
 use Rattle.tick_checks.specs.Fits.{Fits}
 use Rattle.tick_checks.proofs.Entries.{bind_then, kind-small}
-use Rattle.tick_columns.specs.Stage.{Columns, ColumnsFit, EntryFits, state_of, staged_of, Stages, StageBy}
-use Rattle.tick_columns.proofs.Staged.{staged_refused, staged_done}
+use Rattle.tick_columns.specs.Stage.{Columns, ColumnsFit, EntryFits, state_of, Stages, StageBy}
 
 -- ---- what 1, 2 and 3 say of the first slot and of the others
 
@@ -63,31 +62,26 @@ entries_done w l i e h = drop_of_length-le l {i = i} (rw e h)
 pub record Going (n : ℕ) (t : Tuning) (slots : ℕ) (ds : List Float) (p : Progress) (all : Outcome State) (i : ℕ) (es : List ForceEntry) (xs : List Float) (ls : List ℕ) (k : Columns) (at : Progress) : Type 0 where
   pub fits : Fits n es xs ls
   pub lent : ColumnsFit k.places k.speeds ds n at.used
-  pub alpha : at.alpha ≡ p.alpha
-  pub draws : From ds p.used at.used
+  pub onward : Onward ds p at
   pub few : at.visits ≤ p.visits + i * most_force_visits
   pub same : fold_stages (force_stage t slots) (state_of k ds at) (forces_from n es xs ls) ≡ all
 
 pub going_first : {n : ℕ} {ds : List Float} {p : Progress} {es : List ForceEntry} {xs : List Float} {ls : List ℕ} {k : Columns} (t : Tuning) (slots : ℕ) → Fits n es xs ls → ColumnsFit k.places k.speeds ds n p.used
     → Going n t slots ds p (fold_stages (force_stage t slots) (state_of k ds p) (forces_from n es xs ls)) 0 es xs ls k p
-going_first t slots f c = record { fits = f; lent = c; alpha = refl; draws = record { begun = omega arith; reach = c.drawn }; few = omega arith; same = refl }
+going_first t slots f c = record { fits = f; lent = c; onward = record { alpha = refl; draws = record { begun = omega arith; reach = c.drawn } }; few = omega arith; same = refl }
 
 module _ {n : ℕ} {t : Tuning} {slots : ℕ} {ds : List Float} {p : Progress} {all : Outcome State} {i : ℕ} {es : List ForceEntry} {xs : List Float} {ls : List ℕ} {k : Columns} {at : Progress}
     (g : Going n t slots ds p all i es xs ls k at) where
   -- nothing is left
-  pub going_end : es ≡ [] → i ≤ force_slots → (r : Ran) → r ≡ ended no_refusal at → Stages k ds p (p.visits + most_tick_visits) r all
-  unfolding staged_of ran_check zeroes_work
-  going_end e h r is =
-      rw is (
+  pub going_end : es ≡ [] → i ≤ force_slots → Stages k ds p (p.visits + most_tick_visits) (Ok at) all
+  going_end e h =
       record {
         is = ap (λ (es : List ForceEntry). fold_stages (force_stage t slots) (state_of k ds at) (forces_from n es xs ls)) (sym e) ∙ g.same;
-        alpha = g.alpha;
-        draws = g.draws;
-        late = refl;
-        few = λ _. omega (arith, g.few);
-        ranged = λ _. g.lent.ranged;
+        onward = g.onward;
+        few = omega (arith, g.few);
+        ranged = g.lent.ranged;
+        late = tt;
       }
-      )
 
   -- e is the next entry
   module _ {e : ForceEntry} {rest : List ForceEntry} (is : es ≡ e ∷ rest) where
@@ -110,28 +104,18 @@ module _ {n : ℕ} {t : Tuning} {slots : ℕ} {ds : List Float} {p : Progress} {
     turn : fold_stages (force_stage t slots) (state_of k ds at) (force_of n e xs ls ∷ forces_from n rest (drop (numbers_needed n e) xs) (drop (links_needed e * 2) ls)) ≡ all
     turn = ap (λ (es : List ForceEntry). fold_stages (force_stage t slots) (state_of k ds at) (forces_from n es xs ls)) (sym is) ∙ g.same
 
-    -- its stage was answered as r, and left the columns k'
-    module _ {k' : Columns} {r : Ran} (s : StageBy (λ m. force_stage t slots m (force_of n e xs ls)) k k' ds at r) where
-      pub going_stop : (r.refusal.number ≡ 0 → ⊥) → Stages k' ds p (p.visits + most_tick_visits) r all
-      going_stop h =
-          let q = staged_refused k' ds r h in
-          record {
-            is = q ∙ rw (sym s.is ∙ q) at turn;
-            alpha = s.alpha ∙ g.alpha;
-            draws = omega (arith, s.draws, g.draws);
-            late = s.late;
-            few = λ z. absurd (h z);
-            ranged = λ z. absurd (h z);
-          }
+    -- its stage left the columns k', and was refused
+    pub going_stop : {k' : Columns} {q : Refusal} → StageBy (λ m. force_stage t slots m (force_of n e xs ls)) k k' ds at (Err q) → Stages k' ds p (p.visits + most_tick_visits) (Err q) all
+    going_stop s = record { is = rw (sym s.is) at turn; onward = tt; few = tt; ranged = tt; late = s.late }
 
-      pub going_on : r.refusal.number ≡ 0 → length k'.places ≡ length k.places → length k'.speeds ≡ length k.speeds
-          → Going n t slots ds p all (i + 1) rest (drop (numbers_needed n e) xs) (drop (links_needed e * 2) ls) k' r.progress
-      going_on z ep ev =
-          record {
-            fits = both.1;
-            lent = record { few = g.lent.few; places = ep ∙ g.lent.places; speeds = ev ∙ g.lent.speeds; ranged = s.ranged z; drawn = s.draws.reach };
-            alpha = s.alpha ∙ g.alpha;
-            draws = omega (arith, s.draws, g.draws);
-            few = omega (arith, s.few z, g.few);
-            same = rw (sym s.is ∙ staged_done k' ds r z) at turn;
-          }
+    -- or came to `to`
+    pub going_on : {k' : Columns} {to : Progress} → StageBy (λ m. force_stage t slots m (force_of n e xs ls)) k k' ds at (Ok to) → length k'.places ≡ length k.places → length k'.speeds ≡ length k.speeds
+        → Going n t slots ds p all (i + 1) rest (drop (numbers_needed n e) xs) (drop (links_needed e * 2) ls) k' to
+    going_on s ep ev =
+        record {
+          fits = both.1;
+          lent = record { few = g.lent.few; places = ep ∙ g.lent.places; speeds = ev ∙ g.lent.speeds; ranged = s.ranged; drawn = s.onward.draws.reach };
+          onward = record { alpha = s.onward.alpha ∙ g.onward.alpha; draws = record { begun = omega (arith, s.onward.draws.begun, g.onward.draws.begun); reach = s.onward.draws.reach } };
+          few = omega (arith, s.few, g.few);
+          same = rw (sym s.is) at turn;
+        }

@@ -9,8 +9,7 @@ ghost use Rattle.force.specs.Ran.{most_tick_visits};
 ghost use Rattle.tick_checks.specs.Fits.{Fits};
 ghost use Rattle.tick_columns.specs.Stage.{columns, ColumnsFit, Chains, state_of, Stages};
 
-use force::Ran;
-use rules::{FORCE_WORDS, Progress, Tuning};
+use rules::{FORCE_WORDS, Progress, Refusal, Tuning};
 use tick_checks::entry::{entries, links_needed, numbers_needed};
 use tick_stage::stage::stage;
 
@@ -28,7 +27,7 @@ pub fn run_forces(
     next: &mut [u32],
     tail: &mut [u32],
     work: &mut [u64],
-) -> Ran
+) -> Result<Progress, Refusal>
     requires fits { Fits (length flags.now) (entries_of words.now) numbers.now links.now }
     requires columns_fit { ColumnsFit places.old speeds.old draws.now (length flags.now) p.used × Chains (length flags.now) next.old tail.old × (p.visits < 2 ^ 62) }
     ensures { Stages (columns places.new speeds.new flags.now) draws.now p (p.visits + most_tick_visits) result
@@ -40,15 +39,11 @@ pub fn run_forces(
     let mut links = links;
     let mut at = p;
     for &e in &entries {
-        let ran = stage(
+        at = stage(
             e, numbers, links, places, speeds, flags, t, draws, at, next, tail, work,
-        );
-        if ran.refusal.number != 0 {
-            return ran;
-        }
-        at = ran.progress;
+        )?;
         numbers = numbers.split_at(numbers_needed(flags.len(), e)).1;
         links = links.split_at(links_needed(e) * 2).1;
     }
-    Ran::done(at)
+    Ok(at)
 }

@@ -12,10 +12,9 @@ ghost use Rattle.tick_columns.specs.Stage.{columns, ColumnsFit, Chains, EntryFit
 
 use center::center_all;
 use collide::collide::collide;
-use force::Ran;
 use link::link::link;
 use many_body::many_body::many_body;
-use rules::{ForceEntry, Kind, Progress, Tuning};
+use rules::{ForceEntry, Kind, Progress, Refusal, Tuning};
 use tick_columns::ranged;
 
 // ManyBody, of a strength for each particle. No force looks at a flag, so any flags serve.
@@ -29,14 +28,14 @@ fn many_body_stage(
     next: &mut [u32],
     tail: &mut [u32],
     work: &mut [u64],
-) -> Ran
+) -> Result<Progress, Refusal>
     requires { ColumnsFit places.now speeds.old draws.now (length strengths.now) p.used × Chains (length strengths.now) next.old tail.old × (p.visits < 2 ^ 63) }
     ensures { (flags : List ℕ) → length places.now ≡ length flags * 2
         → StageBy (push_stage t (slots_of work.old) (Force.many_body strengths.now))
         (columns places.now speeds.old flags) (columns places.now speeds.new flags) draws.now p result }
 {
-    let ran = many_body(t, places, speeds, strengths, draws, p, next, tail, work);
-    ranged(places, speeds, ran)
+    let reached = many_body(t, places, speeds, strengths, draws, p, next, tail, work)?;
+    ranged(places, speeds, reached)
 }
 
 // Collide, of a radius for each particle. It takes no alpha, and no tuning.
@@ -51,17 +50,17 @@ fn collide_stage(
     next: &mut [u32],
     tail: &mut [u32],
     work: &mut [u64],
-) -> Ran
+) -> Result<Progress, Refusal>
     requires { ColumnsFit places.now speeds.old draws.now (length radii.now) p.used × Chains (length radii.now) next.old tail.old
         × (iterations ≤ most_iterations) × (p.visits < 2 ^ 63) }
     ensures { (t : T.Tuning) (flags : List ℕ) → length places.now ≡ length flags * 2
         → StageBy (push_stage t (slots_of work.old) (Force.collide radii.now strength iterations))
         (columns places.now speeds.old flags) (columns places.now speeds.new flags) draws.now p result }
 {
-    let ran = collide(
+    let reached = collide(
         places, speeds, radii, strength, iterations, draws, p, next, tail, work,
-    );
-    ranged(places, speeds, ran)
+    )?;
+    ranged(places, speeds, reached)
 }
 
 // Link, of its own links, strengths and distances. No tree is built, so any number of slots serves.
@@ -74,17 +73,17 @@ fn link_stage(
     speeds: &mut [f64],
     draws: &[f64],
     p: Progress,
-) -> Ran
+) -> Result<Progress, Refusal>
     requires { ColumnsFit places.now speeds.old draws.now (length places.now / 2) p.used
         × EndsLent (length places.now / 2) links.now × NumbersLent links.now strengths.now distances.now }
     ensures { (t : T.Tuning) (flags : List ℕ) (slots : ℕ) → length places.now ≡ length flags * 2
         → StageBy (push_stage t slots (Force.link (ends_of links.now) strengths.now distances.now iterations))
         (columns places.now speeds.old flags) (columns places.now speeds.new flags) draws.now p result }
 {
-    let ran = link(
+    let reached = link(
         places, speeds, links, strengths, distances, iterations, draws, p,
-    );
-    ranged(places, speeds, ran)
+    )?;
+    ranged(places, speeds, reached)
 }
 
 // Link with its slot's lists: strengths first, then distances.
@@ -96,7 +95,7 @@ fn link_force(
     speeds: &mut [f64],
     draws: &[f64],
     p: Progress,
-) -> Ran
+) -> Result<Progress, Refusal>
     requires { (e.kind ≡ 3) × EntryFits (length places.now / 2) e numbers.now links.now × ColumnsFit places.now speeds.old draws.now (length places.now / 2) p.used }
     ensures { (t : T.Tuning) (flags : List ℕ) (slots : ℕ) → length places.now ≡ length flags * 2
         → StageBy (λ m. force_stage t slots m (force_of (length flags) e numbers.now links.now))
@@ -119,14 +118,14 @@ fn center_stage(
     places: &mut [f64],
     speeds: &[f64],
     p: Progress,
-) -> Ran
+) -> Result<Progress, Refusal>
     requires { (length places.old % 2 ≡ 0) × (length places.old ≤ 2 * most_particles) × (length speeds.now ≡ length places.old) }
     ensures { (t : T.Tuning) (flags : List ℕ) (slots : ℕ) (ds : List Float) → p.used ≤ length ds → length places.old ≡ length flags * 2
         → StageBy (λ m. force_stage t slots m (Rule.center x y strength))
         (columns places.old speeds.now flags) (columns places.new speeds.now flags) ds p result }
 {
     center_all(x, y, strength, places);
-    ranged(places, speeds, Ran::done(p))
+    ranged(places, speeds, p)
 }
 
 // The force of a slot, whose lists are the first of what is left. In an empty slot nothing runs; an unknown kind was refused before.
@@ -143,7 +142,7 @@ pub fn stage(
     next: &mut [u32],
     tail: &mut [u32],
     work: &mut [u64],
-) -> Ran
+) -> Result<Progress, Refusal>
     requires { ColumnsFit places.old speeds.old draws.now (length flags.now) p.used × Chains (length flags.now) next.old tail.old
         × EntryFits (length flags.now) e numbers.now links.now × (p.visits < 2 ^ 63) }
     ensures { StageBy (λ m. force_stage t (slots_of work.old) m (force_of (length flags.now) e numbers.now links.now))
@@ -164,6 +163,6 @@ pub fn stage(
         }
         Kind::Link => link_force(e, numbers, links, places, speeds, draws, p),
         Kind::Center => center_stage(e.a, e.b, e.c, places, speeds, p),
-        Kind::Empty | Kind::Unknown => Ran::done(p),
+        Kind::Empty | Kind::Unknown => Ok(p),
     }
 }

@@ -1,5 +1,6 @@
 -- `moved`: past 4 and 5 Collide may run, and what it leaves is what the rules say.
 use mathlib.Core.Path.{sym, ◌∙◌}
+use Rattle.std.proofs.lemmas.Result.{IfOk-weaker}
 use mathlib.Core.List.{[]}
 use native.Mathlib.Omega.{arith}
 use Rattle.rules.specs.Force.{collide, run}
@@ -32,7 +33,7 @@ returns c =
       past,
       record {
         is = m.is;
-        used = m.draws.reach;
+        used = IfOk-weaker c.collide.result _ _ (λ q h. h.draws.reach) m.onward;
         late = m.late;
       },
     )

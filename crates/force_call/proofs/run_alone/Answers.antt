@@ -10,7 +10,7 @@ use Rattle.rules.specs.Sheet.{pair_size, pairs_from}
 use Rattle.rules.proofs.RefusalNumbers.{numbers-early}
 use Rattle.tree_slots.proofs.Fill.{room}
 use Rattle.force_call.specs.Calls.{lent}
-use Rattle.force_call.proofs.Called.{result-numbers, result-ran, answered_refused, answered_ran, settled_slots}
+use Rattle.force_call.proofs.Called.{result-numbers, result-ran, answered_refused, answered_ran, stands_ok, stands_late, settled_slots}
 use Rattle.force_call.proofs.run_alone.Goals as goal
 
 -- how long the velocities' list is
@@ -33,6 +33,8 @@ returns-in-Ok g c = λ f w alpha draws passed runs.
     let vs = c.read_pairs.new.out in
     let read = c.read_pairs.ensures ∙ ap (λ (n : ℕ). pairs_from pair_size a.buffer.now a.start (n / 2)) (list_length a.places.now c.requires.lent.0) in
     let m = rw c.in-Ok.is at (runs _ _ _ _ _ c.run.ensures) in
-    answered_ran l _ c.in-Ok.ran c.run.new.arg2 c.settle.result c.settle.new.buffer c.settle.new.work
-    (result-ran l f w alpha passed vs read m.0 c.run.new.arg2 c.in-Ok.ran m.1.is)
-    m.1.used m.1.late (settled_slots c.run.auto.arg3 c.settle.ensures)
+    let places = a.places.now in
+    let left = c.run.new.arg2 in
+    answered_ran l _ _ left c.settle.result c.settle.new.buffer c.settle.new.work
+    (result-ran l f w alpha passed vs read m.0 left c.in-Ok.ran m.1.is)
+    (stands_ok places left c.in-Ok.ran _ m.1.used) (stands_late places left c.in-Ok.ran m.1.late) (settled_slots c.run.auto.arg3 c.settle.ensures)

@@ -1,5 +1,6 @@
 -- `moved`: past 4 and 5 ManyBody may run, and what it leaves is what the rules say.
 use mathlib.Core.Path.{sym, ◌∙◌}
+use Rattle.std.proofs.lemmas.Result.{IfOk-weaker}
 use mathlib.Core.List.{[]}
 use native.Mathlib.Omega.{arith}
 use Rattle.rules.specs.Force.{many_body, run}
@@ -22,4 +23,4 @@ returns c =
     let a = c.args in
     let past = ok_fine (numbers_check a.places.now a.speeds.now (many_body a.strengths.now) a.draws.now a.alpha) _ (sym c.numbers_check.ensures ∙ c.in_ok-numbers_check.was) in
     let m = rw (c.begin.ensures, c.standard.ensures) at c.many_body.ensures.runs in
-    (past, record { is = m.is; used = m.draws.reach; late = m.late })
+    (past, record { is = m.is; used = IfOk-weaker c.many_body.result _ _ (λ q h. h.draws.reach) m.onward; late = m.late })

@@ -7,19 +7,19 @@ use Rattle.step.proofs.step_on.Goals as goal
 pub returns-then-not-plan-p : goal.returns-then-not-plan-p
 returns-then-not-plan-p c = running_low c.loop-ticks.invariant c.loop-ticks-test.true c.if-not-plan-p.true
 
-pub returns-then-ran-ne0 : goal.returns-then-ran-ne0
-returns-then-ran-ne0 c =
+pub returns-in-Err : goal.returns-in-Err
+returns-in-Err c =
     let l = c.loop-ticks in
     let kept = c.keep.ensures in
-    let auto = c.tick_on-ran.auto in
-    running_stop l.invariant c.loop-ticks-test.true c.if-not-plan-p.false (first_part _ _ kept l.auto.places) l.invariant.lent.places (rw l.auto.work at c.tick_on-ran.ensures) c.if-ran-ne0.true
+    let auto = c.tick_on.auto in
+    running_stop l.invariant c.loop-ticks-test.true c.if-not-plan-p.false (first_part _ _ kept l.auto.places) l.invariant.lent.places (rw l.auto.work at c.in-Err.ensures)
     (c.put_back.ensures.0 ∙ first_part _ _ kept (sym auto.places)) (c.put_back.ensures.1 ∙ second_part _ _ kept (sym auto.places) (sym auto.speeds))
 
 pub loop-ticks-preserved : goal.loop-ticks-preserved
 loop-ticks-preserved c =
     let l = c.loop-ticks in
-    let auto = c.tick_on-ran.auto in
-    running_on l.invariant c.loop-ticks-test.true c.if-not-plan-p.false (first_part _ _ c.keep.ensures l.auto.places) l.invariant.lent.places (rw l.auto.work at c.tick_on-ran.ensures) c.if-ran-ne0.false
+    let auto = c.tick_on.auto in
+    running_on l.invariant c.loop-ticks-test.true c.if-not-plan-p.false (first_part _ _ c.keep.ensures l.auto.places) l.invariant.lent.places (rw l.auto.work at c.in-Ok.ensures)
     refl auto.places auto.speeds
 
 pub returns : goal.returns

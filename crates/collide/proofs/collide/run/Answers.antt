@@ -5,7 +5,7 @@ use Rattle.rules.specs.Calls.{slots_of, slot_words}
 use Rattle.rules.specs.Walk.{counted}
 use Rattle.rules.specs.Flow.{flow}
 use Rattle.force.specs.Draws.{left}
-use Rattle.force.proofs.Stages.{dry_late}
+use Rattle.force.proofs.Stages.{dry_late, met}
 use Rattle.tree_build.proofs.Refusals.{tree_clears}
 use Rattle.tree_build.proofs.Told.{told_refused, told-fine, told_stands}
 use Rattle.collide.proofs.CollideRun.{run_none, run-walked, run_refused, few_visits}
@@ -30,9 +30,9 @@ pub returns-in_err-q-clause-late : goal.returns-in_err-q-clause-late
 returns-in_err-q-clause-late c =
     let a = c.args in
     let e = err_from_is_err_and c.from_residual.result c.from_residual.ensures.1 in
-    rw (e.1, e.2)
-    (tree_clears a.at.now (length a.radii.now) (slots_of a.m.now) _
-    (told_refused a.at.now (length a.radii.now) c.build.new.m c.build.new.next (slots_of a.m.now) _ c.requires.1.places (ap (λ (n : ℕ). n / slot_words) c.build.auto.m) c.in_err-q.ensures refl))
+    let late = tree_clears a.at.now (length a.radii.now) (slots_of a.m.now) c.in_err-q.field-0.0
+    (told_refused a.at.now (length a.radii.now) c.build.new.m c.build.new.next (slots_of a.m.now) _ c.requires.1.places (ap (λ (n : ℕ). n / slot_words) c.build.auto.m) c.in_err-q.ensures refl) in
+    rw (e.1, e.2) (met _ late.0 late.1)
 
 -- ---- it stands
 

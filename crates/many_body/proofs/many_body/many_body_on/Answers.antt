@@ -1,6 +1,6 @@
 -- The charges are laid in the slots, then every particle is pulled; few nodes are handed out.
 use Rattle.std.proofs.Common.{length, arith}
-use Rattle.force.proofs.Stages.{ran_ended}
+use Rattle.force.proofs.Stages.{ran_ended, ended_few}
 use Rattle.many_body.proofs.ManyBodyRun.{all_fit}
 use Rattle.many_body.proofs.many_body.many_body_on.Goals as goal
 
@@ -18,4 +18,6 @@ returns-clause-runs c =
 
 pub returns-clause-count : goal.returns-clause-count
 returns-clause-count c =
-    rw c.ended.ensures (omega (arith, c.pull_all-end.ensures.count, all_fit c.args.at.now (length c.args.strengths.now) c.requires.stands c.requires.bodies.0.few))
+    let r = c.pull_all-end in
+    rw c.ended.ensures
+    (ended_few r.result c.args.p r.new.draws r.new.visits (omega (arith, r.ensures.count, all_fit c.args.at.now (length c.args.strengths.now) c.requires.stands c.requires.bodies.0.few)))

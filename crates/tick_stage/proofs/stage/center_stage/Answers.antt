@@ -8,4 +8,4 @@ returns c t flags slots ds d l =
     let a = c.args in
     let m = c.center_all in
     centered-stages a.places.now m.new.places a.speeds.now ds flags a.x a.y a.strength t slots a.p _ c.ranged.result
-    l (c.requires.2 ∙ l) m.auto.places d (omega arith) m.ensures (rw c.done.ensures at c.ranged.ensures)
+    l (c.requires.2 ∙ l) m.auto.places d (omega arith) m.ensures c.ranged.ensures

@@ -23,5 +23,8 @@ returns-in-Center c =
 pub returns-in-Empty : goal.returns-in-Empty
 returns-in-Empty c =
     let a = c.args in
-    idle-stages a.places.now a.speeds.now a.draws.now a.flags.now _ a.p _ c.done.result _ c.requires.0 (omega arith) c.done.ensures
+    idle-stages a.places.now a.speeds.now a.draws.now a.flags.now _ a.p _ _ c.requires.0 (omega arith)
     (none_of (length a.flags.now) a.e a.numbers.now a.links.now c.from.result c.from.ensures c.in-Empty.is a.t (slots_of a.work.now) _)
+
+pub returns-in-Link : goal.returns-in-Link
+returns-in-Link c = c.link_force.ensures c.args.t c.args.flags.now (slots_of c.args.work.now) c.requires.0.places
