@@ -10,6 +10,7 @@ use list_checks::ends_check;
 use rules::{ForceEntry, Refusal};
 
 // Of n particles. The slots' links lie one after another; a slot that is no link has none.
+// Not one loop with that of the ranges: it would take two closures, and clauses on what each may be asked.
 pub fn all_ends(entries: &[ForceEntry], links: &[u32], n: usize) -> Result<(), Refusal>
     requires { sum (map links_needed entries.now) * 2 ≤ length links.now }
     ensures { result ≡ result_of (ends_each n entries.now links.now) }
