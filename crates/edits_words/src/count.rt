@@ -7,7 +7,7 @@ use rules::EDIT_WORDS;
 pub fn insertions(edits: &[u64]) -> usize
     ensures { result ≡ Edits.insertions (Edits.edits_of edits.now) }
 {
-    // A loop: of `filter` and `count` the proof didn't close, that what they count are the insertions.
+    // A loop: of a filter and a count the proof didn't close, that what they count are the insertions.
     let mut made = 0;
     for edit in edits.chunks_exact(EDIT_WORDS) {
         if edit[0] == 0 {
