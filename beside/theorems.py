@@ -265,7 +265,7 @@ def definitions(folder):
     rules = os.path.join(folder, 'crates', 'rules')
     shutil.copytree(os.path.join(ROOT, 'crates', 'rules'), rules, ignore=shutil.ignore_patterns('proofs', 'out'))
     source = os.path.join(rules, 'src', 'lib.rt')
-    types = re.sub(r'^impl .*?^}\n', '', open(source).read(), flags=re.M | re.S)
+    types = re.sub(r'^(?:impl|pub fn) .*?^}\n', '', open(source).read(), flags=re.M | re.S)
     open(source, 'w').write(types + '\npub fn none() {}\n')
     return rules
 
