@@ -1,5 +1,5 @@
 -- The walk of one particle, from the code's answers at a node to the rule's step. Assumes nothing.
-use mathlib.Core.Path.{◌≡◌}
+use mathlib.Core.Path.{◌≡◌, refl}
 use mathlib.Core.Bool.{Bool, true, false}
 use mathlib.Core.List.{List, [], ◌∷◌}
 use Prim.Native.Nat.{ℕ, ◌+◌, ◌-◌}
@@ -8,10 +8,11 @@ use lib.ListN.{length}
 use lib.Ieee.{Float}
 use Rattle.rules.specs.declared.Extent.{Extent}
 use Rattle.rules.specs.declared.Refusal.{Refusal}
+use Rattle.rules.specs.declared.Visit.{Visit}
 use Rattle.rules.specs.declared.Visit.TheVariants.{Continue, Skip}
 use Rattle.rules.specs.Outcome.{done, refused}
 use Rattle.rules.specs.Number.{◌⊕◌}
-use Rattle.rules.specs.Walk.{internal, tip, Counted, after}
+use Rattle.rules.specs.Walk.{internal, tip, Counted, after, stop_if}
 use Rattle.rules.specs.Flow.{Flow}
 use Rattle.rules.specs.Collide.{radius_of, radius_tree, away, meet_first, collide_step}
 use Rattle.tree_slots.specs.declared.Quadtree.{Quadtree}
@@ -56,6 +57,12 @@ module _ (at radii : List Float) (strength : Float) (i : ℕ) where
     pub node_opened : b ≡ false → collide_step at radii strength i (internal n) σ ≡ done (after σ Continue)
     unfolding collide_step
     node_opened h = rw (← e, h)
+
+  -- and v, which is v', whether what lies below is left out
+  pub node_step : (n : Extent × Float) (σ : Flow) (b : Bool) (v v' : Visit) → b ≡ away at i n.0 (radius_of radii i ⊕ n.1) → v ≡ stop_if b → v ≡ v'
+      → collide_step at radii strength i (internal n) σ ≡ done (after σ v')
+  node_step n σ true v v' eb ev e = rw (← e, ev) (node_skipped n σ true eb refl)
+  node_step n σ false v v' eb ev e = rw (← e, ev) (node_opened n σ false eb refl)
 
   -- a leaf's tag t names the first of its chain
   first_meets : (rj : Float) (next is : List ℕ) (t : ℕ) (σ : Flow) → Follows next is → t ≡ first is + 1 → meet_first at radii strength i rj ((t - 1) ∷ []) σ ≡ meet_first at radii strength i rj is σ

@@ -2,10 +2,12 @@
 ghost use Rattle.std.specs.Prelude.{◌≡◌, ◌+◌, ◌*◌, ◌≤◌, ◌<◌, ◌^◌, length, IfOk, IfErr};
 ghost use Rattle.rules.specs.Refusal.{most_iterations};
 ghost use Rattle.rules.specs.Tree.{nodes};
-ghost use Rattle.rules.specs.Walk.{counted};
+ghost use Rattle.rules.specs.Walk.{counted, stop_if};
+ghost use Rattle.rules.specs.Number.{◌⊕◌};
 ghost use Rattle.rules.specs.Flow.{flow};
 ghost use Rattle.rules.specs.Collide as Collide;
-ghost use Rattle.rules.specs.Calls.{slots_of};
+ghost use Rattle.rules.specs.Calls.{slots_of, slot_words};
+ghost use Rattle.tree_slots.specs.Trees.{value};
 ghost use Rattle.tree_build.specs.Build.{Lent};
 ghost use Rattle.force.specs.Draws.{left, came_to, OnlyDry, Further};
 ghost use Rattle.force.specs.Ran.{flow_at, most_force_visits, IsLate, RanAs};
@@ -16,10 +18,18 @@ ghost use Rattle.collide.specs.Collide.{walk_for, walk_all, walk_times};
 use crate::radius::prepare;
 use collide_contact::{meet_first, skips};
 use force::{Draws, ended};
-use rules::{Progress, Refusal};
+use rules::{Progress, Refusal, Visit};
 use tree_build::build::build;
 use tree_slots::{Quadtree, store};
-use tree_walk::Walk;
+use tree_walk::{Waiting, Walk};
+
+// Whether the walk of particle i goes on below an internal node: what is out of reach is left out.
+fn below(at: &[f64], radii: &[f64], i: usize, m: &[u64], node: Waiting) -> Visit
+    requires { (length at.now ≡ length radii.now * 2) × (i < length radii.now) × (node.slot * slot_words + slot_words ≤ length m.now) }
+    ensures { result ≡ stop_if (Collide.away at.now i node.extent (Collide.radius_of radii.now i ⊕ value m.now node.slot 0)) }
+{
+    Visit::stop_if(skips(at, radii, i, m, node.slot, node.extent))
+}
 
 // The walk of particle i over the tree, parent first.
 fn walk_for(
@@ -47,7 +57,7 @@ fn walk_for(
         *visits += 1;
         if store::tag(m, node.slot) != 0 {
             meet_first(at, vs, radii, strength, i, m, node.slot, draws)?;
-        } else if !skips(at, radii, i, m, node.slot, node.extent) {
+        } else if let Visit::Continue = below(at, radii, i, m, node) {
             walk.push_children(m, node);
         }
     }

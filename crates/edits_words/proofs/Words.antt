@@ -1,10 +1,11 @@
--- Words of edits: how many edits there are, and what the checks of the words say.
-use mathlib.Core.Path.{◌≡◌, refl, sym, ◌∙◌}
+-- Words of edits: the edits that are left from one on, how many there are, and what the checks of the words say.
+use mathlib.Core.Path.{◌≡◌, refl, sym, ap, ◌∙◌}
 use mathlib.Core.Bool.{true, false≢true, and-eq-true_iff}
 use mathlib.Core.List.{List, [], ◌∷◌}
 use Prim.Native.Nat.{ℕ, zero, suc, ◌+◌, ◌*◌, ◌/◌, ◌≤◌, ◌<◌}
 use native.Mathlib.Omega.{arith}
-use lib.ListN.{length, get_or}
+use lib.ListN.{length, get_or, drop}
+use Rattle.std.proofs.lemmas.List.{drop_more}
 use Rattle.rules.specs.Plain.{all}
 use Rattle.rules.specs.Number.{within, place_range, x_at, y_at}
 use Rattle.rules.specs.Outcome.{fine, require, check_from, check_each}
@@ -13,6 +14,21 @@ use Rattle.rules.specs.Edits.{Edit, insertion, removal, unknown, edit_of, edits_
 use Rattle.rules.proofs.OutcomeLaws.{place_both}
 use Rattle.sheet.proofs.Checked.{all_ranged}
 use Rattle.list_checks.proofs.Checks.{bind_both, require_true}
+
+-- ---- what is left from edit k on
+
+three-off : (w : List ℕ) (k : ℕ) → k * edit_words + edit_words ≤ length w
+    → drop (k * edit_words) w ≡ get_or w (k * edit_words) 0 ∷ get_or w (k * edit_words + 1) 0 ∷ get_or w (k * edit_words + 2) 0 ∷ drop ((k + 1) * edit_words) w
+three-off w k h =
+    let n = k * edit_words in
+    let two : n + 1 + 1 ≡ n + 2 = omega arith in
+    let all : n + 2 + 1 ≡ (k + 1) * edit_words = omega arith in
+    cc (drop_more w n 0 (omega arith), rw two at (drop_more w (n + 1) 0 (omega arith)), rw all at (drop_more w (n + 2) 0 (omega arith)))
+
+-- edit k, by its three words, and the edits behind it
+pub edits-next : (w : List ℕ) (k : ℕ) → k * edit_words + edit_words ≤ length w
+    → edits_of (drop (k * edit_words) w) ≡ edit_of (get_or w (k * edit_words) 0) (get_or w (k * edit_words + 1) 0) (get_or w (k * edit_words + 2) 0) ∷ edits_of (drop ((k + 1) * edit_words) w)
+edits-next w k h = ap edits_of (three-off w k h)
 
 -- ---- how many there are
 

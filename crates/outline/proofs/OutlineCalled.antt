@@ -9,11 +9,12 @@ use lib.IntN.{ℤ}
 use lib.ListN.{length}
 use Rattle.rules.specs.declared.Refusal.{Refusal}
 use Rattle.rules.specs.Plain.{all, overwritten}
-use Rattle.rules.specs.Outcome.{refused, fine, require, require_all, ◌then◌, ◌>>=◌, check_from, no_refusal}
+use Rattle.std.specs.Prelude.{Result, Err}
+use Rattle.rules.specs.Outcome.{Check, done, refused, fine, require, require_all, ◌then◌, ◌>>=◌, check_from, no_refusal, refusal_in, result_of, if_done}
 use Rattle.rules.specs.Refusal.{most_corners, count_check, lengths_check}
 use Rattle.rules.specs.Outline.{longitude_range, outline, closes, outline_check, OutlineInput, outline_result, outline_answer, unwrapped_after}
 use Rattle.list_checks.proofs.Checks.{then_both, require_true}
-use Rattle.outline.specs.Unwrap.{Unwrapped, Sound}
+use Rattle.outline.specs.Unwrap.{Unwrapped, Ended, LaidClosed, Sound}
 
 -- ---- what has passed
 
@@ -41,6 +42,10 @@ sound l c room h =
 -- ---- the answer
 
 module _ (l : OutlineInput) where
+  pub refused_so : (r : Refusal) → outline_check l.corners l.centre (length l.unwrapped) ≡ refused r → Ended l (Err r)
+  unfolding outline_result
+  refused_so r e = rw e
+
   pub ended-early : (r : Refusal) → outline_check l.corners l.centre (length l.unwrapped) ≡ refused r → Unwrapped l r l.unwrapped
   unfolding outline_answer outline_result unwrapped_after
   ended-early r e = record { answer = rw e; written = rw e }
@@ -53,3 +58,19 @@ module _ (l : OutlineInput) where
     pub closed : (after : List ℤ) → require (closes l.centre l.corners) 16 0 ≡ fine → after ≡ overwritten l.unwrapped 0 (outline l.centre l.corners) → Unwrapped l no_refusal after
     unfolding outline_answer outline_result unwrapped_after
     closed after e w = record { answer = rw (fits, e); written = w ∙ rw (fits, e) }
+
+    module _ {r : Result (Unit {0}) Refusal} {after : List ℤ} (laid : LaidClosed l r after) where
+      pub laid_so : Ended l r
+      unfolding outline_result
+      laid_so = rw fits (laid.0 ∙ go (require (closes l.centre l.corners) 16 0))
+        where
+          go : (c : Check) → result_of c ≡ result_of (c >>= (λ _. done (outline l.centre l.corners)) >>= λ _. fine)
+          go (done t) = refl
+          go (refused q) = refl
+
+      pub told : Unwrapped l (refusal_in r) after
+      told = go (require (closes l.centre l.corners) 16 0) refl laid.0 laid.1
+        where
+          go : (c : Check) → require (closes l.centre l.corners) 16 0 ≡ c → r ≡ result_of c → after ≡ if_done c (λ _. overwritten l.unwrapped 0 (outline l.centre l.corners)) l.unwrapped → Unwrapped l (refusal_in r) after
+          go (done t) e a w = rw a (closed after e w)
+          go (refused q) e a w = rw (a, w) (unclosed q e)

@@ -1,7 +1,7 @@
 // The program recenter: reads a sheet from standard input, runs as many ticks as its argument says with Center in force slot 0, and writes the sheet.
 #![tactic(auto)]
 
-ghost use Rattle.std.specs.Prelude.{◌≡◌, min, length};
+ghost use Rattle.std.specs.Prelude.{◌≡◌, ◌≤◌, min, length, IfSome};
 ghost use Rattle.recenter_call.specs.Recentered.{kept_bytes};
 
 use recenter_call::{KEPT_BYTES, recenter, ticks_of};
@@ -52,7 +52,9 @@ fn recenter_input(kept: &mut [u8], ticks: u64)
 }
 
 // The first argument, which a buffer has room for: none where it is missing or too long.
-fn first_argument<'a>(rt: &impl Env, room: &'a mut [u8]) -> Option<&'a [u8]> {
+fn first_argument<'a>(rt: &impl Env, room: &'a mut [u8]) -> Option<&'a [u8]>
+    ensures { IfSome result (λ text. length text.now ≤ length room.old) }
+{
     let n = rt.arg(1, room).ok()?;
     Some(&room[..n])
 }

@@ -11,7 +11,7 @@ use Rattle.std.specs.Result.{is_err}
 use Rattle.rules.specs.declared.Refusal.{Refusal}
 use Rattle.rules.specs.declared.Settings.{Settings}
 use Rattle.rules.specs.declared.StepAnswer.{StepAnswer}
-use Rattle.rules.specs.Outcome.{Outcome, done, refused, no_refusal, Check, fine, ◌then◌, ◌>>=◌, refusal_of, result_of, if_done}
+use Rattle.rules.specs.Outcome.{Outcome, done, refused, no_refusal, Check, fine, ◌then◌, ◌>>=◌, refusal_of, result_of, outcome_of, if_done}
 use Rattle.rules.specs.Number.{1·}
 use Rattle.rules.specs.Refusal.{count_check}
 use Rattle.rules.specs.Sheet.{whole_records, count_of, sheet_of}
@@ -117,3 +117,9 @@ module _ (sheet : List ℕ) (ticks : ℕ) where
         go : (b : Bool) → eqb answered.number 0 ≡ b → Recentered sheet ticks r sheet after
         go true e = done_by (by-number r is true e) (eqb-true answered.number 0 e) result refl refl left
         go false e = absurd (true≢false (sym (ap is_err (by-number r is false e)) ∙ none))
+
+    -- what was there is put back where it is refused
+    pub settled : (r : Result (Unit {0}) Refusal) (left after : List ℕ) → r ≡ check_of answered → left ≡ sheet_after_step (recenter_input sheet) recenter_settings recenter_alpha_min ticks
+        → after ≡ if_done (outcome_of r) (λ _. left) sheet → Recentered sheet ticks r sheet after
+    settled (Ok t) left after is l e = ran (Ok t) after is refl (e ∙ l)
+    settled (Err q) left after is l e = stopped (Err q) after is refl e

@@ -1,6 +1,6 @@
 // The ticks, run on a sheet with Center in force slot 0.
 ghost use Rattle.std.specs.Prelude.{◌≡◌, length};
-ghost use Rattle.rules.specs.Outcome.{fine, ◌then◌};
+ghost use Rattle.rules.specs.Outcome.{fine, ◌then◌, outcome_of, if_done};
 ghost use Rattle.rules.specs.Refusal.{count_check};
 ghost use Rattle.rules.specs.Sheet.{whole_records, count_of};
 ghost use Rattle.rules.specs.Tick.{step_answer, sheet_after_step};
@@ -57,6 +57,16 @@ fn step_sheet(sheet: &mut [u8], ticks: u64) -> Result<(), Refusal>
     check_of(answer.refusal)
 }
 
+// What was there, over what a refused tick leaves.
+fn put_back(ran: Result<(), Refusal>, sheet: &mut [u8], spare: &[u8])
+    requires { length spare.now ≡ length sheet.old }
+    ensures { sheet.new ≡ if_done (outcome_of ran) (λ _. sheet.old) spare.now }
+{
+    if ran.is_err() {
+        sheet.copy_from_slice(spare);
+    }
+}
+
 // A refused tick leaves what the ticks before it made of the sheet: so a copy is kept, and put back.
 pub fn step_or_put_back(sheet: &mut [u8], spare: &mut [u8], ticks: u64) -> Result<(), Refusal>
     requires sheet_value { (whole_records sheet.old then count_check most_recentered (count_of sheet.old)) ≡ fine }
@@ -65,8 +75,6 @@ pub fn step_or_put_back(sheet: &mut [u8], spare: &mut [u8], ticks: u64) -> Resul
 {
     spare.copy_from_slice(sheet);
     let ran = step_sheet(sheet, ticks);
-    if ran.is_err() {
-        sheet.copy_from_slice(spare);
-    }
+    put_back(ran, sheet, spare);
     ran
 }

@@ -7,6 +7,12 @@ use rules::MOST_TICKS;
 // More ticks than these are refused alike, so a number is cut there and never wraps.
 const MOST_ASKED: u64 = MOST_TICKS as u64 + 1;
 
+fn is_digit(b: u8) -> bool
+    ensures { result ≡ is_digit b }
+{
+    b.is_ascii_digit()
+}
+
 // A number with one digit more, cut.
 fn with_digit(ticks: u64, b: u8) -> u64
     requires { (ticks ≤ most_asked) × (is_digit b ≡ true) }
@@ -22,7 +28,7 @@ pub fn ticks_of(text: &[u8]) -> Option<u64>
 {
     let mut ticks = 0;
     for b in text {
-        if !b.is_ascii_digit() {
+        if !is_digit(*b) {
             return None;
         }
         ticks = with_digit(ticks, *b);

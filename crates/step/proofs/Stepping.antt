@@ -8,12 +8,13 @@ use lib.ListN.{length}
 use lib.Ieee.{Float, lt}
 use Rattle.rules.specs.declared.Progress.{Progress}
 use Rattle.rules.specs.declared.Settings.{Settings}
-use Rattle.rules.specs.Outcome.{zeroes_work}
+use Rattle.rules.specs.Outcome.{no_refusal, refusal_in, zeroes_work}
 use Rattle.rules.specs.Tick.{Force, tick_home, tick, TicksDone, ticks_from}
 use Rattle.rules.specs.declared.Refusal.{Refusal}
 use Rattle.force.specs.Ran.{IsLate, most_tick_visits}
 use lib.Dec.{eqb}
 use Rattle.std.proofs.Common.{Ok, Err}
+use Rattle.std.specs.Prelude.{Result, IfErr}
 use Rattle.tick.specs.Tick.{cooled}
 use Rattle.closing.proofs.Closing.{places-back}
 use Rattle.tick_columns.specs.Stage.{Columns, columns, ColumnsFit, state_of, Stages}
@@ -41,7 +42,7 @@ module _ {s : Settings} {alpha_min : Float} {fs : List Force} {slots budget n : 
   unfolding zeroes_work ticks_from
   running_end e =
       let spent : budget - t ≡ 0 = omega arith in
-      rw (← e) (record { is = rw (spent) at g.same; late = refl; ticked = omega arith; drawn = g.lent.drawn; few = g.few; ranged = g.lent.ranged })
+      rw (← e) (record { is = rw (spent) at g.same; late = refl; met = tt; ticked = omega arith; drawn = g.lent.drawn; few = g.few; ranged = g.lent.ranged })
 
   module _ (h : t < budget) where
     left : budget - t ≡ suc (budget - (t + 1))
@@ -50,10 +51,10 @@ module _ {s : Settings} {alpha_min : Float} {fs : List Force} {slots budget n : 
     enough : p.visits ≤ budget * most_tick_visits
     enough = omega (arith, g.few)
 
-    -- alpha is low
-    pub running_low : lt alpha_min p.alpha ≡ false → Steps k ds budget (record { ticks = t; end = Ok tt; progress = p }) all
+    -- alpha is low, and nothing is refused
+    pub running_low : (end : Result (Unit {0}) Refusal) → IfErr end IsLate → refusal_in end ≡ no_refusal → lt alpha_min p.alpha ≡ false → Steps k ds budget (record { ticks = t; end = end; progress = p }) all
     unfolding zeroes_work ticks_from
-    running_low c = record { is = rw (left, c) at g.same; late = refl; ticked = omega arith; drawn = g.lent.drawn; few = enough; ranged = g.lent.ranged }
+    running_low end met none c = record { is = rw none (rw (left, c) at g.same); late = rw none refl; met = met; ticked = omega arith; drawn = g.lent.drawn; few = enough; ranged = g.lent.ranged }
 
     -- a tick left the columns k'; held axes return to the places at its entry
     module _ (c : lt alpha_min p.alpha ≡ true) {home : List Float} (at : home ≡ k.places) (pairs : length k.places ≡ length k.flags * 2) where
@@ -66,7 +67,7 @@ module _ {s : Settings} {alpha_min : Float} {fs : List Force} {slots budget n : 
       unfolding ticks_from
       running_stop {q = q} e ep ev =
           let refuses = sym (e.is ∙ ticked) in
-          rw (ep, ev) (record { is = rw (left, c, refuses) at g.same; late = clears q e.late; ticked = omega arith; drawn = g.lent.drawn; few = enough; ranged = g.lent.ranged })
+          rw (ep, ev) (record { is = rw (left, c, refuses) at g.same; late = clears q e.late; met = e.late; ticked = omega arith; drawn = g.lent.drawn; few = enough; ranged = g.lent.ranged })
 
       -- it came to `to`
       pub running_on : {k' : Columns} {most : ℕ} {to : Progress} → Stages k' ds (cooled s p) most (Ok to) (tick_home s home fs slots (state_of k ds p)) → most ≡ p.visits + most_tick_visits → length k'.places ≡ length k.places → length k'.speeds ≡ length k.speeds

@@ -1,5 +1,5 @@
 -- The outcome of a call on a list, check by check: what it answers, and what it leaves.
-use mathlib.Core.Path.{◌≡◌, sym, ap, ◌∙◌}
+use mathlib.Core.Path.{◌≡◌, refl, sym, ap, ◌∙◌}
 use mathlib.Core.List.{List, map}
 use lib.ListN.{length}
 use lib.Ieee.{Float}
@@ -52,3 +52,11 @@ module _ (settings : List Float) (f : List Particle → List Particle) (ps : Lis
           go : (c : Check) → o ≡ (c >>= λ _. done (map g ps)) → answer ≡ Outcome.result_of c → after ≡ if_done c (λ _. map g ps) ps → AfterParticles o ps (refusal_in answer) after
           go (done t) e a l = record { answer = ap refusal_in a ∙ sym (ap particles_answer e); particles = l ∙ sym (ap (λ (o : Outcome (List Particle)). particles_after o ps) e) }
           go (refused r) e a l = record { answer = ap refusal_in a ∙ sym (ap particles_answer e); particles = l ∙ sym (ap (λ (o : Outcome (List Particle)). particles_after o ps) e) }
+
+  -- either of them refuses
+  pub stops : (r : Refusal) → (input then settings_check settings) ≡ refused r → AfterParticles o ps r ps
+  stops r e = go input refl e
+    where
+      go : (c : Check) → input ≡ c → (c then settings_check settings) ≡ refused r → AfterParticles o ps r ps
+      go (done t) i e = stops-settings i r e
+      go (refused q) i e = stops-input r (i ∙ e)

@@ -51,6 +51,11 @@ module _ (l : RecordsInput) where
     unfolding write_answer sheet_after_write write_result records_check
     writes e = record { answer = rw (room, e); sheet = rw (room, e) }
 
+  -- either of them refuses
+  pub stops-write : (r : Refusal) → (room_check count bytes then records_check l.particles) ≡ refused r → Written l r l.sheet
+  unfolding write_answer sheet_after_write write_result
+  stops-write r e = record { answer = rw e; sheet = rw e }
+
   pub stops-read : (r : Refusal) → read_check l.sheet count ≡ refused r → ReadOut l r l.particles
   unfolding read_answer particles_after_read read_result
   stops-read r e = record { answer = rw e; particles = rw e }

@@ -1,8 +1,10 @@
 // Records from particles: a sheet is written out.
 ghost use Rattle.std.specs.Prelude.{◌≡◌, ◌*◌, ◌≤◌, length};
 ghost use Rattle.rules.specs.Plain.{overwritten};
-ghost use Rattle.rules.specs.Outcome.{refusal_in};
+ghost use Rattle.rules.specs.Outcome.{refusal_in, result_of, ◌then◌};
+ghost use Rattle.rules.specs.Sheet as Sheet;
 ghost use Rattle.rules.specs.Sheet.{record_size, sheet_of};
+ghost use Rattle.rules.specs.Records as Records;
 ghost use Rattle.talemiku.specs.AfterRecords.{lent_records, Written};
 
 use crate::check::records_check;
@@ -20,12 +22,19 @@ fn lay_records(particles: &[Particle], sheet: &mut [u8])
     }
 }
 
+// Of a list of particles that goes into so many bytes: its room, then the particles.
+fn input_check(particles: &[Particle], bytes: usize) -> Result<(), Refusal>
+    ensures { result ≡ result_of (Records.room_check (length particles.now) bytes then Sheet.records_check particles.now) }
+{
+    room_check(particles.len(), bytes)?;
+    records_check(particles)
+}
+
 // Every particle is tested before the first is written, so that a refusal changes nothing.
 fn write(particles: &[Particle], sheet: &mut [u8]) -> Result<(), Refusal>
     ensures { Written (lent_records particles.now sheet.old) (refusal_in result) sheet.new }
 {
-    room_check(particles.len(), sheet.len())?;
-    records_check(particles)?;
+    input_check(particles, sheet.len())?;
     lay_records(particles, sheet);
     Ok(())
 }

@@ -1,11 +1,11 @@
 -- Words in lists of bytes.
-use mathlib.Core.Path.{◌≡◌, refl, sym, ap, ◌∙◌}
+use mathlib.Core.Path.{◌≡◌, refl, sym, ◌∙◌}
 use mathlib.Core.List.{List, [], ◌∷◌}
-use Prim.Native.Nat.{ℕ, zero, suc, ◌+◌, ◌-◌, ◌*◌, ◌/◌, ◌%◌, ◌^◌, ◌≤◌, ◌<◌}
-use native.Mathlib.Nat.{pow-zero, pow-suc, div-lt_iff_lt-mul}
+use Prim.Native.Nat.{ℕ, zero, suc, ◌+◌, ◌*◌, ◌/◌, ◌%◌, ◌^◌, ◌≤◌, ◌<◌}
+use native.Mathlib.Nat.{add-zero, add-suc, pow-zero, pow-suc, div-lt_iff_lt-mul}
 use native.Mathlib.Omega.{arith}
-use lib.ListN.{length, take, drop, length-drop}
-use lib.Seq.{get_or-drop, length-take-le}
+use lib.ListN.{length, get_or, take, drop, length-drop}
+use lib.Seq.{drop-cons, get_or-drop, length-take-le}
 use Rattle.std.specs.Int.{w64, from_le_bytes}
 use Rattle.rules.specs.Sheet.{word_of, bytes_of, word_at}
 use Rattle.rules.specs.Terms.{Bytes}
@@ -57,14 +57,29 @@ spelled (b0 ∷ b1 ∷ b2 ∷ b3 ∷ b4 ∷ b5 ∷ b6 ∷ b7 ∷ b ∷ bs) h = a
 
 -- ---- words at places
 
--- the word at a place is what its eight bytes, copied from there, are read as
-pub word_read : (l bs : List ℕ) (at : ℕ) → at + 8 ≤ length l → bs ≡ take (at + 8 - at) (drop at l) → word_at l at ≡ from_le_bytes w64 bs
+-- one byte more of what stands from a place on
+next : (l : List ℕ) (at k : ℕ) → at + k < length l → drop (at + k) l ≡ get_or l (at + k) 0 ∷ drop (at + suc k) l
+next l at k h = drop-cons l (at + k) 0 h ∙ rw add-suc
+
+-- the word at a place is what its eight bytes are read as
+pub word_read : (l : List ℕ) (at : ℕ) → at + 8 ≤ length l
+    → word_at l at
+    ≡ from_le_bytes w64
+    (get_or l at 0 ∷ get_or l (at + 1) 0 ∷ get_or l (at + 2) 0 ∷ get_or l (at + 3) 0 ∷ get_or l (at + 4) 0 ∷ get_or l (at + 5) 0 ∷ get_or l (at + 6) 0 ∷ get_or l (at + 7) 0 ∷ [])
 unfolding word_at
-word_read l bs at h e =
-    let n : at + 8 - at ≡ 8 = omega arith in
-    let f : bs ≡ take 8 (drop at l) = rw n at e in
-    let k : length bs ≡ 8 = rw f (length-take-le 8 (drop at l) (simp length-drop (omega arith))) in
-    ap word_of (sym f) ∙ sym (spelled bs k)
+word_read l at h =
+    let e0 : drop at l ≡ get_or l at 0 ∷ drop (at + 1) l = rw add-zero at (next l at 0 (omega arith)) in
+    rw (
+      e0,
+      next l at 1 (omega arith),
+      next l at 2 (omega arith),
+      next l at 3 (omega arith),
+      next l at 4 (omega arith),
+      next l at 5 (omega arith),
+      next l at 6 (omega arith),
+      next l at 7 (omega arith),
+    )
+    (sym (spelled (get_or l at 0 ∷ get_or l (at + 1) 0 ∷ get_or l (at + 2) 0 ∷ get_or l (at + 3) 0 ∷ get_or l (at + 4) 0 ∷ get_or l (at + 5) 0 ∷ get_or l (at + 6) 0 ∷ get_or l (at + 7) 0 ∷ []) refl))
 
 module _ (l : List ℕ) (at : ℕ) (b : Bytes l) (h : at + 8 ≤ length l) where
   word-length : length (take 8 (drop at l)) ≡ 8

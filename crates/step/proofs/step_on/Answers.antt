@@ -5,7 +5,7 @@ use Rattle.step.proofs.Stepping.{running_end, running_low, running_stop, running
 use Rattle.step.proofs.step_on.Goals as goal
 
 pub returns-then-not-plan-p : goal.returns-then-not-plan-p
-returns-then-not-plan-p c = running_low c.loop-ticks.invariant c.loop-ticks-test.true c.if-not-plan-p.true
+returns-then-not-plan-p c = running_low c.loop-ticks.invariant c.loop-ticks-test.true _ tt refl c.if-not-plan-p.true
 
 pub returns-in-Err : goal.returns-in-Err
 returns-in-Err c =

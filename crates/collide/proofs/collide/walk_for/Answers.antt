@@ -1,10 +1,10 @@
 -- Each turn of the walk of particle i: a leaf is met or is dry, an internal node is skipped or opened.
-use Rattle.std.proofs.Common.{sym, ◌∙◌, arith, rules}
+use Rattle.std.proofs.Common.{refl, sym, ◌∙◌, ◌≡◌, arith, rules}
 use Rattle.std.proofs.lemmas.Result.{err_from_is_err_and}
-use Rattle.rules.specs.declared.Visit.TheVariants.{Continue}
+use Rattle.rules.specs.declared.Visit.TheVariants.{Continue, Skip}
 use Rattle.tree_walk.proofs.Visits.{reach, falls, room, turn-skip, turn-down, falls_down, chain, turn-leaf, turn-refused-leaf}
 use Rattle.collide.proofs.RadiusLaws.{chain-below}
-use Rattle.collide.proofs.CollideSteps.{sets-out, handed, node_skipped, node_opened, leaf_met, leaf_dry}
+use Rattle.collide.proofs.CollideSteps.{sets-out, handed, node_step, leaf_met, leaf_dry}
 use Rattle.collide.proofs.collide.walk_for.Goals as goal
 
 pub loop-node-init : goal.loop-node-init
@@ -68,8 +68,8 @@ returns-in_err-meet_first-clause-few c =
 
 -- ---- an internal node
 
-pub skips-requires : goal.skips-requires
-skips-requires c =
+pub below-requires : goal.below-requires
+below-requires c =
     let t = handed _ _ _ _ c.loop-node.invariant.1.1 c.in-Some.ensures in
     (c.requires.0.places, c.requires.2, (reach t).0)
 
@@ -82,18 +82,18 @@ pub push_children-requires-clause-room : goal.push_children-requires-clause-room
 push_children-requires-clause-room c =
     room (handed _ _ _ _ c.loop-node.invariant.1.1 c.in-Some.ensures) (sym c.tag.ensures ∙ c.if-tag-ne0.false)
 
-pub loop-node-smaller-then-not-skips : goal.loop-node-smaller-then-not-skips
-loop-node-smaller-then-not-skips c =
+pub loop-node-smaller-in-Continue : goal.loop-node-smaller-in-Continue
+loop-node-smaller-in-Continue c =
     falls_down (handed _ _ _ _ c.loop-node.invariant.1.1 c.in-Some.ensures) (sym c.tag.ensures ∙ c.if-tag-ne0.false) c.push_children.ensures
 
-pub loop-node-preserved-then-not-skips : goal.loop-node-preserved-then-not-skips
-loop-node-preserved-then-not-skips c =
+pub loop-node-preserved-in-Continue : goal.loop-node-preserved-in-Continue
+loop-node-preserved-in-Continue c =
     let a = c.args in
     let t = handed _ _ _ _ c.loop-node.invariant.1.1 c.in-Some.ensures in (
       c.loop-node.invariant.0,
       (
         c.loop-node.invariant.1.0,
-        turn-down t (sym c.tag.ensures ∙ c.if-tag-ne0.false) (node_opened a.at.now a.radii.now a.strength a.i _ _ _ c.skips.ensures c.if-not-skips.true) c.push_children.ensures,
+        turn-down t (sym c.tag.ensures ∙ c.if-tag-ne0.false) (node_step a.at.now a.radii.now a.strength a.i _ _ _ c.below.result Continue refl c.below.ensures c.in-Continue.is) c.push_children.ensures,
       ),
     )
 
@@ -104,10 +104,11 @@ loop-node-smaller c =
 pub loop-node-preserved : goal.loop-node-preserved
 loop-node-preserved c =
     let a = c.args in
-    let t = handed _ _ _ _ c.loop-node.invariant.1.1 c.in-Some.ensures in (
+    let t = handed _ _ _ _ c.loop-node.invariant.1.1 c.in-Some.ensures in
+    let v : c.below.result ≡ Skip = cc in (
       c.loop-node.invariant.0,
       (
         c.loop-node.invariant.1.0,
-        turn-skip t (sym c.tag.ensures ∙ c.if-tag-ne0.false) (node_skipped a.at.now a.radii.now a.strength a.i _ _ _ c.skips.ensures c.if-not-skips.false),
+        turn-skip t (sym c.tag.ensures ∙ c.if-tag-ne0.false) (node_step a.at.now a.radii.now a.strength a.i _ _ _ c.below.result Skip refl c.below.ensures v),
       ),
     )
