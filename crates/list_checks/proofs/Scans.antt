@@ -8,11 +8,12 @@ use native.Mathlib.Numerals.{add-one}
 use native.Mathlib.Omega.{arith}
 use lib.ListN.{length, get_or, drop}
 use lib.Seq.{drop-cons}
-use Rattle.std.proofs.Common.{Result, Ok, Err}
+use Rattle.std.proofs.Common.{Result, Ok, Err, nat_eq}
+use Rattle.std.proofs.Math.Dec.{eqb-suc-suc, eqb-zero-suc}
 use Rattle.rules.specs.declared.Refusal.{Refusal}
-use Rattle.std.specs.List.{list_all}
+use Rattle.std.specs.List.{list_all, prefix_len}
 use Rattle.rules.specs.Plain.{all, count_from}
-use Rattle.rules.specs.Outcome.{done, refused, refusal, Check, fine, require, refusal_of, result_of, check_from}
+use Rattle.rules.specs.Outcome.{done, refused, refusal, Check, fine, require, require_all, refusal_of, result_of, check_from}
 use Rattle.rules.proofs.RefusalLaws.{Refuses}
 use Rattle.rules.proofs.RefusalNumbers.{Early}
 use Rattle.rules.proofs.Places.{early_numbered}
@@ -112,3 +113,25 @@ ends-none links k h = rw e
 pub all_listed : {A : Type 0} (ok : A → Bool) (l : List A) → list_all ok l ≡ all ok l
 all_listed ok [] = refl
 all_listed ok (a ∷ l) = ap (λ (b : Bool). ok a && b) (all_listed ok l)
+
+-- ---- how many elements pass a test, before the first that fails
+
+pub one_passes : {A : Type 0} (ok : A → Bool) (a : A) (l : List A) → ok a ≡ true → prefix_len ok (a ∷ l) ≡ prefix_len ok l + 1
+one_passes ok a l h = rw (h) (omega arith)
+
+-- all of them do, or the check of all refuses at the one after
+pub prefix_from : {A : Type 0} (ok : A → Bool) (number i : ℕ) (l : List A) → check_from (λ i a. require (ok a) number i) i l ≡ require (nat_eq (prefix_len ok l) (length l)) number (i + prefix_len ok l)
+prefix_from ok number i [] = refl
+prefix_from ok number i (a ∷ l) = here (ok a) refl (prefix_from ok number (i + 1) l)
+  where
+    here : (b : Bool) → ok a ≡ b → check_from (λ i a. require (ok a) number i) (i + 1) l ≡ require (nat_eq (prefix_len ok l) (length l)) number (i + 1 + prefix_len ok l) → check_from (λ i a. require (ok a) number i) i (a ∷ l) ≡ require (nat_eq (prefix_len ok (a ∷ l)) (length (a ∷ l))) number (i + prefix_len ok (a ∷ l))
+    here true e rest =
+        let one : 1 + prefix_len ok l ≡ suc (prefix_len ok l) = omega arith in
+        let place : i + suc (prefix_len ok l) ≡ i + 1 + prefix_len ok l = omega arith in
+        rw (e, one, eqb-suc-suc (prefix_len ok l) (length l), place) rest
+    here false e rest =
+        let place : i + 0 ≡ i = omega arith in
+        rw (e, eqb-zero-suc (length l), place)
+
+pub prefix_decides : {A : Type 0} (ok : A → Bool) (number : ℕ) (l : List A) → require_all ok number l ≡ require (nat_eq (prefix_len ok l) (length l)) number (prefix_len ok l)
+prefix_decides ok number l = prefix_from ok number 0 l ∙ ap (require (nat_eq (prefix_len ok l) (length l)) number) (omega arith)

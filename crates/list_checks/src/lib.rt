@@ -13,15 +13,13 @@ use number::{distance_range, draw_range, is_finite, within};
 use rules::{Reason, Refusal, require};
 use sheet::{place_check, velocity_check};
 
-// The place is the index of the first number that fails the test.
+// The place is the index of the first number that fails the test; where none does, `first` is past them all.
 fn range_check<F: Fn(f64) -> bool>(in_range: F, l: &[f64]) -> Result<(), Refusal>
     requires { F.IsAlwaysCallable in_range }
     ensures { (ok : Float → Bool) → ((x : Float) (b : Bool) → F.post in_range x b → b ≡ ok x) → result ≡ result_of (require_all ok 5 l.now) }
 {
-    for (i, x) in l.iter().enumerate() {
-        require(in_range(*x), Reason::OutOfRange, i as u64)?;
-    }
-    Ok(())
+    let first = l.iter().position(|x| !in_range(*x)).unwrap_or(l.len());
+    require(first == l.len(), Reason::OutOfRange, first as u64)
 }
 
 pub fn strengths_check(l: &[f64]) -> Result<(), Refusal>

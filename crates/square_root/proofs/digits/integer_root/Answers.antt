@@ -1,9 +1,10 @@
 -- Each turn of `integer_root` takes a step, and after 53 of them the root is whole.
+use native.Mathlib.Omega.{arith}
 use Rattle.square_root.proofs.Powers.{inv_q, inv_step}
 use Rattle.square_root.proofs.digits.integer_root.Goals as goal
 
 pub step-s-requires : goal.step-s-requires
-step-s-requires c = (c.loop.invariant.ready, inv_q _ _ _ _ _ c.loop.invariant c.loop-test.true)
+step-s-requires c = (c.loop.invariant.ready, inv_q _ _ _ _ _ c.loop.invariant (omega (arith, c.loop-test.true)))
 
 pub loop-preserved : goal.loop-preserved
-loop-preserved c = inv_step _ _ _ _ _ _ _ _ c.loop.invariant c.loop-test.true c.step-s.ensures
+loop-preserved c = inv_step _ _ _ _ _ _ _ _ c.loop.invariant (omega (arith, c.loop-test.true)) c.step-s.ensures
