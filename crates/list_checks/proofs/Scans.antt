@@ -116,11 +116,8 @@ all_listed ok (a ∷ l) = ap (λ (b : Bool). ok a && b) (all_listed ok l)
 
 -- ---- how many elements pass a test, before the first that fails
 
-pub one_passes : {A : Type 0} (ok : A → Bool) (a : A) (l : List A) → ok a ≡ true → prefix_len ok (a ∷ l) ≡ prefix_len ok l + 1
-one_passes ok a l h = rw (h) (omega arith)
-
 -- all of them do, or the check of all refuses at the one after
-pub prefix_from : {A : Type 0} (ok : A → Bool) (number i : ℕ) (l : List A) → check_from (λ i a. require (ok a) number i) i l ≡ require (nat_eq (prefix_len ok l) (length l)) number (i + prefix_len ok l)
+prefix_from : {A : Type 0} (ok : A → Bool) (number i : ℕ) (l : List A) → check_from (λ i a. require (ok a) number i) i l ≡ require (nat_eq (prefix_len ok l) (length l)) number (i + prefix_len ok l)
 prefix_from ok number i [] = refl
 prefix_from ok number i (a ∷ l) = here (ok a) refl (prefix_from ok number (i + 1) l)
   where

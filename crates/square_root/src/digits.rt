@@ -79,7 +79,7 @@ fn step(s: Digits) -> Digits
 }
 
 // the root of a * 2^52, and the remainder
-#[tactic(auto, using(crate::proofs::Powers::inv_start, crate::proofs::Powers::inv_end))]
+#[tactic(auto, using(crate::proofs::Powers::inv_start))]
 fn integer_root(a: u64) -> Digits
     requires { (2 ^ 52 ≤ a) × (a < 2 ^ 54) }
     ensures { Rooted a result.q result.rem }
